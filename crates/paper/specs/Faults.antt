@@ -1,0 +1,73 @@
+-- What may be wrong with a row whose spelling is right: refusals 2 to 6, by the rows before it. One definition, for the reader's lines and
+-- for the rows of a lent network record. Assumes nothing.
+use Prim.Native.Nat.{ℕ, zero, suc, _+_, _*_, _/_, _%_}
+use mathlib.Core.Bool.{Bool, true, false, cond, not, _&&_, _||_}
+use mathlib.Core.List.{List, [], _∷_, tail}
+use lib.ListN.{getD}
+use lib.Dec.{leb, ltb, eqb}
+use lib.IntN.{ℤ, pos}
+use Rattle.whole.specs.Lists.{Words, between, any, count, sum}
+use Rattle.paper.specs.Limits as Limits
+use Rattle.paper.specs.Rows.{Row, Field, fieldsOf, kind, isBranch, isSource, isLine, isSwitch, isVS, from, to, travel, closes, opens, at, stepLength}
+use Rattle.paper.specs.Conductance.{conductance}
+
+-- a field that names a node, or one that does not, out of its range
+unfoldable pub outside : Bool → List Field → Words → Bool
+outside names [] w = false
+outside names (f ∷ fs) [] = true
+outside true (f ∷ fs) (x ∷ w) = (f .names && not (between (f .low) (f .high) x)) || outside true fs w
+outside false (f ∷ fs) (x ∷ w) = (not (f .names) && not (between (f .low) (f .high) x)) || outside false fs w
+
+-- 2 NODE: "node over 32, both ends equal, source or line end on ground"
+unfoldable pub nodeFault : Row → Bool
+nodeFault r =
+    outside true (fieldsOf (kind r)) (tail r)
+    || (isBranch r && eqb (from r) (to r))
+    || (isSource r && eqb (at r) 0)
+    || (isLine r && (eqb (from r) 0 || eqb (to r) 0))
+
+-- 3 VALUE: "a field, or its conductance, out of range"; SW: "1 ≤ close < open"
+unfoldable pub valueFault : ℕ → Row → Bool
+valueFault step r =
+    outside false (fieldsOf (kind r)) (tail r)
+    || (isSwitch r && leb (opens r) (closes r))
+    || (isBranch r && not (leb 1 (conductance step r) && leb (conductance step r) Limits.conductanceEnd))
+
+-- 4 TRAVEL: "travel not a multiple of the step"
+unfoldable pub travelFault : ℕ → Row → Bool
+travelFault step r = isLine r && not (eqb (travel r % step) 0)
+
+-- "A node with a VS is fixed"
+unfoldable pub fixes : ℕ → Row → Bool
+fixes n r = isVS r && eqb (at r) n
+
+-- 5 DOUBLE: "a second VS on a node"
+unfoldable pub doubleFault : List Row → Row → Bool
+doubleFault before r = isVS r && any (fixes (at r)) before
+
+-- "LINE of d = travel / step"; "Each line end keeps its last 2d sent values"
+abbrev pub delay : ℕ → Row → ℕ
+delay step r = travel r / step
+
+unfoldable pub slots : ℕ → Row → ℕ
+slots step r = cond (isLine r) (2 * delay step r) 0
+
+-- 6 FULL: "65th branch, 17th source, or 2d summed over lines past 4,096"
+unfoldable pub fullFault : ℕ → List Row → Row → Bool
+fullFault step before r =
+    (isBranch r && leb Limits.branchEnd (count isBranch before))
+    || (isSource r && leb Limits.sourceEnd (count isSource before))
+    || ltb Limits.slotEnd (sum (slots step) before + slots step r)
+
+-- "in it 1 to 6 in turn": the number of the first fault, or 0
+unfoldable pub lineFault : ℕ → List Row → Row → ℕ
+lineFault step before r =
+    cond (nodeFault r) 2
+    (cond (valueFault step r) 3
+    (cond (travelFault step r) 4
+    (cond (doubleFault before r) 5
+    (cond (fullFault step before r) 6 0))))
+
+-- the same after the rows seen so far, of which the first is the study's
+unfoldable pub rowFault : List Row → Row → ℕ
+rowFault seen r = lineFault (stepLength (getD seen 0 [])) (tail seen) r

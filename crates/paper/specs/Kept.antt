@@ -1,0 +1,103 @@
+-- "Every refusal leaves all lent memory unchanged.", of all three calls, and what an accepted one answers. Assumes nothing.
+use Prim.Native.Nat.{ℕ, zero, suc, _+_, _<_, _≤_}
+use native.Mathlib.Omega.{arith}
+use mathlib.Core.Path.{_≡_, refl, sym, ap, _∙_}
+use mathlib.Core.Logic.{_≢_}
+use mathlib.Core.Bool.{Bool, true, false, cond, not, _&&_, true≢false}
+use mathlib.Core.List.{List, [], _∷_}
+use lib.ListN.{length}
+use lib.Dec.{eqb, leb, ltb}
+use Rattle.paper.specs.declared.Reading.{Reading}
+use Rattle.paper.specs.declared.Advance.{Advance}
+use Rattle.paper.specs.declared.Advance.the-variants.{Took}
+use Rattle.paper.specs.declared.Resetting.{Resetting}
+use Rattle.whole.specs.Lists.{Words}
+use Rattle.paper.specs.Limits as Limits
+use Rattle.paper.specs.Answers.{readingNumber, resettingNumber, accepted}
+use Rattle.paper.specs.Network.{isNetwork, tableOf}
+use Rattle.paper.specs.Areas.{Net, netOf, areaCount}
+use Rattle.paper.specs.Rows.{steps}
+use Rattle.paper.specs.Records.{countOf, wellFormed}
+use Rattle.paper.specs.Legs.{Branch, heard, legsOf}
+use Rattle.paper.specs.Solve.{Step, stop, move, solve}
+use Rattle.paper.specs.Reading.{Read-out, readOut, readEnd, Lines, good, bad, linesOf, readOf}
+use Rattle.paper.specs.Advance.{Memory, Advanced, advanced, finish, takeStep, ready, orWait, firstLate, onNext, onNet, fits, advanceOf}
+use Rattle.paper.specs.Resetting.{Reset-out, resetOf, fresh}
+
+-- both branches of a test
+either : {A : Type 0} (P : A → Type 0) (b : Bool) (x y : A) → P x → P y → P (cond b x y)
+either P true x y p q = p
+either P false x y p q = q
+
+-- ---- reading
+
+record Kept (net : Words) (r : Read-out) : Type 0 where
+  keeps : readingNumber (r .answer) ≢ 0 → r .network ≡ net
+
+read-end : (net : Words) (l : Lines) → Kept net (readEnd net l)
+read-end net (good t) = record { keeps = λ h. absurd (h refl) }
+read-end net (bad l f) = record { keeps = λ h. refl }
+
+read-kept : (text : List ℕ) (net : Words) → Kept net (readOf text net)
+unfolding readOf
+read-kept text net =
+    either (Kept net) (not (eqb (length net) Limits.networkWords)) _ _ (record { keeps = λ h. refl })
+    (either (Kept net) (ltb Limits.textEnd (length text)) _ _ (record { keeps = λ h. refl }) (read-end net (linesOf text)))
+
+pub read-refused : (text : List ℕ) (net : Words) → readingNumber (readOf text net .answer) ≢ 0 → readOf text net .network ≡ net
+read-refused text net = read-kept text net .keeps
+
+-- ---- resetting
+
+record Unset (m : Memory) (r : Reset-out) : Type 0 where
+  unset : resettingNumber (r .answer) ≢ 0 → r .after ≡ m
+
+reset-kept : (net : Words) (m : Memory) → Unset m (resetOf net m)
+unfolding resetOf
+reset-kept net m =
+    either (Unset m) (not (fits net m)) _ _ (record { unset = λ h. refl })
+    (either (Unset m) (not (isNetwork net)) _ _ (record { unset = λ h. refl }) (record { unset = λ h. absurd (h refl) }))
+
+pub reset-refused : (net : Words) (m : Memory) → resettingNumber (resetOf net m .answer) ≢ 0 → resetOf net m .after ≡ m
+reset-refused net m = reset-kept net m .unset
+
+-- ---- advancing
+
+record Still (m : Memory) (r : Advanced) : Type 0 where
+  still : accepted (r .answer) ≡ false → r .after ≡ m
+
+still-finish : (N : Net) (a k : ℕ) (bs : List Branch) (m : Memory) (s : Step) → Still m (finish N a k bs m s)
+still-finish N a k bs m (stop x) = record { still = λ h. refl }
+still-finish N a k bs m (move v) = record { still = λ h. absurd (true≢false h) }
+
+still-wait : (N : Net) (m : Memory) (next : Advanced) (r : ℕ) → Still m next → Still m (orWait N m next r)
+still-wait N m next zero p = p
+still-wait N m next (suc r) p = record { still = λ h. refl }
+
+still-step : (N : Net) (a k : ℕ) (m : Memory) (bs : List Branch) → Still m (takeStep N a k m bs)
+unfolding takeStep
+still-step N a k m bs = still-finish N a k bs m (solve N a k bs)
+
+still-ready : (N : Net) (a k : ℕ) (m : Memory) → Still m (ready N a k m)
+unfolding ready
+still-ready N a k m = still-step N a k m (legsOf N a k (m .records) (heard N a k (m .froms) (m .tos)))
+
+still-next : (N : Net) (a k : ℕ) (m : Memory) → Still m (onNext N a k m)
+unfolding onNext
+still-next N a k m = still-wait N m (ready N a k m) (firstLate N a k (m .records) 0 (N .rows)) (still-ready N a k m)
+
+still-net : (N : Net) (a : ℕ) (m : Memory) → Still m (onNet N a m)
+unfolding onNet
+still-net N a m =
+    either (Still m) (not (wellFormed N (m .records) (m .froms) (m .tos))) _ _ (record { still = λ h. refl })
+    (either (Still m) (not (leb 1 a && leb a (areaCount N))) _ _ (record { still = λ h. refl })
+    (either (Still m) (leb (steps (N .head)) (countOf (m .records) a)) _ _ (record { still = λ h. refl }) (still-next N a _ m)))
+
+still-all : (net : Words) (a : ℕ) (m : Memory) → Still m (advanceOf net a m)
+unfolding advanceOf
+still-all net a m =
+    either (Still m) (not (fits net m)) _ _ (record { still = λ h. refl })
+    (either (Still m) (not (isNetwork net)) _ _ (record { still = λ h. refl }) (still-net _ a m))
+
+pub advance-refused : (net : Words) (a : ℕ) (m : Memory) → accepted (advanceOf net a m .answer) ≡ false → advanceOf net a m .after ≡ m
+advance-refused net a m = still-all net a m .still

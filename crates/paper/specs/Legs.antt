@@ -1,0 +1,118 @@
+-- One row at one step, as two legs, one for the current that leaves its from node and one for that which leaves its to node:
+-- "i = g·u + h" with u the voltage of `near` less that of `far`. A line's end is a leg of its own, to ground: "at each end i = g·v + h, where v
+-- is that end's voltage and h is what the far end sent". An area's step knows only its own legs. Assumes nothing.
+use Prim.Native.Nat.{ℕ, zero, suc, _+_, _-_, _%_}
+use mathlib.Core.Bool.{Bool, true, false, cond, not, _&&_, _||_}
+use mathlib.Core.List.{List, [], _∷_, map}
+use lib.ListN.{getD, length}
+use lib.Dec.{leb, ltb, eqb}
+use lib.IntN.{ℤ, pos, negℤ, _+ℤ_, _-ℤ_, _*ℤ_}
+use Rattle.whole.specs.Lists.{Words, z, word, numbers}
+use Rattle.paper.specs.Rows.{Row, kind, isBranch, isLine, isSwitch, isL, isC, from, to, closes, opens}
+use Rattle.paper.specs.Conductance.{conductance}
+use Rattle.paper.specs.Faults.{delay, slots}
+use Rattle.paper.specs.Areas.{Net, areaOf, rowArea, step}
+use Rattle.paper.specs.Records.{historyAt, offset}
+
+pub record Leg : Type 0 where
+  pub live : Bool
+  pub near : ℕ
+  pub far : ℕ
+  pub g : ℕ
+  pub h : ℤ
+
+abbrev pub leg : ℕ → ℕ → ℕ → ℤ → Leg
+leg near far g h = record { live = true; near = near; far = far; g = g; h = h }
+
+abbrev pub idle : Leg
+idle = record { live = false; near = 0; far = 0; g = 0; h = z }
+
+pub record Branch : Type 0 where
+  pub row : Row
+  pub fromLeg : Leg
+  pub toLeg : Leg
+
+abbrev pub branch : Row → Leg → Leg → Branch
+branch r f t = record { row = r; fromLeg = f; toLeg = t }
+
+-- ---- what a line's ends receive
+
+-- "h is what the far end sent at step k - d, or 0 where k - d < 1"; "step s in place s mod 2d"
+unfoldable pub sentTo : Net → ℕ → ℕ → Row → Words → ℤ
+sentTo N k i r store =
+    let d = delay (step N) r in
+    cond (ltb d k) (word store (offset N i + (k - d) % slots (step N) r)) z
+
+pub record Heard : Type 0 where
+  pub atFrom : ℤ
+  pub atTo : ℤ
+
+abbrev pub here : Net → ℕ → ℕ → Bool
+here N a n = eqb (areaOf N n) a
+
+-- the from end hears the to-end store, the to end the from-end store; an end of another area hears nothing here
+unfoldable pub heardBy : Net → ℕ → ℕ → Words → Words → ℕ → Heard
+heardBy N a k froms tos i =
+    let r = getD (N .rows) i [] in
+    record {
+      atFrom = cond (isLine r && here N a (from r)) (sentTo N k i r tos) z;
+      atTo = cond (isLine r && here N a (to r)) (sentTo N k i r froms) z;
+    }
+
+unfoldable pub heard : Net → ℕ → ℕ → Words → Words → List Heard
+heard N a k froms tos = map (heardBy N a k froms tos) (numbers 0 (length (N .rows)))
+
+-- ---- the legs
+
+-- "Closed at steps close to open - 1."
+unfoldable pub isOpen : ℕ → Row → Bool
+isOpen k r = isSwitch r && not (leb (closes r) k && ltb k (opens r))
+
+-- "Open SW: i = 0 and no conductance."
+unfoldable pub conducts : ℕ → ℕ → Row → ℕ
+conducts step k r = cond (isOpen k r) 0 (conductance step r)
+
+unfoldable pub lineEnd : Bool → ℕ → ℕ → ℤ → Leg
+lineEnd own n g h = cond own (leg n 0 g h) idle
+
+unfoldable pub lineLegs : Net → ℕ → ℕ → Row → Heard → Branch
+lineLegs N a k r e =
+    let g = conductance (step N) r in
+    branch r (lineEnd (here N a (from r)) (from r) g (e .atFrom)) (lineEnd (here N a (to r)) (to r) g (e .atTo))
+
+unfoldable pub plainLegs : Net → ℕ → Row → ℤ → Branch
+plainLegs N k r h =
+    let g = conducts (step N) k r in
+    branch r (leg (from r) (to r) g h) (leg (to r) (from r) g (negℤ h))
+
+-- the row in place i at step k of area a; a row of another area, and a source, is idle
+unfoldable pub legsBy : Net → ℕ → ℕ → Words → List Heard → ℕ → Branch
+legsBy N a k recs ears i =
+    let r = getD (N .rows) i [] in
+    cond (isLine r) (lineLegs N a k r (getD ears i (record { atFrom = z; atTo = z })))
+    (cond (isBranch r && eqb (rowArea N r) a) (plainLegs N k r (word recs (historyAt i)))
+    (branch r idle idle))
+
+unfoldable pub legsOf : Net → ℕ → ℕ → Words → List Heard → List Branch
+legsOf N a k recs ears = map (legsBy N a k recs ears) (numbers 0 (length (N .rows)))
+
+unfoldable pub bothLegs : List Branch → List Leg
+bothLegs [] = []
+bothLegs (b ∷ bs) = b .fromLeg ∷ (b .toLeg ∷ bothLegs bs)
+
+-- ---- a leg's current, at the voltages by node
+
+unfoldable pub through : Words → Leg → ℤ
+through v l = pos (l .g) *ℤ (word v (l .near) -ℤ word v (l .far))
+
+-- "i = g·u + h"
+unfoldable pub current : Words → Leg → ℤ
+current v l = through v l +ℤ l .h
+
+-- i + g·u
+unfoldable pub echo : Words → Leg → ℤ
+echo v l = current v l +ℤ through v l
+
+-- "L: next h is i + g·u"; "C: next h is -i - g·u"; LINE: "It then sends -(g·v + i)."
+unfoldable pub passedOn : Words → Row → Leg → ℤ
+passedOn v r l = cond (isL r) (echo v l) (cond (isC r || isLine r) (negℤ (echo v l)) z)

@@ -1,0 +1,159 @@
+-- A line of the table as a row of words, kind first and then the fields "as in the text", and the table of kinds that the text, the
+-- refusals and the network record all go by. Assumes nothing.
+use Prim.Native.Nat.{ℕ, zero, suc, _+_, _*_}
+use Prim.Native.Char.{code}
+use Prim.Native.String as String
+use Prim.Native.String.{String}
+use mathlib.Core.Bool.{Bool, true, false, cond, _&&_, _||_, not}
+use mathlib.Core.List.{List, [], _∷_}
+use lib.ListN.{getD, length}
+use lib.Dec.{leb, ltb, eqb}
+use lib.IntN.{ℤ, pos, negsuc, negℤ}
+use lib.Signed.{ltZ}
+use Rattle.whole.specs.Lists.{Words, z, word, nat}
+use Rattle.paper.specs.Limits as Limits
+
+-- a text, by its bytes
+unfoldable pub bytes : String → List ℕ
+bytes String.[] = []
+bytes (String._∷_ c s) = code c ∷ bytes s
+
+abbrev pub Row : Type 0
+Row = Words
+
+-- ---- the table of kinds
+
+-- a field: whether it names a node, and its range
+pub record Field : Type 0 where
+  pub names : Bool
+  pub low : ℤ
+  pub high : ℤ
+
+pub record Kind : Type 0 where
+  pub spelt : List ℕ
+  pub fields : List Field
+
+abbrev node : Field
+node = record { names = true; low = z; high = pos Limits.nodeEnd }
+
+abbrev number : ℕ → ℕ → Field
+number low high = record { names = false; low = pos low; high = pos high }
+
+-- the only fields that may be negative
+abbrev peakTo : ℕ → Field
+peakTo most = record { names = false; low = negℤ (pos most); high = pos most }
+
+-- a minus may stand before it
+abbrev pub signed : Field → Bool
+signed f = ltZ (f .low) z
+
+abbrev ohmic : Field
+ohmic = number Limits.ohmsLow Limits.ohmsEnd
+
+abbrev kindOf : String → List Field → Kind
+kindOf s f = record { spelt = bytes s; fields = f }
+
+unfoldable pub kinds : List Kind
+unfolding bytes
+kinds =
+    kindOf "study" (number 1 Limits.stepLengthEnd ∷ number 1 Limits.stepsEnd ∷ number 0 Limits.limitEnd ∷ [])
+    ∷ kindOf "R" (node ∷ node ∷ ohmic ∷ [])
+    ∷ kindOf "L" (node ∷ node ∷ number 1 Limits.henryEnd ∷ [])
+    ∷ kindOf "C" (node ∷ node ∷ number 1 Limits.faradEnd ∷ [])
+    ∷ kindOf "LINE" (node ∷ node ∷ ohmic ∷ number 1 Limits.travelEnd ∷ [])
+    ∷ kindOf "SW" (node ∷ node ∷ ohmic ∷ number 1 Limits.openEnd ∷ number 1 Limits.openEnd ∷ [])
+    ∷ kindOf "VS" (node ∷ peakTo Limits.voltageEnd ∷ number 1 Limits.startEnd ∷ number 0 Limits.riseEnd ∷ [])
+    ∷ kindOf "IS" (node ∷ peakTo Limits.injectionEnd ∷ number 1 Limits.startEnd ∷ number 0 Limits.riseEnd ∷ [])
+    ∷ []
+
+-- the number of a word that is none of these
+abbrev pub noKind : ℕ
+noKind = 8
+
+unfoldable pub fieldsOf : ℕ → List Field
+fieldsOf k = getD kinds k (record { spelt = []; fields = [] }) .fields
+
+-- ---- a row's words
+
+abbrev kindWord : ℤ → ℕ
+kindWord (pos k) = k
+kindWord (negsuc n) = noKind
+
+abbrev pub kind : Row → ℕ
+kind r = kindWord (word r 0)
+
+abbrev pub is : ℕ → Row → Bool
+is k r = eqb (kind r) k
+
+abbrev pub isStudy : Row → Bool
+isStudy = is 0
+
+abbrev pub isR : Row → Bool
+isR = is 1
+
+abbrev pub isL : Row → Bool
+isL = is 2
+
+abbrev pub isC : Row → Bool
+isC = is 3
+
+abbrev pub isLine : Row → Bool
+isLine = is 4
+
+abbrev pub isSwitch : Row → Bool
+isSwitch = is 5
+
+abbrev pub isVS : Row → Bool
+isVS = is 6
+
+abbrev pub isIS : Row → Bool
+isIS = is 7
+
+-- "Branches are numbered from 1 in table order, sources not counted"
+abbrev pub isBranch : Row → Bool
+isBranch r = leb 1 (kind r) && leb (kind r) 5
+
+abbrev pub isSource : Row → Bool
+isSource r = isVS r || isIS r
+
+-- `study`: step length, steps, limit
+abbrev pub stepLength : Row → ℕ
+stepLength r = nat (word r 1)
+
+abbrev pub steps : Row → ℕ
+steps r = nat (word r 2)
+
+abbrev pub limit : Row → ℕ
+limit r = nat (word r 3)
+
+-- a branch: from, to, then mΩ, nH or pF, and a line's travel or a switch's close and open
+abbrev pub from : Row → ℕ
+from r = nat (word r 1)
+
+abbrev pub to : Row → ℕ
+to r = nat (word r 2)
+
+abbrev pub size : Row → ℕ
+size r = nat (word r 3)
+
+abbrev pub travel : Row → ℕ
+travel r = nat (word r 4)
+
+abbrev pub closes : Row → ℕ
+closes r = nat (word r 4)
+
+abbrev pub opens : Row → ℕ
+opens r = nat (word r 5)
+
+-- a source: node, peak, start, rise
+abbrev pub at : Row → ℕ
+at r = nat (word r 1)
+
+abbrev pub start : Row → ℕ
+start r = nat (word r 3)
+
+abbrev pub rise : Row → ℕ
+rise r = nat (word r 4)
+
+abbrev pub peak : Row → ℤ
+peak r = word r 2

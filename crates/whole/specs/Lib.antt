@@ -1,0 +1,5 @@
+pub mod Turns
+pub mod Lists
+pub mod Int
+pub mod Size
+pub mod Linear
