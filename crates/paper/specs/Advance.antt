@@ -15,7 +15,7 @@ use Rattle.paper.specs.Faults.{delay, slots}
 use Rattle.paper.specs.Network.{isNetwork, tableOf}
 use Rattle.paper.specs.Areas.{Net, netOf, areaOf, areaCount, nodesOf, branchNumber, step}
 use Rattle.paper.specs.Records.{countAt, voltAt, currentAt, toCurrentAt, historyAt, countOf, offset, wellFormed}
-use Rattle.paper.specs.Legs.{Leg, Branch, branch, idle, here, heard, legsOf, current, passedOn}
+use Rattle.paper.specs.Legs.{End, Branch, branch, otherEnd, here, heard, legsOf, current, passedOn}
 use Rattle.paper.specs.Solve.{Step, stop, move, solve}
 
 -- what is lent to be written
@@ -55,15 +55,15 @@ putIf true w i x = set w i x
 putIf false w i x = w
 
 abbrev pub branchIn : List Branch → ℕ → Branch
-branchIn bs i = getD bs i (branch [] idle idle)
+branchIn bs i = getD bs i (branch [] otherEnd otherEnd)
 
 -- a row's currents and history
 unfoldable pub putRow : List Branch → Words → ℕ → Words → Words
 putRow bs v i w =
     let b = branchIn bs i in
-    let w₁ = putIf (b .fromLeg .live) w (currentAt i) (current v (b .fromLeg)) in
-    let w₂ = putIf (isLine (b .row) && b .toLeg .live) w₁ (toCurrentAt i) (current v (b .toLeg)) in
-    putIf ((isL (b .row) || isC (b .row)) && b .fromLeg .live) w₂ (historyAt i) (passedOn v (b .row) (b .fromLeg))
+    let w₁ = putIf (b .fromEnd .own) w (currentAt i) (current v (b .fromEnd .wire)) in
+    let w₂ = putIf (isLine (b .row) && b .toEnd .own) w₁ (toCurrentAt i) (current v (b .toEnd .wire)) in
+    putIf ((isL (b .row) || isC (b .row)) && b .fromEnd .own) w₂ (historyAt i) (passedOn v (b .row) (b .fromEnd .wire))
 
 unfoldable pub putVolts : Words → List ℕ → Words → Words
 putVolts v nodes w = fold (λ u n. set u (voltAt n) (word v n)) w nodes
@@ -72,17 +72,17 @@ unfoldable pub newRecords : Net → ℕ → ℕ → List Branch → Words → Wo
 newRecords N a k bs v w = turns 0 (length bs) (putRow bs v) (putVolts v (nodesOf N a) (set w (countAt a) (pos k)))
 
 -- "An area's advance writes only the slots of its own line ends."
-unfoldable pub putSent : Net → ℕ → (Branch → Leg) → List Branch → Words → ℕ → Words → Words
+unfoldable pub putSent : Net → ℕ → (Branch → End) → List Branch → Words → ℕ → Words → Words
 putSent N k end bs v i w =
     let b = branchIn bs i in
-    putIf (isLine (b .row) && end b .live) w (offset N i + k % slots (step N) (b .row)) (passedOn v (b .row) (end b))
+    putIf (isLine (b .row) && end b .own) w (offset N i + k % slots (step N) (b .row)) (passedOn v (b .row) (end b .wire))
 
-unfoldable pub newStore : Net → ℕ → (Branch → Leg) → List Branch → Words → Words → Words
+unfoldable pub newStore : Net → ℕ → (Branch → End) → List Branch → Words → Words → Words
 newStore N k end bs v w = turns 0 (length bs) (putSent N k end bs v) w
 
 unfoldable pub written : Net → ℕ → ℕ → List Branch → Words → Memory → Memory
 written N a k bs v m =
-    memory (newRecords N a k bs v (m .records)) (newStore N k (λ b. b .fromLeg) bs v (m .froms)) (newStore N k (λ b. b .toLeg) bs v (m .tos))
+    memory (newRecords N a k bs v (m .records)) (newStore N k (λ b. b .fromEnd) bs v (m .froms)) (newStore N k (λ b. b .toEnd) bs v (m .tos))
 
 -- ---- the call
 

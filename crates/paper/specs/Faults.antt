@@ -49,8 +49,13 @@ doubleFault before r = isVS r && any (fixes (at r)) before
 abbrev pub delay : ℕ → Row → ℕ
 delay step r = travel r / step
 
+-- how many values older than that of step k - d an end reads: none
+abbrev pub depth : ℕ
+depth = 0
+
+-- the places of one end's ring: d for what is on its way, d for a lead of the far area, and the older ones
 unfoldable pub slots : ℕ → Row → ℕ
-slots step r = cond (isLine r) (2 * delay step r) 0
+slots step r = cond (isLine r) (2 * delay step r + depth) 0
 
 -- 6 FULL: "65th branch, 17th source, or 2d summed over lines past 4,096"
 unfoldable pub fullFault : ℕ → List Row → Row → Bool

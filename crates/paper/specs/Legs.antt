@@ -15,25 +15,36 @@ use Rattle.paper.specs.Areas.{Net, areaOf, rowArea, step}
 use Rattle.paper.specs.Records.{historyAt, offset}
 
 pub record Leg : Type 0 where
-  pub live : Bool
   pub near : ℕ
   pub far : ℕ
   pub g : ℕ
   pub h : ℤ
 
 abbrev pub leg : ℕ → ℕ → ℕ → ℤ → Leg
-leg near far g h = record { live = true; near = near; far = far; g = g; h = h }
+leg near far g h = record { near = near; far = far; g = g; h = h }
 
+-- a leg that carries nothing
 abbrev pub idle : Leg
-idle = record { live = false; near = 0; far = 0; g = 0; h = z }
+idle = leg 0 0 0 z
+
+-- one end of a row: whether it is the area's own, and its leg
+pub record End : Type 0 where
+  pub own : Bool
+  pub wire : Leg
+
+abbrev pub ownEnd : Leg → End
+ownEnd l = record { own = true; wire = l }
+
+abbrev pub otherEnd : End
+otherEnd = record { own = false; wire = idle }
 
 pub record Branch : Type 0 where
   pub row : Row
-  pub fromLeg : Leg
-  pub toLeg : Leg
+  pub fromEnd : End
+  pub toEnd : End
 
-abbrev pub branch : Row → Leg → Leg → Branch
-branch r f t = record { row = r; fromLeg = f; toLeg = t }
+abbrev pub branch : Row → End → End → Branch
+branch r f t = record { row = r; fromEnd = f; toEnd = t }
 
 -- ---- what a line's ends receive
 
@@ -72,8 +83,8 @@ isOpen k r = isSwitch r && not (leb (closes r) k && ltb k (opens r))
 unfoldable pub conducts : ℕ → ℕ → Row → ℕ
 conducts step k r = cond (isOpen k r) 0 (conductance step r)
 
-unfoldable pub lineEnd : Bool → ℕ → ℕ → ℤ → Leg
-lineEnd own n g h = cond own (leg n 0 g h) idle
+unfoldable pub lineEnd : Bool → ℕ → ℕ → ℤ → End
+lineEnd own n g h = cond own (ownEnd (leg n 0 g h)) otherEnd
 
 unfoldable pub lineLegs : Net → ℕ → ℕ → Row → Heard → Branch
 lineLegs N a k r e =
@@ -83,7 +94,7 @@ lineLegs N a k r e =
 unfoldable pub plainLegs : Net → ℕ → Row → ℤ → Branch
 plainLegs N k r h =
     let g = conducts (step N) k r in
-    branch r (leg (from r) (to r) g h) (leg (to r) (from r) g (negℤ h))
+    branch r (ownEnd (leg (from r) (to r) g h)) (ownEnd (leg (to r) (from r) g (negℤ h)))
 
 -- the row in place i at step k of area a; a row of another area, and a source, is idle
 unfoldable pub legsBy : Net → ℕ → ℕ → Words → List Heard → ℕ → Branch
@@ -91,14 +102,14 @@ legsBy N a k recs ears i =
     let r = getD (N .rows) i [] in
     cond (isLine r) (lineLegs N a k r (getD ears i (record { atFrom = z; atTo = z })))
     (cond (isBranch r && eqb (rowArea N r) a) (plainLegs N k r (word recs (historyAt i)))
-    (branch r idle idle))
+    (branch r otherEnd otherEnd))
 
 unfoldable pub legsOf : Net → ℕ → ℕ → Words → List Heard → List Branch
 legsOf N a k recs ears = map (legsBy N a k recs ears) (numbers 0 (length (N .rows)))
 
 unfoldable pub bothLegs : List Branch → List Leg
 bothLegs [] = []
-bothLegs (b ∷ bs) = b .fromLeg ∷ (b .toLeg ∷ bothLegs bs)
+bothLegs (b ∷ bs) = b .fromEnd .wire ∷ (b .toEnd .wire ∷ bothLegs bs)
 
 -- ---- a leg's current, at the voltages by node
 

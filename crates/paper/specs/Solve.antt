@@ -5,13 +5,13 @@ use mathlib.Core.List.{List, [], _∷_, map}
 use lib.ListN.{getD, set, length, replicate, take}
 use lib.Dec.{leb, ltb, eqb}
 use lib.IntN.{ℤ, pos, negℤ, _+ℤ_, _-ℤ_, _*ℤ_}
-use lib.Ieee.{Float, nan}
+use lib.Ieee.{Float, fin}
 use Rattle.paper.specs.declared.Equation.{Equation}
 use Rattle.paper.specs.declared.Rounded.{Rounded}
 use Rattle.paper.specs.declared.Rounded.the-variants.{Whole, Outside}
 use Rattle.paper.specs.declared.Advance.{Advance}
 use Rattle.paper.specs.declared.Advance.the-variants.{Floating, Range, Unbalanced, History}
-use Rattle.whole.specs.Lists.{Words, z, word, upTo, any, count, first, numbers, fold, total}
+use Rattle.whole.specs.Lists.{Words, z, word, upTo, filled, any, count, first, numbers, fold, total}
 use Rattle.paper.specs.Limits as Limits
 use Rattle.paper.specs.Rows.{Row, limit, isBranch}
 use Rattle.paper.specs.Areas.{Net, fixed, freeOf, nodesOf, branchNumber}
@@ -22,6 +22,9 @@ use Rattle.paper.specs.Elimination.{System, sys, cell, voltages}
 use Rattle.paper.specs.Doubles.{double, nearestOf}
 
 -- ---- the equations
+
+abbrev pub nought : Float
+nought = fin false 0 (pos 0)
 
 -- g, summed over the legs that leave p, and over those that lead from p to q
 unfoldable pub leaves : ℕ → Leg → Bool
@@ -40,14 +43,18 @@ entry legs p q =
 unfoldable pub rightSide : List Leg → Words → ℤ → ℕ → ℤ
 rightSide legs still inject p = inject -ℤ total (λ l. cond (leaves p l) (l .h -ℤ pos (l .g) *ℤ word still (l .far)) z) legs
 
+-- the matrix array has 32 lines of 32 cells: those past the free nodes are 0 and take no part
 unfoldable pub matrixRow : List Leg → List ℕ → ℕ → List Float
-matrixRow legs free p = map (λ q. double (entry legs p q)) free
+matrixRow legs free p = filled Limits.nodeEnd nought (map (λ q. double (entry legs p q)) free)
 
 unfoldable pub equation : List Leg → Words → (ℕ → ℤ) → ℕ → Equation
 equation legs still inject p = record { pivot = double (entry legs p p); right = double (rightSide legs still (inject p) p) }
 
 unfoldable pub system : List Leg → List ℕ → Words → (ℕ → ℤ) → System
-system legs free still inject = sys (map (matrixRow legs free) free) (map (equation legs still inject) free)
+system legs free still inject =
+    sys
+    (filled Limits.nodeEnd (replicate Limits.nodeEnd nought) (map (matrixRow legs free) free))
+    (filled Limits.nodeEnd (record { pivot = nought; right = nought }) (map (equation legs still inject) free))
 
 -- ---- the voltages
 
@@ -86,7 +93,7 @@ unbalanced most legs inject v free = first (λ p. not (upTo most (imbalance legs
 -- ---- "17 HISTORY: a next history or sent value beyond 10^17"
 
 unfoldable pub beyond : Words → Branch → Bool
-beyond v b = not (upTo Limits.historyEnd (passedOn v (b .row) (b .fromLeg)) && upTo Limits.historyEnd (passedOn v (b .row) (b .toLeg)))
+beyond v b = not (upTo Limits.historyEnd (passedOn v (b .row) (b .fromEnd .wire)) && upTo Limits.historyEnd (passedOn v (b .row) (b .toEnd .wire)))
 
 -- the first such row's place, from 1, or 0
 unfoldable pub firstBeyond : Words → ℕ → List Branch → ℕ
