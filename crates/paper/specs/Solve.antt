@@ -108,7 +108,7 @@ pub data Step : Type 0 where
 
 -- the voltages by node before solving: sources at the area's fixed nodes, 0 elsewhere
 unfoldable pub stillOf : Net → ℕ → ℕ → Words
-stillOf N a k = fold (λ v n. cond (fixed N n) (set v n (held (N .rows) k n)) v) (replicate (suc (N .nodes)) z) (nodesOf N a)
+stillOf N a k = fold (λ v n. cond (fixed N n) (set v n (held (N .rows) k n)) v) (replicate (suc Limits.nodeEnd) z) (nodesOf N a)
 
 abbrev andHistory : Net → List Branch → Words → ℕ → Step
 andHistory N bs v zero = move v

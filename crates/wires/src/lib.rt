@@ -1,0 +1,1 @@
+// An area's legs as a step keeps them: four arrays of numbers, by leg. The crate is its specs.
