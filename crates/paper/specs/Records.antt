@@ -42,13 +42,13 @@ slotCount N = sum (slots (step N)) (N .rows)
 -- ---- 10 STATE: "Records are well formed when"
 
 -- the end of a row's word, by its kind
-abbrev currentEndOf : Row → ℕ
+abbrev pub currentEndOf : Row → ℕ
 currentEndOf r = cond (isBranch r) Limits.currentEnd 0
 
-abbrev toCurrentEndOf : Row → ℕ
+abbrev pub toCurrentEndOf : Row → ℕ
 toCurrentEndOf r = cond (isLine r) Limits.currentEnd 0
 
-abbrev historyEndOf : Row → ℕ
+abbrev pub historyEndOf : Row → ℕ
 historyEndOf r = cond (isL r || isC r) Limits.historyEnd 0
 
 -- "counts are 0 to steps, voltages, histories and sent values are in range, current magnitudes are at most 1.4·10^17, .. and unused words are
