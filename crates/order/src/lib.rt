@@ -1,0 +1,3 @@
+// Orders of calls, over any system whose moves do not disturb one another: laws for the crates above, in specs/.
+
+pub fn nothing() {}
