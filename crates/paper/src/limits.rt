@@ -1,0 +1,150 @@
+// The ends of the study text's fields, how much of each thing there may be, and how long what is lent is. The definitions' numbers (specs/Limits)
+// are held to these constants once, by the functions at the end: that is all they promise.
+ghost use mathlib.Core.Path.{_≡_};
+ghost use lib.IntN.{pos};
+ghost use Rattle.paper.specs.Limits as Limits;
+use quantity::Balance;
+use quantity::Conductance;
+use quantity::Current;
+use quantity::History;
+use quantity::Injection;
+use quantity::Node;
+use quantity::StepLength;
+use quantity::Steps;
+use quantity::Voltage;
+
+// mΩ, of R, LINE and SW
+pub struct Ohms {
+    pub unit: u8,
+}
+
+impl Ohms {
+    pub const MIN: i64 = 1_000;
+
+    pub const MAX: i64 = 1_000_000_000_000;
+}
+
+// nH
+pub struct Henries {
+    pub unit: u8,
+}
+
+impl Henries {
+    pub const MIN: i64 = 1;
+
+    pub const MAX: i64 = 1_000_000_000_000;
+}
+
+// pF
+pub struct Farads {
+    pub unit: u8,
+}
+
+impl Farads {
+    pub const MIN: i64 = 1;
+
+    pub const MAX: i64 = 1_000_000_000;
+}
+
+// ns, of a line
+pub struct Travel {
+    pub unit: u8,
+}
+
+impl Travel {
+    pub const MIN: i64 = 1;
+
+    pub const MAX: i64 = 1_000_000_000;
+}
+
+// the step at which a switch closes or opens
+pub struct Switching {
+    pub unit: u8,
+}
+
+impl Switching {
+    pub const MIN: i64 = 1;
+
+    pub const MAX: i64 = 1_000_001;
+}
+
+// the first step of a source
+pub struct Start {
+    pub unit: u8,
+}
+
+impl Start {
+    pub const MIN: i64 = 1;
+
+    pub const MAX: i64 = 1_000_000;
+}
+
+// how many steps a source takes to its peak
+pub struct Rise {
+    pub unit: u8,
+}
+
+impl Rise {
+    pub const MIN: i64 = 0;
+
+    pub const MAX: i64 = 1_000;
+}
+
+pub struct Room {
+    pub unit: u8,
+}
+
+impl Room {
+    pub const BRANCHES: usize = 64;
+
+    pub const SOURCES: usize = 16;
+
+    pub const ROWS: usize = 80;
+
+    pub const NODES: usize = 32;
+
+    pub const SLOTS: usize = 4_096;
+
+    pub const TEXT: usize = 65_536;
+
+    pub const NETWORK: usize = 1_024;
+
+    pub const RECORDS: usize = 512;
+
+    pub const STORE: usize = 4_096;
+}
+
+pub fn quantities_agree()
+    ensures { λ _. do ⌜ (← ⟦Voltage::MAX⟧ .entry) ≡ pos Limits.voltageEnd ⌝ }
+    ensures { λ _. do ⌜ (← ⟦Conductance::MAX⟧ .entry) ≡ pos Limits.conductanceEnd ⌝ }
+    ensures { λ _. do ⌜ (← ⟦History::MAX⟧ .entry) ≡ pos Limits.historyEnd ⌝ }
+    ensures { λ _. do ⌜ (← ⟦Current::MAX⟧ .entry) ≡ pos Limits.currentEnd ⌝ }
+    ensures { λ _. do ⌜ (← ⟦Injection::MAX⟧ .entry) ≡ pos Limits.injectionEnd ⌝ }
+    ensures { λ _. do ⌜ (← ⟦Node::MAX⟧ .entry) ≡ pos Limits.nodeEnd ⌝ }
+    ensures { λ _. do ⌜ (← ⟦StepLength::MAX⟧ .entry) ≡ pos Limits.stepLengthEnd ⌝ }
+    ensures { λ _. do ⌜ (← ⟦Steps::MAX⟧ .entry) ≡ pos Limits.stepsEnd ⌝ }
+    ensures { λ _. do ⌜ (← ⟦Balance::MAX⟧ .entry) ≡ pos Limits.limitEnd ⌝ }
+{}
+
+pub fn fields_agree()
+    ensures { λ _. do ⌜ (← ⟦Ohms::MIN⟧ .entry) ≡ pos Limits.ohmsLow ⌝ }
+    ensures { λ _. do ⌜ (← ⟦Ohms::MAX⟧ .entry) ≡ pos Limits.ohmsEnd ⌝ }
+    ensures { λ _. do ⌜ (← ⟦Henries::MAX⟧ .entry) ≡ pos Limits.henryEnd ⌝ }
+    ensures { λ _. do ⌜ (← ⟦Farads::MAX⟧ .entry) ≡ pos Limits.faradEnd ⌝ }
+    ensures { λ _. do ⌜ (← ⟦Travel::MAX⟧ .entry) ≡ pos Limits.travelEnd ⌝ }
+    ensures { λ _. do ⌜ (← ⟦Switching::MAX⟧ .entry) ≡ pos Limits.openEnd ⌝ }
+    ensures { λ _. do ⌜ (← ⟦Start::MAX⟧ .entry) ≡ pos Limits.startEnd ⌝ }
+    ensures { λ _. do ⌜ (← ⟦Rise::MAX⟧ .entry) ≡ pos Limits.riseEnd ⌝ }
+{}
+
+pub fn room_agrees()
+    ensures { λ _. do ⌜ (← ⟦Room::BRANCHES⟧ .entry) ≡ Limits.branchEnd ⌝ }
+    ensures { λ _. do ⌜ (← ⟦Room::SOURCES⟧ .entry) ≡ Limits.sourceEnd ⌝ }
+    ensures { λ _. do ⌜ (← ⟦Room::ROWS⟧ .entry) ≡ Limits.rowEnd ⌝ }
+    ensures { λ _. do ⌜ (← ⟦Room::NODES⟧ .entry) ≡ Limits.nodeEnd ⌝ }
+    ensures { λ _. do ⌜ (← ⟦Room::SLOTS⟧ .entry) ≡ Limits.slotEnd ⌝ }
+    ensures { λ _. do ⌜ (← ⟦Room::TEXT⟧ .entry) ≡ Limits.textEnd ⌝ }
+    ensures { λ _. do ⌜ (← ⟦Room::NETWORK⟧ .entry) ≡ Limits.networkWords ⌝ }
+    ensures { λ _. do ⌜ (← ⟦Room::RECORDS⟧ .entry) ≡ Limits.recordWords ⌝ }
+    ensures { λ _. do ⌜ (← ⟦Room::STORE⟧ .entry) ≡ Limits.storeWords ⌝ }
+{}
