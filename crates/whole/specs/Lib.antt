@@ -6,3 +6,5 @@ pub mod Linear
 pub mod Folds
 pub mod Totals
 pub mod TurnLaws
+pub mod Most
+pub mod Prefix

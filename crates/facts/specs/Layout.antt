@@ -1,0 +1,197 @@
+-- Where a network record that passes has its rows: the words of row i stand from word 8 + 8·i on, and all other words are 0. Assumes nothing.
+use Prim.Native.Nat.{ℕ, zero, suc, _+_, _*_, _-_, _≤_, _<_, min}
+use native.Mathlib.Omega.{arith}
+use mathlib.Core.Path.{_≡_, refl, sym, ap, _∙_, subst}
+use mathlib.Core.Bool.{Bool, true, false, cond, _&&_, true≢false}
+use mathlib.Core.List.{List, [], _∷_, _++_, tail}
+use lib.ListN.{length, getD, take, drop, replicate, length-append, length-take, length-replicate, List·getD-append, List·getD-eq-default}
+use lib.Seq.{getD-take, getD-append-add, length-take-le}
+use lib.Dec.{T, leb, eqb, lit≤}
+use lib.IntN.{ℤ, pos, negsuc}
+use borrow.Author.Tests.{eqb-true}
+use Rattle.whole.specs.Lists.{Words, z, word, nat, between, same, sameWords, filled}
+use Rattle.whole.specs.Folds.{and-left, and-right}
+use Rattle.paper.specs.Limits as Limits
+use Rattle.paper.specs.Rows.{Row, kinds, fieldsOf, kind}
+use Rattle.paper.specs.Network.{Table, laid, networkOf, rowOfWords, rowsOf, rowCount, tableOf, passes, isNetwork}
+use Rattle.facts.specs.Fields.{Within, within}
+
+-- ---- lists
+
+pub same-eq : (x y : ℤ) → same x y ≡ true → x ≡ y
+unfolding same
+same-eq (pos a) (pos b) e = ap pos (eqb-true a b e)
+same-eq (pos a) (negsuc b) e = absurd (true≢false (sym e))
+same-eq (negsuc a) (pos b) e = absurd (true≢false (sym e))
+same-eq (negsuc a) (negsuc b) e = ap negsuc (eqb-true a b e)
+
+pub sameWords-eq : (l m : Words) → sameWords l m ≡ true → l ≡ m
+unfolding sameWords
+sameWords-eq [] [] e = refl
+sameWords-eq [] (y ∷ m) e = absurd (true≢false (sym e))
+sameWords-eq (x ∷ l) [] e = absurd (true≢false (sym e))
+sameWords-eq (x ∷ l) (y ∷ m) e = rw (same-eq x y (and-left (same x y) (sameWords l m) e), sameWords-eq l m (and-right (same x y) (sameWords l m) e))
+
+zeros : (m k : ℕ) → word (replicate m z) k ≡ z
+zeros zero k = refl
+zeros (suc m) zero = refl
+zeros (suc m) (suc k) = zeros m k
+
+zeros-after : (w : Words) (m k : ℕ) → word (w ++ replicate m z) k ≡ word w k
+zeros-after [] m k = zeros m k
+zeros-after (x ∷ w) m zero = refl
+zeros-after (x ∷ w) m (suc k) = zeros-after w m k
+
+-- filling up with zeros changes no word
+pub word-filled : (n : ℕ) (w : Words) (k : ℕ) → word (filled n z w) k ≡ word w k
+unfolding filled
+word-filled n w k = zeros-after w (n - length w) k
+
+pub length-filled : (n : ℕ) (w : Words) → length w ≤ n → length (filled n z w) ≡ n
+unfolding filled
+length-filled n w h = length-append w (replicate (n - length w) z) ∙ rw length-replicate (omega arith)
+
+-- ---- rows laid one after another
+
+pub arity-most : (k : ℕ) → length (fieldsOf k) ≤ 5
+unfolding fieldsOf kinds
+arity-most zero = lit≤ tt
+arity-most (suc zero) = lit≤ tt
+arity-most (suc (suc zero)) = lit≤ tt
+arity-most (suc (suc (suc zero))) = lit≤ tt
+arity-most (suc (suc (suc (suc zero)))) = lit≤ tt
+arity-most (suc (suc (suc (suc (suc zero))))) = lit≤ tt
+arity-most (suc (suc (suc (suc (suc (suc zero)))))) = lit≤ tt
+arity-most (suc (suc (suc (suc (suc (suc (suc zero))))))) = lit≤ tt
+arity-most (suc (suc (suc (suc (suc (suc (suc (suc k)))))))) = lit≤ tt
+
+-- no row is longer than its eight words
+pub Short : List Row → Type 0
+Short rows = (i : ℕ) → i < length rows → length (getD rows i []) ≤ 8
+
+module _ (r : Row) (rows : List Row) (s : Short (r ∷ rows)) where
+  short-head : length (filled 8 z r) ≡ 8
+  unfolding Short
+  short-head = length-filled 8 r (s 0 (omega arith))
+
+  short-tail : Short rows
+  unfolding Short
+  short-tail i h = s (suc i) (omega arith)
+
+pub length-laid : (rows : List Row) → Short rows → length (laid rows) ≡ 8 * length rows
+unfolding laid
+length-laid [] s = refl
+length-laid (r ∷ rows) s =
+    omega (arith, length-append (filled 8 z r) (laid rows), short-head r rows s, length-laid rows (short-tail r rows s))
+
+pub laid-word : (rows : List Row) → Short rows → (i j : ℕ) → i < length rows → j < 8 → word (laid rows) (8 * i + j) ≡ word (getD rows i []) j
+unfolding laid
+laid-word [] s i j h k = absurd (omega arith)
+laid-word (r ∷ rows) s zero j h k =
+    let e : 8 * 0 + j ≡ j = omega arith in
+    rw e (List·getD-append (filled 8 z r) (laid rows) z j (omega (arith, short-head r rows s)) ∙ word-filled 8 r j)
+laid-word (r ∷ rows) s (suc i) j h k =
+    let e : 8 * suc i + j ≡ length (filled 8 z r) + (8 * i + j) = omega (arith, short-head r rows s) in
+    rw e (getD-append-add (filled 8 z r) (laid rows) (8 * i + j) z ∙ laid-word rows (short-tail r rows s) i j (omega arith) k)
+
+-- ---- rows read back
+
+pub length-rows : (n : ℕ) (w : Words) → length (rowsOf n w) ≡ n
+unfolding rowsOf
+length-rows zero w = refl
+length-rows (suc n) w = ap suc (length-rows n (drop 8 w))
+
+row-short : (w : Words) → length (rowOfWords w) ≤ 8
+unfolding rowOfWords
+row-short w = rw length-take (omega (arith, arity-most (kind w)))
+
+pub rows-short : (n : ℕ) (w : Words) → Short (rowsOf n w)
+unfolding rowsOf Short
+rows-short zero w i h = absurd (omega arith)
+rows-short (suc n) w zero h = row-short (take 8 w)
+rows-short (suc n) w (suc i) h = rows-short n (drop 8 w) i (omega arith)
+
+-- ---- the record
+
+abbrev rowsIn : Words → List Row
+rowsIn net = tail (tableOf net)
+
+module _ (net : Words) where
+  -- its eight head words
+  abbrev headOf : Words
+  headOf = filled 8 z (take 3 net ++ (pos (length (rowsIn net)) ∷ []))
+
+  head-long : length headOf ≡ 8
+  head-long =
+      length-filled 8 (take 3 net ++ (pos (length (rowsIn net)) ∷ []))
+      (rw (length-append (take 3 net) (pos (length (rowsIn net)) ∷ []), length-take) (omega arith))
+
+  rows-in-short : Short (rowsIn net)
+  unfolding tableOf
+  rows-in-short = rows-short (nat (rowCount net)) (drop 8 net)
+
+  laid-out : networkOf (tableOf net) ≡ filled Limits.networkWords z (headOf ++ laid (rowsIn net))
+  unfolding networkOf tableOf
+  laid-out = refl
+
+  -- words of the head, of the rows, and after them
+  out-head : (k : ℕ) → k < 8 → word (networkOf (tableOf net)) k ≡ word headOf k
+  out-head k h = rw laid-out (word-filled Limits.networkWords (headOf ++ laid (rowsIn net)) k ∙ List·getD-append headOf (laid (rowsIn net)) z k (omega (arith, head-long)))
+
+  out-after : (k : ℕ) → word (networkOf (tableOf net)) (8 + k) ≡ word (laid (rowsIn net)) k
+  out-after k =
+      let e : 8 + k ≡ length headOf + k = omega (arith, head-long) in
+      rw laid-out (word-filled Limits.networkWords (headOf ++ laid (rowsIn net)) (8 + k) ∙ ap (word (headOf ++ laid (rowsIn net))) e ∙ getD-append-add headOf (laid (rowsIn net)) k z)
+
+-- what refusal 8 tests
+pub record Recorded (net : Words) : Type 0 where
+  pub few : Within 0 Limits.rowEnd (rowCount net)
+  pub pass : passes (tableOf net) ≡ true
+  pub written : net ≡ networkOf (tableOf net)
+
+pub recorded : (net : Words) → isNetwork net ≡ true → Recorded net
+unfolding isNetwork
+recorded net e =
+    let b = between z (pos Limits.rowEnd) (rowCount net) in
+    let p = passes (tableOf net) in
+    let s = sameWords net (networkOf (tableOf net)) in
+    let f = and-left (b && p) s e in
+    record { few = within 0 Limits.rowEnd (rowCount net) (and-left b p f); pass = and-right b p f; written = sameWords-eq net (networkOf (tableOf net)) (and-right (b && p) s e) }
+
+module _ (net : Words) (e : isNetwork net ≡ true) where
+  rec : Recorded net
+  rec = recorded net e
+
+  pub row-count : length (rowsIn net) ≡ nat (word net 3)
+  unfolding tableOf
+  row-count = length-rows (nat (rowCount net)) (drop 8 net)
+
+  pub row-count-word : word net 3 ≡ pos (length (rowsIn net))
+  row-count-word = rec .few .isNat ∙ ap pos (sym row-count)
+
+  pub row-count-most : length (rowsIn net) ≤ Limits.rowEnd
+  row-count-most = omega (arith, row-count, rec .few .most)
+
+  pub network-length : length net ≡ Limits.networkWords
+  network-length =
+      ap length (rec .written) ∙ ap length (laid-out net)
+      ∙ length-filled Limits.networkWords (headOf net ++ laid (rowsIn net))
+      (rw length-append (omega (arith, head-long net, length-laid (rowsIn net) (rows-in-short net), row-count-most)))
+
+  -- the words of a row; those that its kind does not have are 0 in both
+  pub row-word : (i j : ℕ) → i < length (rowsIn net) → j < 8 → word (getD (rowsIn net) i []) j ≡ word net (8 + 8 * i + j)
+  row-word i j h k =
+      let a : 8 + 8 * i + j ≡ 8 + (8 * i + j) = omega arith in
+      sym (laid-word (rowsIn net) (rows-in-short net) i j h k) ∙ sym (out-after net (8 * i + j)) ∙ ap (word (networkOf (tableOf net))) (sym a) ∙ ap (λ (w : Words). word w (8 + 8 * i + j)) (sym (rec .written))
+
+  -- those after the last row
+  pub after-rows : (k : ℕ) → 8 + 8 * length (rowsIn net) ≤ k → word net k ≡ z
+  after-rows k h =
+      let a : k ≡ 8 + (k - 8) = omega arith in
+      ap (λ (w : Words). word w k) (rec .written) ∙ ap (word (networkOf (tableOf net))) a ∙ out-after net (k - 8)
+      ∙ List·getD-eq-default (laid (rowsIn net)) z (omega (arith, length-laid (rowsIn net) (rows-in-short net)))
+
+  -- the study's words
+  pub head-word : (j : ℕ) → j < 3 → word (getD (tableOf net) 0 []) (suc j) ≡ word net j
+  unfolding tableOf
+  head-word j h = getD-take 3 net j z h

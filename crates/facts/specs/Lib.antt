@@ -1,0 +1,6 @@
+pub mod Passing
+pub mod Fields
+pub mod Sound
+pub mod Table
+pub mod Layout
+pub mod Nets
