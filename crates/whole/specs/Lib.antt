@@ -1,3 +1,5 @@
+pub mod Tables
+pub mod Reads
 pub mod Turns
 pub mod Lists
 pub mod Int

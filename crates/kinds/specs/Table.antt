@@ -1,0 +1,70 @@
+-- The table of kinds as code holds it, flat, against the paper's lists of fields. Assumes nothing.
+use Prim.Native.Nat.{ℕ, zero, suc, _+_, _*_, _-_, _<_, _≤_}
+use mathlib.Core.Path.{_≡_, refl, ap, _∙_}
+use mathlib.Core.Bool.{Bool, true, false, not, _||_}
+use mathlib.Core.List.{List, [], _∷_, tail}
+use native.Mathlib.Omega.{arith}
+use native.Mathlib.Numerals.{add-one, one-add}
+use lib.ListN.{getD, length}
+use lib.IntN.{ℤ}
+use lib.Signed.{leZ}
+use Rattle.whole.specs.Tables.{table, table-at}
+use Rattle.whole.specs.Lists.{Words, z, word, between, count}
+use Rattle.paper.specs.Rows.{Row, Field, kinds, fieldsOf}
+use Rattle.paper.specs.Faults.{outside}
+
+-- how many fields of a kind name a node
+unfoldable pub namesOf : ℕ → ℕ
+namesOf k = count (λ (f : Field). f .names) (fieldsOf k)
+
+unfoldable pub low : ℕ → ℕ → ℤ
+low k i = getD (fieldsOf k) i (record { names = false; low = z; high = z }) .low
+
+unfoldable pub high : ℕ → ℕ → ℤ
+high k i = getD (fieldsOf k) i (record { names = false; low = z; high = z }) .high
+
+-- the table that gives f by kind and field
+unfoldable pub byField : (ℕ → ℕ → ℤ) → List (List ℤ)
+byField f = table 8 (λ k. table 5 (f k))
+
+pub by-field : (f : ℕ → ℕ → ℤ) (k i : ℕ) → k < 8 → i < 5 → getD (getD (byField f) k []) i z ≡ f k i
+unfolding byField
+by-field f k i h j = ap (λ (l : List ℤ). getD l i z) (table-at 8 (λ k. table 5 (f k)) [] k h) ∙ table-at 5 (f k) z i j
+
+pub by-kind : (f : ℕ → ℕ) (k : ℕ) → k < 8 → getD (table 8 f) k 0 ≡ f k
+by-kind f k h = table-at 8 f 0 k h
+
+-- n fields from the place i on, one of them out of its range
+unfoldable pub anyOutside : ℕ → ℕ → ℕ → Words → Bool
+anyOutside k i zero w = false
+anyOutside k i (suc n) w = not (between (low k i) (high k i) (word w (suc i))) || anyOutside k (suc i) n w
+
+unfoldable pub outsideFrom : ℕ → ℕ → ℕ → Words → Bool
+outsideFrom k i e w = anyOutside k i (e - i) w
+
+-- ---- a turn of the loop over the fields
+
+outside-more : (k i e : ℕ) (w : Words) → i < e
+    → outsideFrom k i e w ≡ (not (between (low k i) (high k i) (word w (1 + i))) || outsideFrom k (i + 1) e w)
+unfolding outsideFrom anyOutside
+outside-more k i e w h = let d : e - i ≡ suc (e - suc i) = omega arith in rw (one-add, add-one, d)
+
+pub outside-done : (k i e : ℕ) (w : Words) → e ≤ i → outsideFrom k i e w ≡ false
+unfolding outsideFrom anyOutside
+outside-done k i e w h = let d : e - i ≡ 0 = omega arith in rw d
+
+pub outside-here : (k i e : ℕ) (w : Words) → i < e → between (low k i) (high k i) (word w (1 + i)) ≡ false → outsideFrom k i e w ≡ true
+outside-here k i e w h b = rw (outside-more k i e w h, b)
+
+pub outside-next : (k i e : ℕ) (w : Words) → i < e → between (low k i) (high k i) (word w (1 + i)) ≡ true → outsideFrom k i e w ≡ outsideFrom k (i + 1) e w
+outside-next k i e w h b = rw (outside-more k i e w h, b)
+
+-- ---- the two halves of a range's test
+
+pub within-yes : (l h : ℤ) {l′ h′ : ℤ} (x : ℤ) → l′ ≡ l → h′ ≡ h → leZ l′ x ≡ true → leZ x h′ ≡ between l h x
+unfolding between
+within-yes l h x p q e = rw (← p, ← q, e)
+
+pub within-no : (l h : ℤ) {l′ : ℤ} (x : ℤ) → l′ ≡ l → leZ l′ x ≡ false → false ≡ between l h x
+unfolding between
+within-no l h x p e = rw (← p, e)
