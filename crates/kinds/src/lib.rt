@@ -82,14 +82,14 @@ const NAMES: [usize; 8] = [0, 2, 2, 2, 2, 2, 1, 1];
 
 // by kind, then by field
 const LOW: [[i64; 5]; 8] = [
-    [1, 1, 0, 0, 0],
+    [StepLength::MIN, Steps::MIN, 0, 0, 0],
     [0, 0, Resistance::MIN, 0, 0],
     [0, 0, 1, 0, 0],
     [0, 0, 1, 0, 0],
     [0, 0, Resistance::MIN, 1, 0],
     [0, 0, Resistance::MIN, 1, 1],
-    [0, -Voltage::MAX, 1, 0, 0],
-    [0, -Injection::MAX, 1, 0, 0],
+    [0, Voltage::MIN, 1, 0, 0],
+    [0, Injection::MIN, 1, 0, 0],
 ];
 
 const HIGH: [[i64; 5]; 8] = [
