@@ -1,1 +1,4 @@
 pub mod Wires
+pub mod Leaving
+pub mod Shares
+pub mod Sums

@@ -1,0 +1,47 @@
+-- Sums by node, gathered leg by leg: what the legs leave at a node is the sum over the legs that leave it. Assumes nothing.
+use Prim.Native.Nat.{ℕ, zero, suc, _+_, _*_, _≤_, _<_}
+use mathlib.Core.Path.{_≡_, refl, sym, ap, _∙_}
+use mathlib.Core.Bool.{Bool, true, false, cond}
+use mathlib.Core.List.{List, []}
+use native.Mathlib.Omega.{arith}
+use borrow.Author.Tests.{eqb-true, eqb-false}
+use lib.ListN.{getD, set, length, length-set, replicate, length-replicate, getD-replicate}
+use lib.Seq.{getD-set-same, getD-set-other}
+use lib.Dec.{eqb}
+use lib.IntN.{ℤ, _+ℤ_, +ℤ-idr}
+use Rattle.whole.specs.Lists.{Words, z, word, numbers, total}
+use Rattle.paper.specs.Limits as Limits
+use Rattle.paper.specs.Legs.{Leg}
+use Rattle.wires.specs.Wires.{legAt, legsIn}
+use Rattle.wires.specs.Leaving.{leaving, leaving-more}
+
+-- w has, by node, the sum of f over the legs that leave it
+pub record Sums (f : Leg → ℤ) (legs : List Leg) (w : Words) : Type 0 where
+  pub long : length w ≡ suc Limits.nodeEnd
+  pub at : (p : ℕ) → p ≤ Limits.nodeEnd → word w p ≡ leaving p f legs
+
+pub sums-none : (f : Leg → ℤ) (near far : List ℕ) (g h : Words) → Sums f (legsIn near far g h 0) (replicate (suc Limits.nodeEnd) z)
+unfolding leaving legsIn numbers total
+sums-none f near far g h = record {
+  long = length-replicate (suc Limits.nodeEnd) z;
+  at = λ p l. getD-replicate (suc Limits.nodeEnd) p z z (omega arith);
+}
+
+module _ (f : Leg → ℤ) (near far : List ℕ) (g h : Words) (j : ℕ) {w : Words} (s : Sums f (legsIn near far g h j) w) (node : getD near j 0 ≤ Limits.nodeEnd) where
+  abbrev added : Words
+  added = set w (getD near j 0) (word w (getD near j 0) +ℤ f (legAt near far g h j))
+
+  -- the leg's own node, and another
+  by-node : (p : ℕ) → p ≤ Limits.nodeEnd → (t : Bool) → eqb (getD near j 0) p ≡ t → word added p ≡ leaving p f (legsIn near far g h j) +ℤ cond t (f (legAt near far g h j)) z
+  by-node p l true e =
+      let q : getD near j 0 ≡ p = eqb-true (getD near j 0) p e in
+      let k : getD near j 0 < length w = omega (arith, s .long) in
+      ap (word added) (sym q) ∙ getD-set-same w (getD near j 0) _ z k ∙ ap (λ (x : ℤ). x +ℤ f (legAt near far g h j)) (s .at (getD near j 0) node ∙ ap (λ (x : ℕ). leaving x f (legsIn near far g h j)) q)
+  by-node p l false e =
+      getD-set-other w (getD near j 0) p _ z (λ q. eqb-false (getD near j 0) p e (sym q)) ∙ s .at p l ∙ sym (+ℤ-idr (leaving p f (legsIn near far g h j)))
+
+  pub sums-more : Sums f (legsIn near far g h (j + 1)) added
+  sums-more = record {
+    long = length-set w (getD near j 0) _ ∙ s .long;
+    at = λ p l. by-node p l (eqb (getD near j 0) p) refl ∙ sym (leaving-more p f near far g h j);
+  }
