@@ -1,4 +1,4 @@
--- Laws on ℤ that lib.IntN lacks: sizes of sums and products, ring laws, tests as facts, floor and rest by 2^32. Assumes nothing.
+-- Laws on ℤ that lib.IntN lacks: sizes of sums and products, ring laws, tests as facts. Assumes nothing.
 use mathlib.Core.Path.{_≡_, refl, sym, _∙_, ap, subst}
 use mathlib.Core.Bool.{Bool, true, false, not, cond, _&&_}
 use Prim.Native.Nat.{ℕ, zero, suc, _+_, _*_, _-_, _<_, _≤_, _^_, _/_, _%_}
@@ -6,7 +6,7 @@ use native.Mathlib.Nat as NatL
 use native.Mathlib.Omega.{arith}
 use lib.Dec.{T, ltb, leb, ltb→lt, nltb→le, leb·suc-suc}
 use lib.IntN.{ℤ, pos, negsuc, negℤ, natAbs, sucℤ, predℤ, subℕ, _+ℤ_, _-ℤ_, _*ℤ_, ℤ-ind, +ℤ-assoc, +ℤ-comm, +ℤ-idl, +ℤ-idr, *ℤ-zero, zero-*ℤ, sucℤ-*ℤ, predℤ-*ℤ, *ℤ-comm, +ℤ-sucℤ, +ℤ-predℤ, sucℤ-+ℤ, predℤ-+ℤ, *ℤ-negsuc, negℤ-+ℤ, negℤ-negℤ, +ℤ-invr, +ℤ-negℤ-cancel}
-use lib.Signed.{mag, leZ, ltZ, nonNeg, shrZ, mag-shr, quotZ}
+use lib.Signed.{mag, leZ, ltZ, nonNeg}
 use mir.Syntax.{Width, w64}
 use mir.Val.{SFits, Fits, hbits, toZ, ofZ}
 use mir.Facts.{toZ-ofZ, fits-natAbs}
@@ -152,49 +152,6 @@ subℕ-lt a b h = rw (lt-ltb a b h)
 
 pub subℕ-ge : (a b : ℕ) → b ≤ a → subℕ a b ≡ pos (a - b)
 subℕ-ge a b h = rw (le-ltb a b h)
-
--- ---- division that rounds down
-abbrev pub floorQ : ℤ → ℤ
-floorQ x = shrZ x 4294967296
-
-abbrev pub floorR : ℤ → ℕ
-floorR (pos n) = n % 4294967296
-floorR (negsuc n) = 4294967295 - n % 4294967296
-
-neg-suc : (k n : ℕ) → k ≡ suc n → negℤ (pos k) ≡ negsuc n
-neg-suc k n e = rw e
-
-pub floor-mul : (n : ℕ) → negsuc (n / 4294967296) *ℤ pos 4294967296 ≡ negsuc (n / 4294967296 * 4294967296 + 4294967295)
-floor-mul n = neg-suc (suc (n / 4294967296) * 4294967296) _ (omega arith)
-
-pub floor-eq : (x : ℤ) → x ≡ floorQ x *ℤ pos 4294967296 +ℤ pos (floorR x)
-floor-eq (pos n) = ap pos (omega arith)
-floor-eq (negsuc n) =
-    let r = 4294967295 - n % 4294967296 in
-    let k = suc (n / 4294967296 * 4294967296 + 4294967295) in
-    rw (floor-mul n, subℕ-lt r k (omega arith)) (ap negsuc (omega arith))
-
-pub floor-lt : (x : ℤ) → floorR x < 4294967296
-floor-lt (pos n) = omega arith
-floor-lt (negsuc n) = omega arith
-
-pub floorQ-fits : (x : ℤ) → mag x < 2 ^ 63 → SFits w64 (floorQ x)
-floorQ-fits x h = record { sfits = NatL.lt-of-le-of-lt (mag-shr x 4294967296) h }
-
-pub floor-mul-fits : (x : ℤ) → mag x < 2 ^ 63 → SFits w64 (floorQ x *ℤ pos 4294967296)
-floor-mul-fits (pos n) h = record { sfits = omega arith }
-floor-mul-fits (negsuc n) h = rw (floor-mul n) (record { sfits = omega arith })
-
-pub floor-sub : (x : ℤ) → x -ℤ floorQ x *ℤ pos 4294967296 ≡ pos (floorR x)
-floor-sub x =
-    let p = floorQ x *ℤ pos 4294967296 in
-    ap (λ (z : ℤ). z -ℤ p) (floor-eq x ∙ +ℤ-comm p (pos (floorR x))) ∙ +ℤ-negℤ-cancel (pos (floorR x)) p
-
--- ---- division toward zero
-pub quot-fits : (x : ℤ) (d : ℕ) → mag x < 2 ^ 63 → 1 < d → SFits w64 (quotZ x (pos d))
-quot-fits (pos n) d h k = record { sfits = NatL.lt-of-le-of-lt (NatL.div-le-self n d) h }
-quot-fits (negsuc n) d h k =
-    fits64 _ (rw (abs-neg (pos (suc n / d))) (NatL.lt-of-lt-of-le (NatL.div-lt-self (omega arith) k) h))
 
 -- `==` on signed words is an equation of their bits
 pub same-bits : {x y : ℤ} → SFits w64 x → SFits w64 y → ofZ w64 x ≡ ofZ w64 y → x ≡ y

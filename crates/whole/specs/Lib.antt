@@ -10,3 +10,6 @@ pub mod Totals
 pub mod TurnLaws
 pub mod Most
 pub mod Prefix
+pub mod Ranges
+pub mod Rounding
+pub mod Floor
