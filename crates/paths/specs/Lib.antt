@@ -1,0 +1,4 @@
+pub mod Paths
+pub mod Rounds
+pub mod Reached
+pub mod Meaning

@@ -1,0 +1,3 @@
+// Paths of joins, against the rounds that find out which nodes hang together: laws, in specs/.
+
+pub fn nothing() {}
