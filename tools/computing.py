@@ -10,7 +10,7 @@ use lib.Ieee as Ieee
 FLOATS = ("add", "sub", "mul", "div", "ofInt", "lt", "le")
 MEANING = "crates/paper/specs/"
 FOLDS = "crates/whole/specs/"
-LAWS = ("Computing", "Examples", "Kept", "Total", "One")
+LAWS = ("Computing", "Examples", "Kept", "Total", "Places", "One")
 
 
 def opened(path):

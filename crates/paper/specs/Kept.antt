@@ -1,4 +1,4 @@
--- "Every refusal leaves all lent memory unchanged.", of all three calls, and what an accepted one answers. Assumes nothing.
+-- "Every refusal leaves all lent memory unchanged.", of all three calls: T-kept. Assumes nothing.
 use Prim.Native.Nat.{ℕ, zero, suc, _+_, _<_, _≤_}
 use native.Mathlib.Omega.{arith}
 use mathlib.Core.Path.{_≡_, refl, sym, ap, _∙_}
@@ -25,7 +25,7 @@ use Rattle.paper.specs.Advance.{Memory, Advanced, advanced, finish, take
 use Rattle.paper.specs.Resetting.{Reset-out, resetOf, fresh}
 
 -- both branches of a test
-either : {A : Type 0} (P : A → Type 0) (b : Bool) (x y : A) → P x → P y → P (cond b x y)
+pub either : {A : Type 0} (P : A → Type 0) (b : Bool) (x y : A) → P x → P y → P (cond b x y)
 either P true x y p q = p
 either P false x y p q = q
 

@@ -21,3 +21,6 @@ pub mod Listing
 pub mod Computing
 pub mod Examples
 pub mod Kept
+pub mod Total
+pub mod Places
+pub mod One

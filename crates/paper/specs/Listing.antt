@@ -78,7 +78,7 @@ pub data Run : Type 0 where
 abbrev pub stopLine : ℕ → ℕ → Advance → List ℕ
 stopLine k a x = lineOf (bytes "stop") (pos k ∷ pos a ∷ pos (advanceNumber x) ∷ pos (advancePlace x) ∷ [])
 
-abbrev went : ℕ → ℕ → List ℕ → Advanced → Bool → Run
+abbrev pub went : ℕ → ℕ → List ℕ → Advanced → Bool → Run
 went k a out r true = going (r .after) out
 went k a out r false = ended (out ++ stopLine k a (r .answer))
 

@@ -33,24 +33,24 @@ pub record Kind : Type 0 where
   pub spelt : List ℕ
   pub fields : List Field
 
-abbrev node : Field
+abbrev pub node : Field
 node = record { names = true; low = z; high = pos Limits.nodeEnd }
 
-abbrev number : ℕ → ℕ → Field
+abbrev pub number : ℕ → ℕ → Field
 number low high = record { names = false; low = pos low; high = pos high }
 
 -- the only fields that may be negative
-abbrev peakTo : ℕ → Field
+abbrev pub peakTo : ℕ → Field
 peakTo most = record { names = false; low = negℤ (pos most); high = pos most }
 
 -- a minus may stand before it
 abbrev pub signed : Field → Bool
 signed f = ltZ (f .low) z
 
-abbrev ohmic : Field
+abbrev pub ohmic : Field
 ohmic = number Limits.ohmsLow Limits.ohmsEnd
 
-abbrev kindOf : String → List Field → Kind
+abbrev pub kindOf : String → List Field → Kind
 kindOf s f = record { spelt = bytes s; fields = f }
 
 unfoldable pub kinds : List Kind
@@ -75,7 +75,7 @@ fieldsOf k = getD kinds k (record { spelt = []; fields = [] }) .fields
 
 -- ---- a row's words
 
-abbrev kindWord : ℤ → ℕ
+abbrev pub kindWord : ℤ → ℕ
 kindWord (pos k) = k
 kindWord (negsuc n) = noKind
 

@@ -63,7 +63,7 @@ unfoldable pub proposed : List Leg → List ℕ → Words → (ℕ → ℤ) → 
 proposed legs free still inject = map nearestOf (take (length free) (voltages (length free) (system legs free still inject)))
 
 -- "one that isn't within it, not-a-number included, is RANGE": the lowest such node, or 0
-abbrev outOf : Rounded → ℕ → ℕ → ℕ
+abbrev pub outOf : Rounded → ℕ → ℕ → ℕ
 outOf (Whole v) n rest = rest
 outOf Outside n rest = n
 
@@ -72,7 +72,7 @@ outOfRange [] xs = 0
 outOfRange (n ∷ ns) [] = 0
 outOfRange (n ∷ ns) (x ∷ xs) = outOf x n (outOfRange ns xs)
 
-abbrev settle : Words → ℕ → Rounded → Words
+abbrev pub settle : Words → ℕ → Rounded → Words
 settle v n (Whole x) = set v n x
 settle v n Outside = v
 
@@ -110,14 +110,14 @@ pub data Step : Type 0 where
 unfoldable pub stillOf : Net → ℕ → ℕ → Words
 stillOf N a k = fold (λ v n. cond (fixed N n) (set v n (held (N .rows) k n)) v) (replicate (suc Limits.nodeEnd) z) (nodesOf N a)
 
-abbrev andHistory : Net → List Branch → Words → ℕ → Step
+abbrev pub andHistory : Net → List Branch → Words → ℕ → Step
 andHistory N bs v zero = move v
 andHistory N bs v (suc r) = stop (History (branchNumber N (suc r)))
 
 unfoldable pub historyStep : Net → List Branch → Words → Step
 historyStep N bs v = andHistory N bs v (firstBeyond v 0 bs)
 
-abbrev andBalance : Step → ℕ → Step
+abbrev pub andBalance : Step → ℕ → Step
 andBalance next zero = next
 andBalance next (suc n) = stop (Unbalanced (suc n))
 
@@ -125,7 +125,7 @@ unfoldable pub balanceStep : Net → ℕ → ℕ → List Branch → Words → S
 balanceStep N a k bs v =
     andBalance (historyStep N bs v) (unbalanced (limit (N .head)) (bothLegs bs) (injected (N .rows) k) v (freeOf N a))
 
-abbrev andRange : Step → ℕ → Step
+abbrev pub andRange : Step → ℕ → Step
 andRange next zero = next
 andRange next (suc n) = stop (Range (suc n))
 
@@ -135,7 +135,7 @@ rangeStep N a k bs still xs = andRange (balanceStep N a k bs (settled (freeOf N 
 unfoldable pub solvedStep : Net → ℕ → ℕ → List Branch → Words → Step
 solvedStep N a k bs still = rangeStep N a k bs still (proposed (bothLegs bs) (freeOf N a) still (injected (N .rows) k))
 
-abbrev andFloating : Step → ℕ → Step
+abbrev pub andFloating : Step → ℕ → Step
 andFloating next zero = next
 andFloating next (suc n) = stop (Floating (suc n))
 

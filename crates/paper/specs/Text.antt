@@ -20,11 +20,11 @@ MINUS = 45
 
 -- ---- lines and fields
 
-abbrev push : ℕ → List (List ℕ) → List (List ℕ)
+abbrev pub push : ℕ → List (List ℕ) → List (List ℕ)
 push b [] = (b ∷ []) ∷ []
 push b (p ∷ ps) = (b ∷ p) ∷ ps
 
-abbrev cut : Bool → ℕ → List (List ℕ) → List (List ℕ)
+abbrev pub cut : Bool → ℕ → List (List ℕ) → List (List ℕ)
 cut true b ps = [] ∷ ps
 cut false b ps = push b ps
 

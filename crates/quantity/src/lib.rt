@@ -1,8 +1,7 @@
 // "The limits belong to the quantity they limit and are named once": each quantity of document 01 with its unit and its ends, and the constructor that
 // refuses a number outside them.
 ghost use mathlib.Core.Path.{_≡_};
-ghost use Rattle.whole.specs.Lists.{between};
-ghost use Rattle.quantity.specs.Checked.{checked};
+ghost use Rattle.quantity.specs.Checked.{between, checked};
 
 fn within(low: i64, high: i64, x: i64) -> bool
     ensures { λ r. ⌜ r ≡ between low high x ⌝ }

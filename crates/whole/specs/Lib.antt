@@ -13,3 +13,4 @@ pub mod Prefix
 pub mod Ranges
 pub mod Rounding
 pub mod Floor
+pub mod Members
