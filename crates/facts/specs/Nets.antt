@@ -1,23 +1,33 @@
 -- The facts of a network, in one record: all that a step, a check or a promise may take as known of a record that passes refusal 8, or of a table
 -- that passes. Assumes nothing.
-use Prim.Native.Nat.{ℕ, zero, suc, _+_, _*_, _≤_, _<_}
+use Prim.Native.Nat.{ℕ, zero, suc, _+_, _*_, _≤_, _<_, max}
+use native.Mathlib.Numerals.{add-one}
+use native.Mathlib.Decide.{decLt}
 use native.Mathlib.Omega.{arith}
 use mathlib.Core.Path.{_≡_, refl, sym, ap, _∙_}
+use mathlib.Core.Logic.{_↔_}
 use mathlib.Core.Bool.{Bool, true, false}
 use mathlib.Core.List.{List, [], _∷_}
-use lib.ListN.{length, getD, take}
+use lib.ListN.{length, getD, take, List·getD-eq-default}
+use lib.Dec.{eqb}
+use borrow.Author.Tests.{ne-eqb}
 use lib.IntN.{pos}
 use Rattle.whole.specs.Lists.{Words, z, word, nat, count, sum}
-use Rattle.whole.specs.Prefix.{sum-below, sum-within, total-alone}
+use Rattle.whole.specs.Folds.{count-next}
+use Rattle.whole.specs.Most.{most-at, most-least}
+use Rattle.whole.specs.Prefix.{sum-below, sum-within, total-alone, count-part}
 use Rattle.paper.specs.Limits as Limits
-use Rattle.paper.specs.Rows.{Row, isBranch, isSource}
+use Rattle.paper.specs.Rows.{Row, isBranch, isSource, isLine, from, to}
 use Rattle.paper.specs.Faults.{fixes, slots}
 use Rattle.paper.specs.Network.{Table, tableOf, passes, isNetwork}
-use Rattle.paper.specs.Areas.{Net, netOf, netOn, step}
+use Rattle.paper.specs.Areas.{Net, netOf, netOn, step, areaOf, areaCount, rowArea, joins, branchNumber}
 use Rattle.paper.specs.Records.{offset, slotCount}
 use Rattle.paper.specs.Sources.{source, held}
+use Rattle.paths.specs.Paths.{Linked}
+use Rattle.paths.specs.Meaning.{areaJoins}
 use Rattle.facts.specs.Sound.{StudySound, RowSound}
 use Rattle.facts.specs.Table as Tables
+use Rattle.facts.specs.Areas as Areas
 use Rattle.facts.specs.Layout as Layout
 
 abbrev pub rowAt : Net → ℕ → Row
@@ -32,6 +42,12 @@ pub record NetSound (N : Net) : Type 0 where
   pub sourceMost : count isSource (N .rows) ≤ Limits.sourceEnd
   pub slotMost : slotCount N ≤ Limits.slotEnd
   pub once : (i j n : ℕ) → i < length (N .rows) → j < length (N .rows) → fixes n (rowAt N i) ≡ true → fixes n (rowAt N j) ≡ true → i ≡ j
+  pub areaLength : length (N .areas) ≡ suc (N .nodes)
+  pub areaGround : areaOf N 0 ≡ 0
+  pub areaLeast : (n : ℕ) → 1 ≤ n → n ≤ N .nodes → 1 ≤ areaOf N n
+  pub areaMost : (n : ℕ) → n ≤ N .nodes → areaOf N n ≤ n
+  pub areaOne : (i : ℕ) → i < length (N .rows) → joins (rowAt N i) ≡ true → areaOf N (from (rowAt N i)) ≡ areaOf N (to (rowAt N i))
+  pub areaLinked : (n p : ℕ) → 1 ≤ n → n ≤ N .nodes → 1 ≤ p → p ≤ N .nodes → Linked (areaJoins (N .rows)) n p ↔ (areaOf N n ≡ areaOf N p)
 
 -- of a table: the study's row and the others
 pub table-sound : (h : Row) (rows : List Row) → passes (h ∷ rows) ≡ true → NetSound (netOf (h ∷ rows))
@@ -46,6 +62,12 @@ table-sound h rows e =
       sourceMost = Tables.source-most h rows e;
       slotMost = Tables.slot-most h rows e;
       once = Tables.once h rows e;
+      areaLength = Areas.length-areas h rows e;
+      areaGround = Areas.area-ground h rows e;
+      areaLeast = Areas.area-least h rows e;
+      areaMost = Areas.area-most h rows e;
+      areaOne = Areas.one-area h rows e;
+      areaLinked = Areas.area-linked h rows e;
     }
 
 -- ---- slots: "slots stand in table order"
@@ -70,6 +92,56 @@ held-is N s k n i h f = total-alone [] (fixes n) (source k) (N .rows) i h f othe
         go : (b : Bool) → fixes n (rowAt N j) ≡ b → b ≡ false
         go true g = absurd (u (s .once i j n h q f g))
         go false g = refl
+
+-- ---- areas
+
+pub area-of : (N : Net) (n : ℕ) → areaOf N n ≤ areaCount N
+unfolding areaCount
+area-of N n = go (decLt n (length (N .areas)))
+  where
+    go : Dec (n < length (N .areas)) → areaOf N n ≤ areaCount N
+    go (yes h) = most-at (λ a. a) 0 (N .areas) 0 n h
+    go (no h) = let z : areaOf N n ≡ 0 = List·getD-eq-default (N .areas) 0 (omega arith) in omega arith
+
+pub area-count-most : (N : Net) → NetSound N → areaCount N ≤ N .nodes
+unfolding areaCount
+area-count-most N s = most-least (λ a. a) 0 (N .nodes) (N .areas) 0 (omega arith) (λ i h. let k : i ≤ N .nodes = omega (arith, s .areaLength) in omega (arith, s .areaMost i k))
+
+-- the area of an R, L, C or SW is that of each of its ends that is not ground
+module _ (N : Net) (s : NetSound N) (i : ℕ) (h : i < length (N .rows)) (b : isBranch (rowAt N i) ≡ true) (p : isLine (rowAt N i) ≡ false) where
+  both-off : 1 ≤ from (rowAt N i) → 1 ≤ to (rowAt N i) → joins (rowAt N i) ≡ true
+  unfolding joins
+  both-off f t = rw (b, p, ne-eqb (from (rowAt N i)) 0 (λ q. omega arith), ne-eqb (to (rowAt N i)) 0 (λ q. omega arith))
+
+  pub row-area-from : 1 ≤ from (rowAt N i) → rowArea N (rowAt N i) ≡ areaOf N (from (rowAt N i))
+  row-area-from f = go (decLt (from (rowAt N i)) (to (rowAt N i)))
+    where
+      go : Dec (from (rowAt N i) < to (rowAt N i)) → rowArea N (rowAt N i) ≡ areaOf N (from (rowAt N i))
+      go (yes l) =
+          let m : max (from (rowAt N i)) (to (rowAt N i)) ≡ to (rowAt N i) = omega arith in
+          rw m (sym (s .areaOne i h (both-off f (omega arith))))
+      go (no l) = let m : max (from (rowAt N i)) (to (rowAt N i)) ≡ from (rowAt N i) = omega arith in rw m
+
+  pub row-area-to : 1 ≤ to (rowAt N i) → rowArea N (rowAt N i) ≡ areaOf N (to (rowAt N i))
+  row-area-to t = go (decLt (from (rowAt N i)) (to (rowAt N i)))
+    where
+      go : Dec (from (rowAt N i) < to (rowAt N i)) → rowArea N (rowAt N i) ≡ areaOf N (to (rowAt N i))
+      go (yes l) = let m : max (from (rowAt N i)) (to (rowAt N i)) ≡ to (rowAt N i) = omega arith in rw m
+      go (no l) =
+          let m : max (from (rowAt N i)) (to (rowAt N i)) ≡ from (rowAt N i) = omega arith in
+          rw m (s .areaOne i h (both-off (omega arith) t))
+
+-- ---- "Branches are numbered from 1 in table order, sources not counted"
+
+pub branch-number-most : (N : Net) → NetSound N → (i : ℕ) → branchNumber N i ≤ Limits.branchEnd
+unfolding branchNumber
+branch-number-most N s i = omega (arith, count-part [] isBranch (N .rows) i, s .branchMost)
+
+pub branch-number-next : (N : Net) (i : ℕ) → i < length (N .rows) → isBranch (rowAt N i) ≡ true → branchNumber N (suc i) ≡ suc (branchNumber N i)
+unfolding branchNumber
+branch-number-next N i h b =
+    let c : count isBranch (take (i + 1) (N .rows)) ≡ count isBranch (take i (N .rows)) + 1 = rw b at (count-next isBranch (N .rows) i [] h) in
+    omega (arith, rw add-one at c)
 
 -- ---- of a record
 

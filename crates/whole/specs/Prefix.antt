@@ -22,6 +22,20 @@ module _ {A : Type 0} (d : A) where
   sum-grows f (a ∷ l) (suc i) zero h = absurd (omega arith)
   sum-grows f (a ∷ l) (suc i) (suc j) h = omega (arith, sum-grows f l i j (omega arith))
 
+  pub count-grows : (p : A → Bool) (l : List A) (i j : ℕ) → i ≤ j → count p (take i l) ≤ count p (take j l)
+  unfolding count
+  count-grows p l zero j h = omega arith
+  count-grows p [] (suc i) zero h = absurd (omega arith)
+  count-grows p [] (suc i) (suc j) h = omega arith
+  count-grows p (a ∷ l) (suc i) zero h = absurd (omega arith)
+  count-grows p (a ∷ l) (suc i) (suc j) h = omega (arith, count-grows p l i j (omega arith))
+
+  pub count-part : (p : A → Bool) (l : List A) (i : ℕ) → count p (take i l) ≤ count p l
+  unfolding count
+  count-part p l zero = omega arith
+  count-part p [] (suc i) = omega arith
+  count-part p (a ∷ l) (suc i) = omega (arith, count-part p l i)
+
   -- what one place adds stands before every later place
   pub sum-below : (f : A → ℕ) (l : List A) (i j : ℕ) → i < j → i < length l → sum f (take i l) + f (getD l i d) ≤ sum f (take j l)
   sum-below f l i j h k = omega (arith, sum-next f l i d k, sum-grows f l (i + 1) j (omega arith))
