@@ -14,3 +14,4 @@ pub mod Ranges
 pub mod Rounding
 pub mod Floor
 pub mod Members
+pub mod Places

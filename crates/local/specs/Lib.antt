@@ -1,0 +1,12 @@
+pub mod Sound
+pub mod Own
+pub mod Nodes
+pub mod Puts
+pub mod Written
+pub mod Slots
+pub mod Waits
+pub mod Outcome
+pub mod Owners
+pub mod Touch
+pub mod Depends
+pub mod Quiet
