@@ -23,7 +23,8 @@ use Rattle.paper.specs.Records.{countAt, countOf, wellFormed}
 use Rattle.paper.specs.Legs.{Branch, Heard, here, sentTo, heardBy, heard, legsOf}
 use Rattle.paper.specs.Solve.{Step, stop, move, solve}
 use Rattle.paper.specs.Advance.{Memory, Advanced, advanced, written, finish, takeStep, ready, late, waitsFor, firstLate, orWait, onNext, onNet}
-use Rattle.local.specs.Sound.{rowAt, Sound}
+use Rattle.facts.specs.Nets.{rowAt}
+use Rattle.local.specs.Sound.{Sound}
 use Rattle.local.specs.Own.{ownerOf, own-count, legs-same, map-same}
 use Rattle.local.specs.Slots.{slotOf, delayAt}
 use Rattle.local.specs.Waits.{countAtNode, late-place}

@@ -18,7 +18,8 @@ use Rattle.paper.specs.Areas.{Net, areaOf, rowArea}
 use Rattle.paper.specs.Records.{countAt, voltAt, currentAt, toCurrentAt, historyAt}
 use Rattle.paper.specs.Legs.{Leg, leg, ownEnd, otherEnd, End, Branch, branch, Heard, here, lineEnd, lineLegs, plainLegs, legsBy, legsOf}
 use Rattle.paper.specs.Advance.{branchIn}
-use Rattle.local.specs.Sound.{rowAt, Sound}
+use Rattle.facts.specs.Nets.{rowAt}
+use Rattle.local.specs.Sound.{Sound}
 
 -- ---- whose each word of the records is; 0 for the unused ones
 

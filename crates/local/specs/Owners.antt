@@ -18,7 +18,8 @@ use Rattle.paper.specs.Areas.{Net, areaOf, areaCount, step}
 use Rattle.paper.specs.Records.{offset, wellFormed}
 use Rattle.paper.specs.Legs.{End, Branch, Heard, legsBy, heard}
 use Rattle.paper.specs.Advance.{Memory, Advanced, advanced, written, onNet}
-use Rattle.local.specs.Sound.{rowAt, Sound}
+use Rattle.facts.specs.Nets.{rowAt}
+use Rattle.local.specs.Sound.{Sound}
 use Rattle.local.specs.Own.{ownerOf, currentOwner, from-own, to-own}
 use Rattle.local.specs.Written.{records-keep}
 use Rattle.local.specs.Slots.{slotsAt, slotOf, some-slots, sends, sent, sent-other}

@@ -15,7 +15,8 @@ use Rattle.paper.specs.Rows.{Row, isLine, from, to}
 use Rattle.paper.specs.Areas.{Net, areaOf}
 use Rattle.paper.specs.Records.{countOf}
 use Rattle.paper.specs.Legs.{End, Branch, Heard, legsBy, heard}
-use Rattle.local.specs.Sound.{rowAt, Sound}
+use Rattle.facts.specs.Nets.{rowAt}
+use Rattle.local.specs.Sound.{Sound}
 use Rattle.local.specs.Own.{from-own, to-own}
 use Rattle.local.specs.Slots.{slotsAt, delayAt, slotOf, line-slots, some-slots, apart, sends, sent, sent-other}
 use Rattle.local.specs.Waits.{Allowed, Free}

@@ -3,17 +3,15 @@
 use Prim.Native.Nat.{ℕ, zero, suc, _+_, _*_, _%_, _≤_, _<_}
 use native.Mathlib.Nat.{mod-lt, add-left-cancel}
 use native.Mathlib.Decide.{decLt}
-use native.Mathlib.Numerals.{add-one}
 use native.Mathlib.Omega.{arith}
 use mathlib.Core.Path.{_≡_, refl, sym, ap, _∙_}
 use mathlib.Core.Logic.{_≢_}
 use mathlib.Core.Bool.{Bool, true, false, cond, _&&_}
 use mathlib.Core.List.{List, [], _∷_}
-use lib.ListN.{length, getD, take}
-use lib.Seq.{take-length}
+use lib.ListN.{length, getD}
 use lib.IntN.{ℤ}
-use Rattle.whole.specs.Lists.{Words, z, word, sum}
-use Rattle.whole.specs.Folds.{and-left, and-right, both, sum-next}
+use Rattle.whole.specs.Lists.{Words, z, word}
+use Rattle.whole.specs.Folds.{and-left, and-right}
 use Rattle.whole.specs.Turns.{turns}
 use Rattle.paper.specs.Rows.{Row, isLine}
 use Rattle.paper.specs.Faults.{delay, depth, slots}
@@ -21,7 +19,8 @@ use Rattle.paper.specs.Areas.{Net, step}
 use Rattle.paper.specs.Records.{offset, slotCount}
 use Rattle.paper.specs.Legs.{End, Branch, Heard, legsBy, legsOf, passedOn}
 use Rattle.paper.specs.Advance.{putIf, branchIn, putSent, newStore}
-use Rattle.local.specs.Sound.{rowAt, Sound}
+use Rattle.facts.specs.Nets.{rowAt, slots-within, slots-apart}
+use Rattle.local.specs.Sound.{Sound}
 use Rattle.local.specs.Own.{row-is, legs-length, branch-is}
 use Rattle.local.specs.Puts.{put-length, put-other, put-same, turns-length, turns-other, turns-put}
 
@@ -45,33 +44,18 @@ slotOf N i s = offset N i + s % slotsAt N i
 
 -- ---- a line's slots lie before those of the lines below it
 
-sum-more : (f : Row → ℕ) (l : List Row) (i j : ℕ) → i ≤ j → sum f (take i l) ≤ sum f (take j l)
-unfolding sum
-sum-more f l zero j h = omega arith
-sum-more f [] (suc i) zero h = absurd (omega arith)
-sum-more f [] (suc i) (suc j) h = omega arith
-sum-more f (x ∷ l) (suc i) zero h = absurd (omega arith)
-sum-more f (x ∷ l) (suc i) (suc j) h = omega (arith, sum-more f l i j (omega arith))
-
-below : (N : Net) (i j : ℕ) → i < j → i < length (N .rows) → offset N i + slotsAt N i ≤ offset N j
-unfolding offset
-below N i j h u = omega (arith, sum-next (slots (step N)) (N .rows) i [] u, sum-more (slots (step N)) (N .rows) (i + 1) j (omega arith))
-
 -- places s of line i and t of line j are the same only where the lines and the places are
 pub apart : (N : Net) (i j s t : ℕ) → i < length (N .rows) → j < length (N .rows) → s < slotsAt N i → t < slotsAt N j → (i ≡ j → s ≢ t) → offset N i + s ≢ offset N j + t
 apart N i j s t u v p q h e = go (decLt i j) (decLt j i)
   where
     go : Dec (i < j) → Dec (j < i) → ⊥
-    go (yes l) d = omega (arith, below N i j l u)
-    go (no l) (yes m) = omega (arith, below N j i m v)
+    go (yes l) d = omega (arith, slots-apart N i j l u)
+    go (no l) (yes m) = omega (arith, slots-apart N j i m v)
     go (no l) (no m) = let g : i ≡ j = omega arith in h g (add-left-cancel (offset N i) (e ∙ ap (λ (x : ℕ). offset N x + t) (sym g)))
 
 -- and they are all of the store's used part
 pub slots-inside : (N : Net) (i s : ℕ) → i < length (N .rows) → s < slotsAt N i → offset N i + s < slotCount N
-unfolding offset slotCount
-slots-inside N i s h p =
-    let e : sum (slots (step N)) (take (length (N .rows)) (N .rows)) ≡ sum (slots (step N)) (N .rows) = ap (sum (slots (step N))) (take-length (N .rows)) in
-    omega (arith, sum-next (slots (step N)) (N .rows) i [] h, sum-more (slots (step N)) (N .rows) (i + 1) (length (N .rows)) (omega arith))
+slots-inside N i s h p = omega (arith, slots-within N i h)
 
 -- ---- what a step writes at one end of its lines
 

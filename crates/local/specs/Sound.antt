@@ -1,21 +1,19 @@
--- What every network that passes refusal 8 has, as far as an area's advance needs it. Assumes nothing.
+-- What an area's advance needs of its network: a part of what every network that passes refusal 8 has. Assumes nothing.
 use Prim.Native.Nat.{ℕ, _≤_, _<_}
-use mathlib.Core.Path.{_≡_}
-use mathlib.Core.Bool.{true, false}
+use native.Mathlib.Decide.{decLt}
+use native.Mathlib.Omega.{arith}
+use mathlib.Core.Path.{_≡_, refl, sym, ap, _∙_}
+use mathlib.Core.Bool.{Bool, true, false, true≢false}
 use mathlib.Core.List.{[]}
-use lib.ListN.{length, getD}
-use lib.IntN.{natAbs}
+use borrow.Author.Tests.{eqb-true}
+use lib.ListN.{length, List·getD-eq-default}
 use Rattle.paper.specs.Limits as Limits
-use Rattle.paper.specs.Rows.{Row, isBranch, isLine, from, to}
+use Rattle.paper.specs.Rows.{Row, kind, isBranch, isLine, from, to}
 use Rattle.paper.specs.Conductance.{conductance}
 use Rattle.paper.specs.Faults.{delay}
 use Rattle.paper.specs.Areas.{Net, areaOf, areaCount, step, joins}
-use Rattle.paper.specs.Sources.{held}
 use Rattle.paper.specs.Records.{slotCount}
-
--- the row in place i, from 0
-abbrev pub rowAt : Net → ℕ → Row
-rowAt N i = getD (N .rows) i []
+use Rattle.facts.specs.Nets.{NetSound, rowAt, area-count-most}
 
 pub record Sound (N : Net) : Type 0 where
   pub rows : length (N .rows) ≤ Limits.rowEnd
@@ -26,10 +24,28 @@ pub record Sound (N : Net) : Type 0 where
   pub from-area : (i : ℕ) → isLine (rowAt N i) ≡ true → 1 ≤ areaOf N (from (rowAt N i))
   pub to-area : (i : ℕ) → isLine (rowAt N i) ≡ true → 1 ≤ areaOf N (to (rowAt N i))
   pub travels : (i : ℕ) → isLine (rowAt N i) ≡ true → 0 < delay (step N) (rowAt N i)
-  -- "Nodes joined by R, L, C or SW (open or closed) are in one area."
-  pub joined : (i : ℕ) → joins (rowAt N i) ≡ true → areaOf N (from (rowAt N i)) ≡ areaOf N (to (rowAt N i))
-  pub from-node : (i : ℕ) → isBranch (rowAt N i) ≡ true → from (rowAt N i) ≤ N .nodes
-  pub to-node : (i : ℕ) → isBranch (rowAt N i) ≡ true → to (rowAt N i) ≤ N .nodes
-  -- "conductance of one branch: 1 to 10^9", and a fixed node's voltage is in its range
-  pub conductances : (i : ℕ) → isBranch (rowAt N i) ≡ true → conductance (step N) (rowAt N i) ≤ Limits.conductanceEnd
-  pub voltages : (k n : ℕ) → natAbs (held (N .rows) k n) ≤ Limits.voltageEnd
+
+-- a row that is there: past the table no word is of a kind
+pub row-there : (N : Net) (i : ℕ) → isBranch (rowAt N i) ≡ true → i < length (N .rows)
+row-there N i e = go (decLt i (length (N .rows)))
+  where
+    go : Dec (i < length (N .rows)) → i < length (N .rows)
+    go (yes h) = h
+    go (no h) = absurd (true≢false (sym e ∙ ap isBranch (List·getD-eq-default (N .rows) [] (omega arith))))
+
+pub line-branch : (r : Row) → isLine r ≡ true → isBranch r ≡ true
+line-branch r e = rw (eqb-true (kind r) 4 e)
+
+pub sound : (N : Net) → NetSound N → Sound N
+sound N s = record {
+  rows = s .rowMost;
+  nodes = s .nodeMost;
+  areas = omega (arith, area-count-most N s, s .nodeMost);
+  slots = s .slotMost;
+  from-area = λ i l. let h = there i l in s .areaLeast (from (rowAt N i)) (s .row i h .line l .fromOff) (s .row i h .branch (line-branch (rowAt N i) l) .fromIn .most);
+  to-area = λ i l. let h = there i l in s .areaLeast (to (rowAt N i)) (s .row i h .line l .toOff) (s .row i h .branch (line-branch (rowAt N i) l) .toIn .most);
+  travels = λ i l. s .row i (there i l) .line l .late;
+}
+  where
+    there : (i : ℕ) → isLine (rowAt N i) ≡ true → i < length (N .rows)
+    there i l = row-there N i (line-branch (rowAt N i) l)

@@ -16,7 +16,7 @@ use Rattle.paper.specs.Areas.{Net, areaOf, step}
 use Rattle.paper.specs.Records.{countOf}
 use Rattle.paper.specs.Legs.{here}
 use Rattle.paper.specs.Advance.{late, waitsFor, firstLate}
-use Rattle.local.specs.Sound.{rowAt}
+use Rattle.facts.specs.Nets.{rowAt}
 use Rattle.local.specs.Slots.{delayAt}
 
 pub late-place : (N : Net) (a k : ℕ) (recs : Words) (i : ℕ) (rows : List Row) → firstLate N a k recs i rows ≡ place (waitsFor N a k recs) i rows

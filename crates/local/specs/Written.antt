@@ -3,23 +3,25 @@ use Prim.Native.Nat.{ℕ, zero, suc, _+_, _-_, _≤_, _<_}
 use native.Mathlib.Omega.{arith}
 use native.Mathlib.Decide.{ℕ-discrete}
 use mathlib.Core.Path.{_≡_, refl, sym, ap, _∙_}
-use mathlib.Core.Logic.{_≢_}
+use mathlib.Core.Logic.{_≢_, _⊎_, inl, inr}
 use mathlib.Core.Bool.{Bool, true, false, cond, _&&_, _||_, true≢false}
-use mathlib.Core.List.{List, [], _∷_}
+use mathlib.Core.List.{List, [], _∷_, List·Memᴰ·not-nil, List·Memᴰ·cases-cons}
 use lib.ListN.{length, getD, set, length-set}
 use lib.Seq.{getD-set-same, getD-set-other}
 use lib.IntN.{ℤ, pos}
 use Rattle.whole.specs.Lists.{Words, z, word, fold}
 use Rattle.whole.specs.Folds.{and-left, and-right}
+use Rattle.whole.specs.Members.{Among, top, below}
 use Rattle.whole.specs.Turns.{turns}
 use Rattle.paper.specs.Rows.{Row, isLine, isL, isC, to}
 use Rattle.paper.specs.Areas.{Net, areaOf, nodesOf}
 use Rattle.paper.specs.Records.{countAt, voltAt, currentAt, toCurrentAt, historyAt}
 use Rattle.paper.specs.Legs.{Branch, Heard, legsBy, legsOf, current, passedOn}
 use Rattle.paper.specs.Advance.{putIf, branchIn, putRow, putVolts, newRecords}
-use Rattle.local.specs.Sound.{rowAt, Sound}
+use Rattle.facts.specs.Nets.{rowAt}
+use Rattle.local.specs.Sound.{Sound}
 use Rattle.local.specs.Own.{ownerOf, currentOwner, own-count, own-volt, own-current, own-to, own-history, row-is, from-own, to-own, legs-length, branch-is, line-no}
-use Rattle.local.specs.Nodes.{Among, now, later, NodeOf, node-of, of-node}
+use Rattle.local.specs.Nodes.{NodeOf, node-of, of-node}
 use Rattle.local.specs.Puts.{put-length, put-other, put-same, turns-length, turns-other, turns-put}
 
 -- ---- voltages
@@ -32,7 +34,7 @@ volts-length v (n ∷ ns) w = volts-length v ns (set w (voltAt n) (word v n)) �
 volts-other : (j : ℕ) (v : Words) (ns : List ℕ) → ((n : ℕ) → Among n ns → j ≢ voltAt n) → (w : Words) → word (putVolts v ns w) j ≡ word w j
 unfolding putVolts fold
 volts-other j v [] h w = refl
-volts-other j v (n ∷ ns) h w = volts-other j v ns (λ m p. h m (later p)) (set w (voltAt n) (word v n)) ∙ getD-set-other w (voltAt n) j (word v n) z (h n now)
+volts-other j v (n ∷ ns) h w = volts-other j v ns (λ m p. h m (below p)) (set w (voltAt n) (word v n)) ∙ getD-set-other w (voltAt n) j (word v n) z (h n (top refl))
 
 -- what stands there, once written, stays
 volts-stay : (n : ℕ) (v : Words) (ns : List ℕ) (w : Words) → voltAt n < length w → word w (voltAt n) ≡ word v n → word (putVolts v ns w) (voltAt n) ≡ word v n
@@ -46,9 +48,16 @@ volts-stay n v (m ∷ ns) w l e = volts-stay n v ns (set w (voltAt m) (word v m)
 
 volts-put : (n : ℕ) (v : Words) (ns : List ℕ) → Among n ns → (w : Words) → voltAt n < length w → word (putVolts v ns w) (voltAt n) ≡ word v n
 unfolding putVolts fold
-volts-put n v (n′ ∷ ns) now w l =
-    volts-stay n v ns (set w (voltAt n) (word v n)) (rw (length-set w (voltAt n) (word v n)) l) (getD-set-same w (voltAt n) (word v n) z l)
-volts-put n v (m ∷ ns) (later p) w l = volts-put n v ns p (set w (voltAt m) (word v m)) (rw (length-set w (voltAt m) (word v m)) l)
+volts-put n v [] p w l = absurd (List·Memᴰ·not-nil p)
+volts-put n v (m ∷ ns) p w l = go (List·Memᴰ·cases-cons p) (volts-put n v ns)
+  where
+    more : voltAt n < length (set w (voltAt m) (word v m))
+    more = rw (length-set w (voltAt m) (word v m)) l
+
+    go : (n ≡ m) ⊎ Among n ns → (Among n ns → (w : Words) → voltAt n < length w → word (putVolts v ns w) (voltAt n) ≡ word v n)
+        → word (putVolts v ns (set w (voltAt m) (word v m))) (voltAt n) ≡ word v n
+    go (inl e) ih = volts-stay n v ns (set w (voltAt m) (word v m)) more (rw e (getD-set-same w (voltAt m) (word v m) z (rw e at l)))
+    go (inr q) ih = ih q (set w (voltAt m) (word v m)) more
 
 -- ---- rows
 
@@ -113,7 +122,7 @@ module _ (N : Net) (a k : ℕ) (recs : Words) (ears : List Heard) (v : Words) wh
   pub records-other : (w : Words) (j : ℕ) → Unwritten j → word (new w) j ≡ word w j
   unfolding newRecords
   records-other w j u =
-      rows-other j (u .froms) (u .tos) (u .histories) _ ∙ volts-other j v (nodesOf N a) (λ n p. u .volts n (node-of N a n p)) _
+      rows-other j (u .froms) (u .tos) (u .histories) _ ∙ volts-other j v (nodesOf N a) (λ n p. u .volts n (node-of N a p)) _
       ∙ getD-set-other w (countAt a) j (pos k) z (u .count)
 
   module _ (f : Sound N) (one : 1 ≤ a) (most : a ≤ 32) (w : Words) (long : length w ≡ 512) where
@@ -125,7 +134,7 @@ module _ (N : Net) (a k : ℕ) (recs : Words) (ears : List Heard) (v : Words) wh
     unfolding newRecords
     count-put =
         low-other (countAt a) (omega arith) _
-        ∙ volts-other (countAt a) v (nodesOf N a) (λ n p e. omega (arith, node-of N a n p .low)) _
+        ∙ volts-other (countAt a) v (nodesOf N a) (λ n p e. omega (arith, node-of N a p .low)) _
         ∙ getD-set-same w (countAt a) (pos k) z (rw long (omega arith))
 
     pub volt-put : (n : ℕ) → NodeOf N a n → word (new w) (voltAt n) ≡ word v n

@@ -74,9 +74,9 @@ row-number : (N : Net) (r : ℕ) → r < length (N .rows) → isBranch (getD (N 
 unfolding branchNumber
 row-number N r h e =
     let more : count isBranch (take (suc r) (N .rows)) ≡ count isBranch (take r (N .rows)) + 1 =
-      rw (← add-one r) (count-next isBranch (N .rows) r [] h ∙ ap (λ (b : Bool). count isBranch (take r (N .rows)) + cond b 1 0) e) in
+    rw (← add-one r) (count-next isBranch (N .rows) r [] h ∙ ap (λ (b : Bool). count isBranch (take r (N .rows)) + cond b 1 0) e) in
     let all : count isBranch (N .rows) ≡ count isBranch (take (suc r) (N .rows)) + count isBranch (drop (suc r) (N .rows)) =
-      ap (count isBranch) (sym (take-append-drop (suc r) (N .rows))) ∙ count-append isBranch (take (suc r) (N .rows)) (drop (suc r) (N .rows)) in
+    ap (count isBranch) (sym (take-append-drop (suc r) (N .rows))) ∙ count-append isBranch (take (suc r) (N .rows)) (drop (suc r) (N .rows)) in
     omega arith
 
 -- the row in place r of a list that starts at place i
