@@ -10,7 +10,7 @@ use lib.Ieee as Ieee
 FLOATS = ("add", "sub", "mul", "div", "ofInt", "lt", "le")
 MEANING = "crates/paper/specs/"
 FOLDS = "crates/whole/specs/"
-LAWS = ("Computing", "Examples", "Kept", "Total", "Places", "One")
+LAWS = ("Computing", "Examples", "Cases", "Kept", "Total", "Places", "One")
 
 
 def opened(path):
@@ -19,7 +19,7 @@ def opened(path):
 
 
 def main():
-    modules = [("Turns", FOLDS, "Rattle.whole.specs."), ("Lists", FOLDS, "Rattle.whole.specs.")]
+    modules = [(name, FOLDS, "Rattle.whole.specs.") for name in ("Turns", "Lists", "Rounding")]
     for line in open(MEANING + "Lib.antt"):
         name = line.split()[2]
         if name not in LAWS:

@@ -20,6 +20,7 @@ pub mod Resetting
 pub mod Listing
 pub mod Computing
 pub mod Examples
+pub mod Cases
 pub mod Kept
 pub mod Total
 pub mod Places
