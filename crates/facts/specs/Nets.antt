@@ -47,11 +47,12 @@ pub record NetSound (N : Net) : Type 0 where
   pub areaLeast : (n : ℕ) → 1 ≤ n → n ≤ N .nodes → 1 ≤ areaOf N n
   pub areaMost : (n : ℕ) → n ≤ N .nodes → areaOf N n ≤ n
   pub areaOne : (i : ℕ) → i < length (N .rows) → joins (rowAt N i) ≡ true → areaOf N (from (rowAt N i)) ≡ areaOf N (to (rowAt N i))
+  pub areaSome : (a : ℕ) → 1 ≤ a → a ≤ areaCount N → (n : ℕ) × ((1 ≤ n) × ((n ≤ N .nodes) × (areaOf N n ≡ a)))
   pub areaLinked : (n p : ℕ) → 1 ≤ n → n ≤ N .nodes → 1 ≤ p → p ≤ N .nodes → Linked (areaJoins (N .rows)) n p ↔ (areaOf N n ≡ areaOf N p)
 
 -- of a table: the study's row and the others
 pub table-sound : (h : Row) (rows : List Row) → passes (h ∷ rows) ≡ true → NetSound (netOf (h ∷ rows))
-unfolding netOf netOn slotCount
+unfolding netOf netOn slotCount areaCount
 table-sound h rows e =
     record {
       study = Tables.study-sound h rows e;
@@ -67,6 +68,7 @@ table-sound h rows e =
       areaLeast = Areas.area-least h rows e;
       areaMost = Areas.area-most h rows e;
       areaOne = Areas.one-area h rows e;
+      areaSome = λ a l k. Areas.area-some h rows e _ a (omega arith) l (omega (arith, Areas.area-count h rows e, k));
       areaLinked = Areas.area-linked h rows e;
     }
 
