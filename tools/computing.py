@@ -7,7 +7,7 @@ HEAD = """-- Everything that a worked example computes with: a theorem that says
 use Prim.Native.Nat.{ℕ}
 use lib.Ieee as Ieee
 """
-FLOATS = ("add", "sub", "mul", "div", "ofInt", "lt", "le")
+FLOATS = ("add", "sub", "mul", "div", "ofInt")
 MEANING = "crates/paper/specs/"
 FOLDS = "crates/whole/specs/"
 LAWS = ("Computing", "Examples", "Cases", "Kept", "Total", "Places", "One")
