@@ -14,4 +14,6 @@ pub mod Ranges
 pub mod Rounding
 pub mod Floor
 pub mod Members
+pub mod Index
 pub mod Places
+pub mod Written

@@ -1,0 +1,20 @@
+-- `rows::number` meets its contract: the word is no negative number. Assumes nothing.
+use mathlib.Core.Path.{_≡_, ap, _∙_}
+use borrow.Author.Needs.{needs}
+use lib.IntN.{natAbs}
+use Rattle.whole.specs.Int.{read64}
+use Rattle.whole.specs.Index.{index}
+use Rattle.rows.proofs.number.Statement.{statement}
+use Rattle.rows.proofs.number.Tie as tie
+
+value-requires : tie.Need-value-requires
+value-requires c κs = search needs
+
+cast-result : tie.Need-cast-result
+cast-result c = index (c .value .result) _ (c .value .ok) (c .value .ensures ∙ c .before .pre .1 .1)
+
+returns : tie.Need-returns
+returns c = ap natAbs (read64 (c .value .result) (c .value .ok) ∙ c .value .ensures)
+
+pub number-spec : {M : Type 1} → statement M
+number-spec = tie.close (tie.spec value-requires cast-result returns)
