@@ -2,3 +2,4 @@ pub mod Wires
 pub mod Leaving
 pub mod Shares
 pub mod Sums
+pub mod Free

@@ -14,7 +14,7 @@ use Rattle.whole.specs.Lists.{Words, z, word, nat, total}
 use Rattle.whole.specs.Totals.{total-cong}
 use Rattle.whole.specs.Size.{∣_∣≤_, add, sub, mul, weaken}
 use Rattle.paper.specs.Limits as Limits
-use Rattle.paper.specs.Legs.{Leg, through, current}
+use Rattle.paper.specs.Legs.{Leg, through, current, echo}
 use Rattle.paper.specs.Solve.{leaves, leads, entry, rightSide, imbalance}
 use Rattle.wires.specs.Wires.{legAt, legsIn, Sized}
 use Rattle.wires.specs.Leaving.{leaving, leaving-size}
@@ -125,11 +125,18 @@ module _ {near far : List ℕ} {g h : Words} {rows : ℕ} (s : Sized near far g 
   pub drawn-sum : {still : Words} → Volts still → (p j : ℕ) → j ≤ 2 * rows → ∣ leaving p (drawn still) (legsIn near far g h j) ∣≤ 7680000000000000000
   drawn-sum {still} u p j l = leaving-size s p (drawn still) 120000000000000000 (drawn-size u) (drawn-idle still) j l
 
-  -- g·(v near - v far) + h: 10^9 · 4·10^7 + 10^17
+  -- g·(v near - v far): 10^9 · 4·10^7
+  pub through-size : {v : Words} → Volts v → (j : ℕ) → j < 2 * rows → ∣ through v (legAt near far g h j) ∣≤ 40000000000000000
+  unfolding through
+  through-size u j l = mul (leg-g j l) (sub (volt-size u (legAt near far g h j .near)) (volt-size u (legAt near far g h j .far)))
+
   pub current-size : {v : Words} → Volts v → (j : ℕ) → j < 2 * rows → ∣ current v (legAt near far g h j) ∣≤ 140000000000000000
-  unfolding current through
-  current-size u j l =
-      add (mul (leg-g j l) (sub (volt-size u (legAt near far g h j .near)) (volt-size u (legAt near far g h j .far)))) (leg-h j l)
+  unfolding current
+  current-size u j l = add (through-size u j l) (leg-h j l)
+
+  pub echo-size : {v : Words} → Volts v → (j : ℕ) → j < 2 * rows → ∣ echo v (legAt near far g h j) ∣≤ 180000000000000000
+  unfolding echo
+  echo-size u j l = add (current-size u j l) (through-size u j l)
 
   pub current-sum : {v : Words} → Volts v → (p j : ℕ) → j ≤ 2 * rows → ∣ leaving p (current v) (legsIn near far g h j) ∣≤ 8960000000000000000
   current-sum {v} u p j l = leaving-size s p (current v) 140000000000000000 (current-size u) (current-idle v) j l

@@ -4,7 +4,7 @@ use mathlib.Core.Path.{_≡_, refl, sym, ap, _∙_}
 use mathlib.Core.Bool.{Bool, true, false, cond}
 use mathlib.Core.List.{List, []}
 use native.Mathlib.Omega.{arith}
-use borrow.Author.Tests.{eqb-true, eqb-false}
+use borrow.Author.Tests.{eqb-true, eqb-false, eq-eqb}
 use lib.ListN.{getD, set, length, length-set, replicate, length-replicate, getD-replicate}
 use lib.Seq.{getD-set-same, getD-set-other}
 use lib.Dec.{eqb}
@@ -45,3 +45,10 @@ module _ (f : Leg → ℤ) (near far : List ℕ) (g h : Words) (j : ℕ) {w : Wo
     long = length-set w (getD near j 0) _ ∙ s .long;
     at = λ p l. by-node p l (eqb (getD near j 0) p) refl ∙ sym (leaving-more p f near far g h j);
   }
+
+  -- the leg's node with the leg added
+  pub sum-after : word w (getD near j 0) +ℤ f (legAt near far g h j) ≡ leaving (getD near j 0) f (legsIn near far g h (j + 1))
+  sum-after =
+      ap (λ (x : ℤ). x +ℤ f (legAt near far g h j)) (s .at (getD near j 0) node)
+      ∙ ap (λ (t : Bool). leaving (getD near j 0) f (legsIn near far g h j) +ℤ cond t (f (legAt near far g h j)) z) (sym (eq-eqb (getD near j 0) (getD near j 0) refl))
+      ∙ sym (leaving-more (getD near j 0) f near far g h j)

@@ -1,0 +1,76 @@
+// "At each free node the exact whole-number sum of currents leaving, minus injection, has magnitude at most the limit. A line counts at each end
+// with that end's own current."
+ghost use Prim.Native.Nat.{ℕ, _*_, _≤_, _<_};
+ghost use mathlib.Core.Path.{_≡_};
+ghost use lib.ListN.{take};
+ghost use lib.Dec.{T};
+ghost use lib.Signed.{nonNeg};
+ghost use Rattle.whole.specs.Lists.{word, nat};
+ghost use Rattle.paper.specs.Legs.{current};
+ghost use Rattle.paper.specs.Solve.{unbalanced};
+ghost use Rattle.wires.specs.Wires.{legsIn, Sized};
+ghost use Rattle.wires.specs.Shares.{Volts};
+ghost use Rattle.wires.specs.Sums.{Sums};
+ghost use Rattle.wires.specs.Free.{Free, Injects};
+ghost use Rattle.balance.specs.Past.{Near, firstPast};
+
+// by node, the currents that leave it
+fn currents(
+    near: &[usize; 160],
+    far: &[usize; 160],
+    g: &[i64; 160],
+    h: &[i64; 160],
+    rows: usize,
+    v: &[i64; 33],
+) -> [i64; 33]
+    requires { ⌜ Sized (now near) (now far) (now g) (now h) rows × Volts (now v) ⌝ }
+    ensures { λ r. ⌜ Sums (current (now (v .entry))) (legsIn (now (near .entry)) (now (far .entry)) (now (g .entry)) (now (h .entry)) (2 * rows)) r ⌝ }
+{
+    let mut sums = [0; 33];
+    let legs = 2 * rows;
+    let mut j = 0;
+    while j < legs {
+        let p = near[j];
+        let i = wires::current(near, far, g, h, rows, v, j);
+        sums[p] = sums[p] + i;
+        j += 1;
+    }
+    sums
+}
+
+// the lowest free node at which a and b differ by more than the limit, or 0
+fn first_past(a: &[i64; 33], b: &[i64; 33], free: &[usize; 32], n: usize, limit: i64) -> usize
+    requires { ⌜ Near (now a) (now b) ⌝ ∗ ⌜ Free (now free) n ⌝ ∗ ⌜ T (nonNeg limit) ⌝ }
+    ensures { λ r. ⌜ r ≡ firstPast (nat limit) (now (a .entry)) (now (b .entry)) (take n (now (free .entry))) ⌝ }
+{
+    let mut i = 0;
+    while i < n {
+        let p = free[i];
+        let ok = wires::within(a[p] - b[p], limit);
+        if !ok {
+            return p;
+        }
+        i += 1;
+    }
+    0
+}
+
+// the lowest free node at which the limit is passed, or 0
+pub fn balance(
+    near: &[usize; 160],
+    far: &[usize; 160],
+    g: &[i64; 160],
+    h: &[i64; 160],
+    rows: usize,
+    v: &[i64; 33],
+    inject: &[i64; 33],
+    free: &[usize; 32],
+    n: usize,
+    limit: i64,
+) -> usize
+    requires { ⌜ Sized (now near) (now far) (now g) (now h) rows × Volts (now v) ⌝ ∗ ⌜ Injects (now inject) ⌝ ∗ ⌜ Free (now free) n ⌝ ∗ ⌜ T (nonNeg limit) ⌝ }
+    ensures { λ r. ⌜ r ≡ unbalanced (nat limit) (legsIn (now (near .entry)) (now (far .entry)) (now (g .entry)) (now (h .entry)) (2 * rows)) (λ p. word (now (inject .entry)) p) (now (v .entry)) (take n (now (free .entry))) ⌝ }
+{
+    let sums = currents(near, far, g, h, rows, v);
+    first_past(&sums, inject, free, n, limit)
+}
