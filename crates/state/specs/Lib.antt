@@ -1,0 +1,4 @@
+pub mod Within
+pub mod Kinds
+pub mod Judged
+pub mod Formed
