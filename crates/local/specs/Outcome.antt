@@ -163,3 +163,14 @@ module _ (N : Net) (a : ℕ) (m : Memory) where
           solved = v;
           is = x;
         }
+
+    -- a refused call leaves all as it was
+    pub refused : accepted (onNet N a m .answer) ≡ false → onNet N a m .after ≡ m
+    refused t = go outcome
+      where
+        go : Outcome → onNet N a m .after ≡ m
+        go (no-area e x) = rw x
+        go (done e d x) = rw x
+        go (waits r e d l x) = rw x
+        go (stops y s e d l v x) = rw x
+        go (takes e d l v x) = absurd (true≢false (sym (ap (λ (r : Advanced). accepted (r .answer)) x) ∙ t))

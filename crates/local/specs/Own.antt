@@ -79,7 +79,7 @@ module _ (N : Net) (a k : ℕ) (recs : Words) (ears : List Heard) (i : ℕ) wher
   r = rowAt N i
 
   -- a row's two legs, by its kind
-  abbrev byKind : Bool → Bool → Branch
+  abbrev pub byKind : Bool → Bool → Branch
   byKind x y = cond x (lineLegs N a k r (getD ears i deaf)) (cond y (plainLegs N k r (word recs (historyAt i))) (branch r otherEnd otherEnd))
 
   pub row-is : legsBy N a k recs ears i .row ≡ r

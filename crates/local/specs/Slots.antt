@@ -69,7 +69,7 @@ module _ (N : Net) (a k : ℕ) (recs : Words) (ears : List Heard) (v : Words) (e
   abbrev value : ℕ → ℤ
   value i = passedOn v (rowAt N i) (end (legsBy N a k recs ears i) .wire)
 
-  sent-as : (i : ℕ) (w : Words) → i < length (N .rows) → putSent N k end (legsOf N a k recs ears) v i w ≡ putIf (sends i) w (slotOf N i k) (value i)
+  pub sent-as : (i : ℕ) (w : Words) → i < length (N .rows) → putSent N k end (legsOf N a k recs ears) v i w ≡ putIf (sends i) w (slotOf N i k) (value i)
   unfolding putSent
   sent-as i w h = rw (branch-is N a k recs ears i h, row-is N a k recs ears i)
 

@@ -82,14 +82,14 @@ module _ (N : Net) (a k : ℕ) (recs : Words) (ears : List Heard) (v : Words) wh
   unfolding putRow
   row-length i w = simp put-length
 
-  abbrev oneRow : ℕ → Words → Words
+  abbrev pub oneRow : ℕ → Words → Words
   oneRow i w =
       let c = by i in
       let w₁ = putIf (c .fromEnd .own) w (currentAt i) (current v (c .fromEnd .wire)) in
       let w₂ = putIf (isLine (rowAt N i) && c .toEnd .own) w₁ (toCurrentAt i) (current v (c .toEnd .wire)) in
       putIf ((isL (rowAt N i) || isC (rowAt N i)) && c .fromEnd .own) w₂ (historyAt i) (passedOn v (rowAt N i) (c .fromEnd .wire))
 
-  row-as : (i : ℕ) (w : Words) → i < length (N .rows) → putRow bs v i w ≡ oneRow i w
+  pub row-as : (i : ℕ) (w : Words) → i < length (N .rows) → putRow bs v i w ≡ oneRow i w
   unfolding putRow
   row-as i w h = rw (branch-is N a k recs ears i h, row-is N a k recs ears i)
 

@@ -17,3 +17,4 @@ pub mod Members
 pub mod Index
 pub mod Places
 pub mod Written
+pub mod Within

@@ -1,0 +1,5 @@
+pub mod Formed
+pub mod Volts
+pub mod Sizes
+pub mod Bounds
+pub mod Stays
