@@ -6,3 +6,4 @@ pub mod Layout
 pub mod Joins
 pub mod Areas
 pub mod Nets
+pub mod Places

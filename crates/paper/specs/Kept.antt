@@ -1,28 +1,23 @@
 -- "Every refusal leaves all lent memory unchanged.", of all three calls: T-kept. Assumes nothing.
-use Prim.Native.Nat.{ℕ, zero, suc, _+_, _<_, _≤_}
-use native.Mathlib.Omega.{arith}
-use mathlib.Core.Path.{_≡_, refl, sym, ap, _∙_}
+use Prim.Native.Nat.{ℕ, zero, suc}
+use mathlib.Core.Path.{_≡_, refl}
 use mathlib.Core.Logic.{_≢_}
 use mathlib.Core.Bool.{Bool, true, false, cond, not, _&&_, true≢false}
-use mathlib.Core.List.{List, [], _∷_}
+use mathlib.Core.List.{List}
 use lib.ListN.{length}
 use lib.Dec.{eqb, leb, ltb}
-use Rattle.paper.specs.declared.Reading.{Reading}
-use Rattle.paper.specs.declared.Advance.{Advance}
-use Rattle.paper.specs.declared.Advance.the-variants.{Took}
-use Rattle.paper.specs.declared.Resetting.{Resetting}
 use Rattle.whole.specs.Lists.{Words}
 use Rattle.paper.specs.Limits as Limits
 use Rattle.paper.specs.Answers.{readingNumber, resettingNumber, accepted}
-use Rattle.paper.specs.Network.{isNetwork, tableOf}
-use Rattle.paper.specs.Areas.{Net, netOf, areaCount}
+use Rattle.paper.specs.Network.{isNetwork}
+use Rattle.paper.specs.Areas.{Net, areaCount}
 use Rattle.paper.specs.Rows.{steps}
 use Rattle.paper.specs.Records.{countOf, wellFormed}
 use Rattle.paper.specs.Legs.{Branch, heard, legsOf}
 use Rattle.paper.specs.Solve.{Step, stop, move, solve}
-use Rattle.paper.specs.Reading.{Read-out, readOut, readEnd, Lines, good, bad, linesOf, readOf}
-use Rattle.paper.specs.Advance.{Memory, Advanced, advanced, finish, takeStep, ready, orWait, firstLate, onNext, onNet, fits, advanceOf}
-use Rattle.paper.specs.Resetting.{Reset-out, resetOf, fresh}
+use Rattle.paper.specs.Reading.{Read-out, readEnd, Lines, good, bad, linesOf, readOf}
+use Rattle.paper.specs.Advance.{Memory, Advanced, finish, takeStep, ready, orWait, firstLate, onNext, onNet, fits, advanceOf}
+use Rattle.paper.specs.Resetting.{Reset-out, resetOf}
 
 -- both branches of a test
 pub either : {A : Type 0} (P : A → Type 0) (b : Bool) (x y : A) → P x → P y → P (cond b x y)

@@ -3,28 +3,27 @@ use Prim.Native.Nat.{ℕ, zero, suc, _+_, _≤_, _<_}
 use native.Mathlib.Omega.{arith}
 use native.Mathlib.Numerals.{add-one}
 use native.Mathlib.Nat.{zero-add}
-use mathlib.Core.Path.{_≡_, refl, sym, ap, _∙_, subst}
-use mathlib.Core.Bool.{Bool, true, false, cond, not, _&&_, _||_, true≢false}
-use mathlib.Core.List.{List, [], _∷_, _++_, map}
+use mathlib.Core.Path.{_≡_, refl, sym, ap, _∙_}
+use mathlib.Core.Bool.{Bool, true, false, cond, not, _&&_, true≢false}
+use mathlib.Core.List.{List, [], _∷_, map}
 use lib.ListN.{length, getD, take, drop, length-map, take-append-drop}
-use lib.Dec.{leb, ltb, eqb}
+use lib.Dec.{leb, eqb}
 use borrow.Author.Tests.{eqb-true}
 use Rattle.paper.specs.declared.Advance.{Advance}
 use Rattle.paper.specs.declared.Advance.the-variants.{Took, State, Area, Done, Wait, Floating, Range, Unbalanced, History}
 use Rattle.paper.specs.declared.Advance.the-variants as A
 use Rattle.paper.specs.declared.Rounded.{Rounded}
 use Rattle.paper.specs.declared.Rounded.the-variants.{Whole, Outside}
-use Rattle.whole.specs.Lists.{Words, z, word, upTo, count, keep, numbers, first}
+use Rattle.whole.specs.Lists.{Words, z, word, upTo, count, numbers}
 use Rattle.whole.specs.Folds.{and-left, count-append, count-next, length-numbers, getD-map, getD-numbers}
 use Rattle.whole.specs.Members.{Among, top, below, keep-among, numbers-among, first-among}
-use Rattle.paper.specs.Limits as Limits
-use Rattle.paper.specs.Rows.{Row, kind, limit, isBranch, isLine, isL, isC, steps}
+use Rattle.paper.specs.Rows.{Row, kind, limit, isBranch, isLine, steps}
 use Rattle.paper.specs.Network.{isNetwork, tableOf}
 use Rattle.paper.specs.Areas.{Net, netOf, areaCount, rowArea, nodesOf, freeOf, fixed, branchNumber}
 use Rattle.paper.specs.Records.{countOf, historyAt, wellFormed}
-use Rattle.paper.specs.Legs.{Leg, Branch, branch, otherEnd, Heard, heard, legsOf, legsBy, lineLegs, plainLegs, bothLegs, passedOn, echo}
+use Rattle.paper.specs.Legs.{Leg, Branch, branch, otherEnd, Heard, heard, legsOf, legsBy, lineLegs, plainLegs, bothLegs, passedOn}
 use Rattle.paper.specs.Sources.{injected}
-use Rattle.paper.specs.Floating.{floating, reached}
+use Rattle.paper.specs.Floating.{floating}
 use Rattle.paper.specs.Solve.{Step, stop, move, solve, solvedStep, rangeStep, balanceStep, historyStep, andFloating, andRange, andBalance, andHistory, settled, stillOf, outOfRange, unbalanced, beyond, firstBeyond}
 use Rattle.paper.specs.Advance.{Memory, Advanced, finish, takeStep, ready, orWait, waitsFor, firstLate, onNext, onNet, fits, advanceOf}
 use Rattle.paper.specs.Kept.{either}

@@ -15,6 +15,7 @@ pub mod Rounding
 pub mod Floor
 pub mod Members
 pub mod Index
+pub mod Rising
 pub mod Places
 pub mod Written
 pub mod Within

@@ -1,0 +1,4 @@
+pub mod HasPath
+pub mod Legs
+pub mod Search
+pub mod Floats
