@@ -4,13 +4,14 @@ use native.Mathlib.Omega.{arith}
 use mathlib.Core.Path.{_≡_, refl, sym, ap, _∙_, subst}
 use mathlib.Core.Bool.{Bool, true, false, cond, _&&_, true≢false}
 use mathlib.Core.List.{List, [], _∷_, _++_, tail}
-use lib.ListN.{length, getD, take, drop, replicate, length-append, length-take, length-replicate, List·getD-append, List·getD-eq-default}
+use lib.ListN.{length, getD, take, drop, length-append, length-take, List·getD-append, List·getD-eq-default}
 use lib.Seq.{getD-take, getD-append-add, length-take-le}
 use lib.Dec.{T, leb, eqb, lit≤}
 use lib.IntN.{ℤ, pos, negsuc}
 use borrow.Author.Tests.{eqb-true}
 use Rattle.whole.specs.Lists.{Words, z, word, nat, between, same, sameWords, filled}
 use Rattle.whole.specs.Folds.{and-left, and-right}
+use Rattle.whole.specs.Filled.{length-filled, getD-filled}
 use Rattle.paper.specs.Limits as Limits
 use Rattle.paper.specs.Rows.{Row, kinds, fieldsOf, kind}
 use Rattle.paper.specs.Network.{Table, laid, networkOf, rowOfWords, rowsOf, rowCount, tableOf, passes, isNetwork}
@@ -31,25 +32,6 @@ sameWords-eq [] [] e = refl
 sameWords-eq [] (y ∷ m) e = absurd (true≢false (sym e))
 sameWords-eq (x ∷ l) [] e = absurd (true≢false (sym e))
 sameWords-eq (x ∷ l) (y ∷ m) e = rw (same-eq x y (and-left (same x y) (sameWords l m) e), sameWords-eq l m (and-right (same x y) (sameWords l m) e))
-
-zeros : (m k : ℕ) → word (replicate m z) k ≡ z
-zeros zero k = refl
-zeros (suc m) zero = refl
-zeros (suc m) (suc k) = zeros m k
-
-zeros-after : (w : Words) (m k : ℕ) → word (w ++ replicate m z) k ≡ word w k
-zeros-after [] m k = zeros m k
-zeros-after (x ∷ w) m zero = refl
-zeros-after (x ∷ w) m (suc k) = zeros-after w m k
-
--- filling up with zeros changes no word
-pub word-filled : (n : ℕ) (w : Words) (k : ℕ) → word (filled n z w) k ≡ word w k
-unfolding filled
-word-filled n w k = zeros-after w (n - length w) k
-
-pub length-filled : (n : ℕ) (w : Words) → length w ≤ n → length (filled n z w) ≡ n
-unfolding filled
-length-filled n w h = length-append w (replicate (n - length w) z) ∙ rw length-replicate (omega arith)
 
 -- ---- rows laid one after another
 
@@ -72,7 +54,7 @@ Short rows = (i : ℕ) → i < length rows → length (getD rows i []) ≤ 8
 module _ (r : Row) (rows : List Row) (s : Short (r ∷ rows)) where
   short-head : length (filled 8 z r) ≡ 8
   unfolding Short
-  short-head = length-filled 8 r (s 0 (omega arith))
+  short-head = length-filled 8 z r (s 0 (omega arith))
 
   short-tail : Short rows
   unfolding Short
@@ -89,7 +71,7 @@ unfolding laid
 laid-word [] s i j h k = absurd (omega arith)
 laid-word (r ∷ rows) s zero j h k =
     let e : 8 * 0 + j ≡ j = omega arith in
-    rw e (List·getD-append (filled 8 z r) (laid rows) z j (omega (arith, short-head r rows s)) ∙ word-filled 8 r j)
+    rw e (List·getD-append (filled 8 z r) (laid rows) z j (omega (arith, short-head r rows s)) ∙ getD-filled 8 z r j)
 laid-word (r ∷ rows) s (suc i) j h k =
     let e : 8 * suc i + j ≡ length (filled 8 z r) + (8 * i + j) = omega (arith, short-head r rows s) in
     rw e (getD-append-add (filled 8 z r) (laid rows) (8 * i + j) z ∙ laid-word rows (short-tail r rows s) i j (omega arith) k)
@@ -123,7 +105,7 @@ module _ (net : Words) where
 
   head-long : length headOf ≡ 8
   head-long =
-      length-filled 8 (take 3 net ++ (pos (length (rowsIn net)) ∷ []))
+      length-filled 8 z (take 3 net ++ (pos (length (rowsIn net)) ∷ []))
       (rw (length-append (take 3 net) (pos (length (rowsIn net)) ∷ []), length-take) (omega arith))
 
   rows-in-short : Short (rowsIn net)
@@ -136,12 +118,12 @@ module _ (net : Words) where
 
   -- words of the head, of the rows, and after them
   out-head : (k : ℕ) → k < 8 → word (networkOf (tableOf net)) k ≡ word headOf k
-  out-head k h = rw laid-out (word-filled Limits.networkWords (headOf ++ laid (rowsIn net)) k ∙ List·getD-append headOf (laid (rowsIn net)) z k (omega (arith, head-long)))
+  out-head k h = rw laid-out (getD-filled Limits.networkWords z (headOf ++ laid (rowsIn net)) k ∙ List·getD-append headOf (laid (rowsIn net)) z k (omega (arith, head-long)))
 
   out-after : (k : ℕ) → word (networkOf (tableOf net)) (8 + k) ≡ word (laid (rowsIn net)) k
   out-after k =
       let e : 8 + k ≡ length headOf + k = omega (arith, head-long) in
-      rw laid-out (word-filled Limits.networkWords (headOf ++ laid (rowsIn net)) (8 + k) ∙ ap (word (headOf ++ laid (rowsIn net))) e ∙ getD-append-add headOf (laid (rowsIn net)) k z)
+      rw laid-out (getD-filled Limits.networkWords z (headOf ++ laid (rowsIn net)) (8 + k) ∙ ap (word (headOf ++ laid (rowsIn net))) e ∙ getD-append-add headOf (laid (rowsIn net)) k z)
 
 -- what refusal 8 tests
 pub record Recorded (net : Words) : Type 0 where
@@ -175,7 +157,7 @@ module _ (net : Words) (e : isNetwork net ≡ true) where
   pub network-length : length net ≡ Limits.networkWords
   network-length =
       ap length (rec .written) ∙ ap length (laid-out net)
-      ∙ length-filled Limits.networkWords (headOf net ++ laid (rowsIn net))
+      ∙ length-filled Limits.networkWords z (headOf net ++ laid (rowsIn net))
       (rw length-append (omega (arith, head-long net, length-laid (rowsIn net) (rows-in-short net), row-count-most)))
 
   -- the words of a row; those that its kind does not have are 0 in both

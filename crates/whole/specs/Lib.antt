@@ -19,3 +19,5 @@ pub mod Rising
 pub mod Places
 pub mod Written
 pub mod Within
+pub mod Upto
+pub mod Filled

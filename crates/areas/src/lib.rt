@@ -1,0 +1,145 @@
+// "Areas.": which nodes R, L, C and SW join, by rounds over the rows, and the areas numbered from 1 by their lowest node.
+ghost use mathlib.Core.Path.{_≡_};
+ghost use mathlib.Core.Bool.{true, cond};
+ghost use Prim.Native.Nat.{suc, _≤_, _<_, _+_};
+ghost use lib.Dec.{leb};
+ghost use lib.ListN.{length, getD};
+ghost use Rattle.whole.specs.Lists.{filled, numbers};
+ghost use Rattle.paper.specs.Spread.{joined};
+ghost use Rattle.whole.specs.Turns.{turns};
+ghost use Rattle.paper.specs.Network.{isNetwork};
+ghost use Rattle.paper.specs.Areas.{areaCount};
+ghost use Rattle.facts.specs.Nets.{netIn, rowAt};
+ghost use Rattle.areas.specs.Marks.{markWords, Moved, joinRow, roundOf};
+ghost use Rattle.areas.specs.Numbered.{countAt, numberAt, lowIn};
+
+// a node's first mark is its own number
+fn own_mark(n: usize, nodes: usize) -> usize
+    ensures { λ r. ⌜ r ≡ cond (leb n nodes) n 0 ⌝ }
+{
+    if n <= nodes { n } else { 0 }
+}
+
+fn start(area: &mut [usize; 33], nodes: usize)
+    requires { ⌜ (length (now area) ≡ 33) × (nodes < 33) ⌝ }
+    ensures { λ _. ⌜ now (area .exit) ≡ filled markWords 0 (numbers 0 (suc nodes)) ⌝ }
+{
+    let mut n = 0;
+    while n < 33 {
+        area[n] = own_mark(n, nodes);
+        n += 1;
+    }
+}
+
+// Both ends take the lower of their two marks; whether the two were different.
+fn join(area: &mut [usize; 33], one: usize, two: usize) -> bool
+    requires { ⌜ (length (now area) ≡ 33) × ((one < 33) × (two < 33)) ⌝ }
+    ensures { λ r. ⌜ Moved (now (area .entry)) (now (area .exit)) (joined (now (area .entry)) (record { one = one; two = two })) r ⌝ }
+{
+    let a = area[one];
+    let b = area[two];
+    let low = if a < b { a } else { b };
+    area[one] = low;
+    area[two] = low;
+    a != b
+}
+
+// Row i's turn in a round. "Nodes joined by R, L, C or SW (open or closed) are in one area. Ground and lines join nothing."
+fn join_row(net: &[i64], i: usize, area: &mut [usize; 33]) -> bool
+    requires { ⌜ isNetwork (now net) ≡ true ⌝ }
+    requires { ⌜ (i < length (netIn (now net) .rows)) × (length (now area) ≡ 33) ⌝ }
+    ensures { λ r. ⌜ Moved (now (area .entry)) (now (area .exit)) (joinRow (now (area .entry)) (rowAt (netIn (now (net .entry))) i)) r ⌝ }
+{
+    let kind = rows::kind(net, i);
+    if kind == 4 {
+        return false;
+    }
+    if 5 < kind {
+        return false;
+    }
+    let one = rows::number(net, i, 1);
+    let two = rows::number(net, i, 2);
+    if one == 0 {
+        return false;
+    }
+    if two == 0 {
+        return false;
+    }
+    join(area, one, two)
+}
+
+// One round over the rows; whether a mark changed.
+fn round(net: &[i64], rows: usize, area: &mut [usize; 33]) -> bool
+    requires { ⌜ isNetwork (now net) ≡ true ⌝ }
+    requires { ⌜ (rows ≡ length (netIn (now net) .rows)) × (length (now area) ≡ 33) ⌝ }
+    ensures { λ r. ⌜ Moved (now (area .entry)) (now (area .exit)) (roundOf (netIn (now (net .entry)) .rows) 0 (now (area .entry))) r ⌝ }
+{
+    let mut moved = false;
+    let mut i = 0;
+    while i < rows {
+        let here = join_row(net, i, area);
+        moved = moved | here;
+        i += 1;
+    }
+    moved
+}
+
+// the next round's number: a round that changes nothing is the last
+fn next_round(turn: usize, moved: bool) -> usize
+    requires { ⌜ turn < 32 ⌝ }
+    ensures { λ r. ⌜ r ≡ cond moved (turn + 1) 32 ⌝ }
+{
+    if moved { turn + 1 } else { 32 }
+}
+
+fn spread(net: &[i64], rows: usize, area: &mut [usize; 33])
+    requires { ⌜ isNetwork (now net) ≡ true ⌝ }
+    requires { ⌜ (rows ≡ length (netIn (now net) .rows)) × (length (now area) ≡ 33) ⌝ }
+    ensures { λ _. ⌜ now (area .exit) ≡ turns 0 32 (roundOf (netIn (now (net .entry)) .rows)) (now (area .entry)) ⌝ }
+{
+    let mut turn = 0;
+    while turn < 32 {
+        let moved = round(net, rows, area);
+        turn = next_round(turn, moved);
+    }
+}
+
+// node n's turn, after the areas that the nodes below it lead
+fn number_node(area: &mut [usize; 33], n: usize, count: usize) -> usize
+    requires { ⌜ (n < 33) × ((getD (now area) n 0 < 33) × (count < 33)) ⌝ }
+    ensures { λ r. ⌜ (now (area .exit) ≡ numberAt (now (area .entry)) n count) × (r ≡ countAt (now (area .entry)) n count) ⌝ }
+{
+    let low = area[n];
+    if low == n {
+        area[n] = count + 1;
+        return count + 1;
+    }
+    area[n] = area[low];
+    count
+}
+
+// "Areas are numbered from 1 by their lowest node": how many there are.
+fn number_areas(net: &[i64], nodes: usize, area: &mut [usize; 33]) -> usize
+    requires { ⌜ isNetwork (now net) ≡ true ⌝ }
+    requires { ⌜ (nodes ≡ netIn (now net) .nodes) × (now area ≡ filled markWords 0 (lowIn (now net))) ⌝ }
+    ensures { λ r. ⌜ (now (area .exit) ≡ filled markWords 0 (netIn (now (net .entry)) .areas)) × (r ≡ areaCount (netIn (now (net .entry)))) ⌝ }
+{
+    let mut count = 0;
+    let mut n = 0;
+    while n < nodes {
+        n += 1;
+        count = number_node(area, n, count);
+    }
+    count
+}
+
+// The area of each node into `area`, ground's and those past the last node 0; and how many areas there are.
+pub fn areas(net: &[i64], rows: usize, nodes: usize, area: &mut [usize; 33]) -> usize
+    requires { ⌜ isNetwork (now net) ≡ true ⌝ }
+    requires { ⌜ (rows ≡ length (netIn (now net) .rows)) × ((nodes ≡ netIn (now net) .nodes) × (length (now area) ≡ 33)) ⌝ }
+    ensures { λ r. ⌜ (now (area .exit) ≡ filled markWords 0 (netIn (now (net .entry)) .areas)) × (r ≡ areaCount (netIn (now (net .entry)))) ⌝ }
+{
+    start(area, nodes);
+    spread(net, rows, area);
+    number_areas(net, nodes, area)
+}
