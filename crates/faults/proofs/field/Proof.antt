@@ -1,0 +1,30 @@
+use mathlib.Core.Path.{_∙_, ap}
+use lib.IntN.{ℤ, pos, natAbs}
+use lib.ListN.{getD}
+use Rattle.whole.specs.Int.{read64}
+use borrow.Author.Needs.{needs}
+use Rattle.faults.proofs.field.Statement.{statement}
+use Rattle.faults.proofs.field.Tie as tie
+use Rattle.faults.proofs.field.Reads as reads
+use Rattle.faults.proofs.magnitude.Reads as magnitude-reads
+
+-- src/lib.rt:51:15
+mul-magnitude : tie.Need-mul-magnitude
+mul-magnitude c = search needs
+
+-- src/lib.rt:51:15
+array-copy-out-magnitude : tie.Need-array-copy-out-magnitude
+array-copy-out-magnitude c = search needs
+
+-- src/lib.rt:51:5
+magnitude-requires : tie.Need-magnitude-requires
+magnitude-requires c κs = search needs
+
+-- src/lib.rt:47:1
+returns : tie.Need-returns
+returns c =
+    let x : ℤ = getD (c .before .before .args .t1) (c .before .before .args .i) (pos 0) in
+    c .magnitude .ensures ∙ ap natAbs (read64 x (c .before .magnitude-arg .given))
+
+pub field-spec : {M : Type 1} → statement M
+field-spec = tie.close (tie.spec mul-magnitude array-copy-out-magnitude magnitude-requires returns)

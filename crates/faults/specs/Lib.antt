@@ -1,0 +1,4 @@
+pub mod Seen
+pub mod Laws
+pub mod Stands
+pub mod After

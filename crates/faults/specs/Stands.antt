@@ -1,0 +1,144 @@
+-- The faults of a row by what is seen are the paper's, after the rows that it stands for. Assumes nothing.
+use Prim.Native.Nat.{ℕ, zero, suc, _+_, _≤_, _<_}
+use native.Mathlib.Omega.{arith}
+use mathlib.Core.Path.{_≡_, refl, sym, _∙_, ap, subst}
+use mathlib.Core.Bool.{Bool, true, false, not, cond, _&&_, _||_, false≢true, true≢false}
+use mathlib.Core.List.{List, [], _∷_, _++_, tail}
+use borrow.Author.Tests.{eqb-true, eqb-false, ne-eqb, eq-eqb}
+use lib.Dec.{eqb, leb, ltb}
+use lib.IntN.{ℤ, pos, negsuc, natAbs}
+use lib.ListN.{length, getD, drop, take, set, replicate, length-set, getD-replicate}
+use lib.Seq.{getD-set-same, getD-set-other}
+use Rattle.whole.specs.Lists.{Words, word, nat, between, empty, any, count, sum}
+use Rattle.whole.specs.Folds.{or-left, count-append, sum-append, any-append}
+use Rattle.paper.specs.Limits as Limits
+use Rattle.paper.specs.Rows.{Row, bytes, kinds, kind, fieldsOf, isStudy, isBranch, isSource, isLine, isVS, at, stepLength}
+use Rattle.paper.specs.Conductance.{conductance, nearest, ofOhms, ofHenries, ofFarads}
+use Rattle.paper.specs.Faults.{outside, nodeFault, valueFault, travelFault, fixes, doubleFault, slots, fullFault, lineFault, rowFault}
+use Rattle.paper.specs.Network.{Table, rowOfWords}
+use Rattle.kinds.specs.Table.{namesOf, low, high, outsideFrom}
+use Rattle.kinds.specs.Fields.{each, five, outside-names, field-in, in-range}
+use Rattle.faults.specs.declared.Seen.{Seen}
+use Rattle.faults.specs.Seen.{Held, nothingSeen, seenDouble, seenFull, seenFault, fixedAfter, seenAfter}
+
+-- what is seen of the study's row and the rows after it. Before the study's row no step length is known, and none is asked for
+pub record Stands (s : Seen) (t : Table) : Type 0 where
+  pub held : Held s
+  pub wide : length (s .fixed) ≡ 33
+  pub step : empty t ≡ false → s .step ≡ stepLength (getD t 0 [])
+  pub branches : s .branches ≡ count isBranch (tail t)
+  pub sources : s .sources ≡ count isSource (tail t)
+  pub slots : s .slots ≡ sum (slots (s .step)) (tail t)
+  pub fixed : (n : ℕ) → n ≤ 32 → getD (s .fixed) n false ≡ any (fixes n) (tail t)
+
+pub stands-none : Stands nothingSeen []
+unfolding count sum any
+stands-none =
+    record {
+      held = record { long = omega arith; short = omega arith; branches = omega arith; sources = omega arith; slots = omega arith };
+      wide = refl;
+      step = λ e. absurd (true≢false e);
+      branches = refl;
+      sources = refl;
+      slots = refl;
+      fixed = λ n h. getD-replicate 33 n false false (omega arith);
+    }
+
+-- ---- a row of the paper has the words of its kind only; its faults ask no other
+
+kind-word : (x : ℤ) → kind (x ∷ []) < 8 → x ≡ pos (kind (x ∷ []))
+kind-word (pos k) h = refl
+kind-word (negsuc n) h = absurd (omega arith)
+
+head-tail : (w : Words) → 6 ≤ length w → w ≡ word w 0 ∷ tail w
+head-tail [] h = absurd (omega arith)
+head-tail (x ∷ w) h = refl
+
+source-range : (w : Words) → outsideFrom 6 0 (namesOf 6) w ≡ false → between (pos 0) (pos 32) (word w 1) ≡ true
+unfolding namesOf fieldsOf kinds bytes count low high
+source-range w o = field-in 6 0 1 w o 0 (omega arith) (omega arith)
+
+-- a row by its kind and its words
+words : ℕ → Words → Words
+words k w = pos k ∷ word w 1 ∷ word w 2 ∷ word w 3 ∷ word w 4 ∷ word w 5 ∷ drop 6 w
+
+shape : (w : Words) → 6 ≤ length w → kind w < 8 → w ≡ words (kind w) w
+unfolding words
+shape w few known =
+    head-tail w few
+    ∙ ap (λ (l : Words). word w 0 ∷ l) (five w few)
+    ∙ ap (λ (x : ℤ). x ∷ word w 1 ∷ word w 2 ∷ word w 3 ∷ word w 4 ∷ word w 5 ∷ drop 6 w) (kind-word (word w 0) known)
+
+-- what holds of a row of each kind
+by-kind : (P : Words → Type 0) (w : Words) → 6 ≤ length w → kind w < 8
+    → P (words 0 w) → P (words 1 w) → P (words 2 w) → P (words 3 w) → P (words 4 w) → P (words 5 w) → P (words 6 w) → P (words 7 w) → P w
+by-kind P w few known a b c d e f g h = subst P (sym (shape w few known)) (each (λ k. P (words k w)) a b c d e f g h (kind w) known)
+
+module _ (w : Words) (few : 6 ≤ length w) (known : kind w < 8) where
+  pub row-kind : kind (rowOfWords w) ≡ kind w
+  unfolding words rowOfWords fieldsOf kinds bytes
+  row-kind = by-kind (λ v. kind (rowOfWords v) ≡ kind v) w few known refl refl refl refl refl refl refl refl
+
+  pub row-line-fault : (step : ℕ) (before : List Row) → lineFault step before (rowOfWords w) ≡ lineFault step before w
+  unfolding words rowOfWords fieldsOf kinds bytes lineFault nodeFault valueFault travelFault doubleFault fullFault outside conductance ofOhms ofHenries ofFarads slots
+  row-line-fault step before = by-kind (λ v. lineFault step before (rowOfWords v) ≡ lineFault step before v) w few known refl refl refl refl refl refl refl refl
+
+  pub row-slots : (step : ℕ) → slots step (rowOfWords w) ≡ slots step w
+  unfolding words rowOfWords fieldsOf kinds bytes slots
+  row-slots step = by-kind (λ v. slots step (rowOfWords v) ≡ slots step v) w few known refl refl refl refl refl refl refl refl
+
+  pub row-fixes : (n : ℕ) → fixes n (rowOfWords w) ≡ fixes n w
+  unfolding words rowOfWords fieldsOf kinds bytes fixes
+  row-fixes n = by-kind (λ v. fixes n (rowOfWords v) ≡ fixes n v) w few known refl refl refl refl refl refl refl refl
+
+  pub row-study : isStudy w ≡ true → stepLength (rowOfWords w) ≡ stepLength w
+  unfolding words rowOfWords fieldsOf kinds bytes
+  row-study = by-kind (λ v. isStudy v ≡ true → stepLength (rowOfWords v) ≡ stepLength v) w few known (λ i. refl) (λ i. refl) (λ i. refl) (λ i. refl) (λ i. refl) (λ i. refl) (λ i. refl) (λ i. refl)
+
+  -- what a row that passes has, for what is seen next
+  pub source-node : nodeFault w ≡ false → kind w ≡ 6 → at w ≤ 32
+  unfolding nodeFault
+  source-node f = of-source (kind w) (outside-names w few (kind w) known ∙ or-left _ _ (or-left _ _ (or-left _ _ f)))
+    where
+      of-source : (k : ℕ) → outsideFrom k 0 (namesOf k) w ≡ false → k ≡ 6 → nat (word w 1) ≤ 32
+      of-source k o e = in-range 0 32 (word w 1) (source-range w (rw e at o)) .1 .1
+
+-- the faults of a row, seen and of the paper
+seen-double : (s : Seen) (before : List Row) (w : Words) → ((n : ℕ) → n ≤ 32 → getD (s .fixed) n false ≡ any (fixes n) before) → (kind w ≡ 6 → at w ≤ 32) → seenDouble s w ≡ doubleFault before w
+unfolding seenDouble doubleFault
+seen-double s before w h l = by-test (eqb (kind w) 6) refl
+  where
+    by-test : (t : Bool) → eqb (kind w) 6 ≡ t → (eqb (kind w) 6 && getD (s .fixed) (at w) false) ≡ (eqb (kind w) 6 && any (fixes (at w)) before)
+    by-test true e = rw (h (at w) (l (eqb-true (kind w) 6 e)))
+    by-test false e = rw e
+
+seen-full : (s : Seen) (before : List Row) (w : Words) → s .branches ≡ count isBranch before → s .sources ≡ count isSource before → s .slots ≡ sum (slots (s .step)) before
+    → seenFull s w ≡ fullFault (s .step) before w
+unfolding seenFull fullFault
+seen-full s before w p q r = rw (p, q, r)
+
+module _ (s : Seen) (w : Words) (few : 6 ≤ length w) (known : kind w < 8) where
+  after-study : (before : List Row) (step : ℕ) → s .step ≡ step → s .branches ≡ count isBranch before → s .sources ≡ count isSource before → s .slots ≡ sum (slots (s .step)) before
+      → ((n : ℕ) → n ≤ 32 → getD (s .fixed) n false ≡ any (fixes n) before) → seenFault s w ≡ lineFault step before w
+  unfolding seenFault lineFault
+  after-study before step e p q r h = by-test (nodeFault w) refl
+    where
+      by-test : (t : Bool) → nodeFault w ≡ t → seenFault s w ≡ lineFault step before w
+      by-test true f = rw f
+      by-test false f = rw (f, seen-double s before w h (source-node w few known f), seen-full s before w p q r, e)
+
+  first-study : isStudy w ≡ true → s .slots ≡ 0 → seenFault s w ≡ lineFault 0 [] w
+  unfolding words seenFault seenDouble seenFull fieldsOf kinds bytes lineFault nodeFault valueFault travelFault doubleFault fullFault outside conductance ofOhms ofHenries ofFarads slots sum
+  first-study =
+      by-kind (λ v. isStudy v ≡ true → s .slots ≡ 0 → seenFault s v ≡ lineFault 0 [] v) w few known
+      (λ i e. rw e)
+      (λ i e. absurd (false≢true i)) (λ i e. absurd (false≢true i)) (λ i e. absurd (false≢true i)) (λ i e. absurd (false≢true i))
+      (λ i e. absurd (false≢true i)) (λ i e. absurd (false≢true i)) (λ i e. absurd (false≢true i))
+
+  -- "in it 1 to 6 in turn": one function, and the paper's
+  pub fault-is : (t : Table) → Stands s t → empty t ≡ isStudy w → seenFault s w ≡ rowFault t (rowOfWords w)
+  unfolding rowFault count sum
+  fault-is [] h e = first-study (sym e) (h .slots) ∙ sym (row-line-fault w few known 0 [])
+  fault-is (r ∷ before) h e =
+      after-study before (stepLength r) (h .step refl) (h .branches) (h .sources) (h .slots) (h .fixed)
+      ∙ sym (row-line-fault w few known (stepLength r) before)
