@@ -8,16 +8,18 @@ ghost use lib.ListN.{getD};
 ghost use lib.Dec.{leb, eqb};
 ghost use Rattle.whole.specs.Lists.{word};
 ghost use Rattle.paper.specs.Rows.{kind, isStudy, stepLength};
-ghost use Rattle.paper.specs.Conductance as Conductance;
+ghost use Rattle.paper.specs.Conductance as Spec;
 ghost use Rattle.paper.specs.Faults as Faults;
 ghost use Rattle.faults.specs.Seen.{Held, conductanceOf, seenDouble, seenFull, seenFault, fixedAfter, seenAfter, nothingSeen, Sized};
+use paper::Conductance;
+use paper::Room;
 
 // What the rows before tell: the study's step length, how many branches and sources there are, the line slots of one end, and the nodes with a VS.
 pub struct Seen {
     pub step: u64,
-    pub branches: u64,
-    pub sources: u64,
-    pub slots: u64,
+    pub branches: usize,
+    pub sources: usize,
+    pub slots: usize,
     pub fixed: [bool; 33],
 }
 
@@ -87,7 +89,7 @@ fn node_fault(row: [i64; 8]) -> bool
 // a / b to the nearest, halves up
 fn nearest(a: u64, b: u64) -> u64
     requires { ⌜ (0 < b) × ((a ≤ 2000000000000000) × (b ≤ 2000000000000)) ⌝ }
-    ensures { λ r. ⌜ r ≡ Conductance.nearest a b ⌝ }
+    ensures { λ r. ⌜ r ≡ Spec.nearest a b ⌝ }
 {
     (2 * a + b) / (2 * b)
 }
@@ -121,7 +123,8 @@ fn value_fault(step: u64, row: [i64; 8]) -> bool
     let g = conductance(step, k, field(row, 3));
     let close = field(row, 4);
     let open = field(row, 5);
-    ((k == 5) & (open <= close)) | !((1 <= g) & (g <= 1_000_000_000))
+    ((k == 5) & (open <= close))
+        | !((Conductance::MIN as u64 <= g) & (g <= Conductance::MAX as u64))
 }
 
 // 4 TRAVEL: "travel not a multiple of the step"
@@ -153,12 +156,12 @@ fn double_fault(seen: Seen, row: [i64; 8]) -> bool
 }
 
 // "Each line end keeps its last 2d sent values"
-fn slots_of(step: u64, row: [i64; 8]) -> u64
+fn slots_of(step: u64, row: [i64; 8]) -> usize
     requires { ⌜ (kind row < 8) × ((1 ≤ step) × (Faults.valueFault step row ≡ false)) ⌝ }
     ensures { λ r. ⌜ r ≡ Faults.slots step row ⌝ }
 {
     if kind_of(row) == 4 {
-        return 2 * (field(row, 4) / step);
+        return 2 * (field(row, 4) / step) as usize;
     }
     0
 }
@@ -169,9 +172,9 @@ fn full_fault(seen: Seen, row: [i64; 8]) -> bool
     ensures { λ r. ⌜ r ≡ seenFull seen row ⌝ }
 {
     let k = kind_of(row);
-    (is_branch(k) & (64 <= seen.branches))
-        | (is_source(k) & (16 <= seen.sources))
-        | (4_096 < seen.slots + slots_of(seen.step, row))
+    (is_branch(k) & (Room::BRANCHES <= seen.branches))
+        | (is_source(k) & (Room::SOURCES <= seen.sources))
+        | (Room::SLOTS < seen.slots + slots_of(seen.step, row))
 }
 
 // "in it 1 to 6 in turn": the number of a row's first fault, or 0.
@@ -197,7 +200,7 @@ pub fn line_fault(seen: Seen, row: [i64; 8]) -> u64
     0
 }
 
-fn one_if(b: bool) -> u64
+fn one_if(b: bool) -> usize
     ensures { λ r. ⌜ r ≡ cond b 1 0 ⌝ }
 {
     if b {

@@ -6,75 +6,18 @@ ghost use Rattle.whole.specs.Lists.{between};
 ghost use Rattle.paper.specs.Rows.{fieldsOf};
 ghost use Rattle.kinds.specs.Table.{namesOf, low, high, outsideFrom};
 use paper::Balance;
+use paper::Farads;
+use paper::Henries;
 use paper::Injection;
 use paper::Node;
+use paper::Ohms;
+use paper::Rise;
+use paper::Start;
 use paper::StepLength;
 use paper::Steps;
+use paper::Switching;
+use paper::Travel;
 use paper::Voltage;
-
-// mΩ
-pub struct Resistance {
-    pub milliohms: i64,
-}
-
-impl Resistance {
-    pub const MIN: i64 = 1_000;
-
-    pub const MAX: i64 = 1_000_000_000_000;
-}
-
-// nH
-pub struct Inductance {
-    pub nanohenries: i64,
-}
-
-impl Inductance {
-    pub const MAX: i64 = 1_000_000_000_000;
-}
-
-// pF
-pub struct Capacitance {
-    pub picofarads: i64,
-}
-
-impl Capacitance {
-    pub const MAX: i64 = 1_000_000_000;
-}
-
-// ns, from one end of a line to the other
-pub struct Travel {
-    pub nanos: i64,
-}
-
-impl Travel {
-    pub const MAX: i64 = 1_000_000_000;
-}
-
-// the step at which a switch opens, or closes
-pub struct Opening {
-    pub step: i64,
-}
-
-impl Opening {
-    pub const MAX: i64 = 1_000_001;
-}
-
-// a source's first step, and the steps it takes to rise
-pub struct Start {
-    pub step: i64,
-}
-
-impl Start {
-    pub const MAX: i64 = 1_000_000;
-}
-
-pub struct Rise {
-    pub steps: i64,
-}
-
-impl Rise {
-    pub const MAX: i64 = 1_000;
-}
 
 const FIELDS: [usize; 8] = [3, 3, 3, 3, 4, 5, 4, 4];
 
@@ -82,28 +25,34 @@ const NAMES: [usize; 8] = [0, 2, 2, 2, 2, 2, 1, 1];
 
 // by kind, then by field
 const LOW: [[i64; 5]; 8] = [
-    [StepLength::MIN, Steps::MIN, 0, 0, 0],
-    [0, 0, Resistance::MIN, 0, 0],
-    [0, 0, 1, 0, 0],
-    [0, 0, 1, 0, 0],
-    [0, 0, Resistance::MIN, 1, 0],
-    [0, 0, Resistance::MIN, 1, 1],
-    [0, Voltage::MIN, 1, 0, 0],
-    [0, Injection::MIN, 1, 0, 0],
+    [StepLength::MIN, Steps::MIN, Balance::MIN, 0, 0],
+    [Node::MIN, Node::MIN, Ohms::MIN, 0, 0],
+    [Node::MIN, Node::MIN, Henries::MIN, 0, 0],
+    [Node::MIN, Node::MIN, Farads::MIN, 0, 0],
+    [Node::MIN, Node::MIN, Ohms::MIN, Travel::MIN, 0],
+    [
+        Node::MIN,
+        Node::MIN,
+        Ohms::MIN,
+        Switching::MIN,
+        Switching::MIN,
+    ],
+    [Node::MIN, Voltage::MIN, Start::MIN, Rise::MIN, 0],
+    [Node::MIN, Injection::MIN, Start::MIN, Rise::MIN, 0],
 ];
 
 const HIGH: [[i64; 5]; 8] = [
     [StepLength::MAX, Steps::MAX, Balance::MAX, 0, 0],
-    [Node::MAX, Node::MAX, Resistance::MAX, 0, 0],
-    [Node::MAX, Node::MAX, Inductance::MAX, 0, 0],
-    [Node::MAX, Node::MAX, Capacitance::MAX, 0, 0],
-    [Node::MAX, Node::MAX, Resistance::MAX, Travel::MAX, 0],
+    [Node::MAX, Node::MAX, Ohms::MAX, 0, 0],
+    [Node::MAX, Node::MAX, Henries::MAX, 0, 0],
+    [Node::MAX, Node::MAX, Farads::MAX, 0, 0],
+    [Node::MAX, Node::MAX, Ohms::MAX, Travel::MAX, 0],
     [
         Node::MAX,
         Node::MAX,
-        Resistance::MAX,
-        Opening::MAX,
-        Opening::MAX,
+        Ohms::MAX,
+        Switching::MAX,
+        Switching::MAX,
     ],
     [Node::MAX, Voltage::MAX, Start::MAX, Rise::MAX, 0],
     [Node::MAX, Injection::MAX, Start::MAX, Rise::MAX, 0],

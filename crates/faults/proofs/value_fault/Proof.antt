@@ -58,6 +58,12 @@ field-requires-2 c κs = search needs
 field-requires-3 : tie.Need-field-requires-3
 field-requires-3 c κs = search needs
 
+cast-result : tie.Need-cast-result
+cast-result c = search needs
+
+cast-result-2 : tie.Need-cast-result-2
+cast-result-2 c = search needs
+
 returns-3 : tie.Need-returns-3
 returns-3 c =
     let g : tie.After-conductance = c .before .before in
@@ -70,4 +76,4 @@ returns-3 c =
     (i .is-branch .ensures) (not-false _ (g .before .before .if2 .left)) (g .before .field .ensures) (g .conductance .ensures) (c .before .field2 .ensures) (c .field3 .ensures)
 
 pub value-fault-spec : {M : Type 1} → statement M
-value-fault-spec = tie.close (tie.spec kind-of-requires names-requires fields-requires outside-requires returns is-branch-requires returns-2 field-requires conductance-requires field-requires-2 field-requires-3 returns-3)
+value-fault-spec = tie.close (tie.spec kind-of-requires names-requires fields-requires outside-requires returns is-branch-requires returns-2 field-requires conductance-requires field-requires-2 field-requires-3 cast-result cast-result-2 returns-3)
