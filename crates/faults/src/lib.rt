@@ -8,7 +8,6 @@ ghost use lib.ListN.{getD};
 ghost use lib.Dec.{leb, eqb};
 ghost use Rattle.whole.specs.Lists.{word};
 ghost use Rattle.paper.specs.Rows.{kind, isStudy, stepLength};
-ghost use Rattle.paper.specs.Conductance as Spec;
 ghost use Rattle.paper.specs.Faults as Faults;
 ghost use Rattle.faults.specs.Seen.{Held, conductanceOf, seenDouble, seenFull, seenFault, fixedAfter, seenAfter, nothingSeen, Sized};
 use paper::Conductance;
@@ -86,26 +85,18 @@ fn node_fault(row: [i64; 8]) -> bool
         | ((k == 4) & ((a == 0) | (b == 0)))
 }
 
-// a / b to the nearest, halves up
-fn nearest(a: u64, b: u64) -> u64
-    requires { ⌜ (0 < b) × ((a ≤ 2000000000000000) × (b ≤ 2000000000000)) ⌝ }
-    ensures { λ r. ⌜ r ≡ Spec.nearest a b ⌝ }
-{
-    (2 * a + b) / (2 * b)
-}
-
 // "R, SW closed, LINE: 10^12 / mΩ. L: 10^9 · step / (2 · nH). C: 2·10^6 · pF / step."
 pub fn conductance(step: u64, kind: usize, size: u64) -> u64
     requires { ⌜ Sized step kind size ⌝ }
     ensures { λ r. ⌜ r ≡ conductanceOf step kind size ⌝ }
 {
     if kind == 2 {
-        return nearest(1_000_000_000 * step, 2 * size);
+        return whole::nearest_quotient(1_000_000_000 * step, 2 * size);
     }
     if kind == 3 {
-        return nearest(2_000_000 * size, step);
+        return whole::nearest_quotient(2_000_000 * size, step);
     }
-    nearest(1_000_000_000_000, size)
+    whole::nearest_quotient(1_000_000_000_000, size)
 }
 
 // 3 VALUE: "a field, or its conductance, out of range"; SW: "1 ≤ close < open"

@@ -5,38 +5,36 @@ use Rattle.faults.specs.Seen.{conductanceOf}
 use borrow.Author.Needs.{needs}
 use Rattle.faults.proofs.conductance.Statement.{statement}
 use Rattle.faults.proofs.conductance.Tie as tie
-use Rattle.faults.proofs.conductance.Reads as reads
-use Rattle.faults.proofs.nearest.Reads as nearest-reads
 
-mul-nearest : tie.Need-mul-nearest
+mul-nearest : tie.Need-mul-nearest-quotient
 mul-nearest c = search needs
 
-mul-nearest-2 : tie.Need-mul-nearest-2
+mul-nearest-2 : tie.Need-mul-nearest-quotient-2
 mul-nearest-2 c = search needs
 
-nearest-requires : tie.Need-nearest-requires
+nearest-requires : tie.Need-nearest-quotient-requires
 nearest-requires c κs = search needs
 
 returns : tie.Need-returns
 unfolding conductanceOf
-returns c = c .nearest .ensures ∙ simp (eq-eqb _ _ (c .before .if1 .taken))
+returns c = c .nearest-quotient .ensures ∙ simp (eq-eqb _ _ (c .before .if1 .taken))
 
-mul-nearest-3 : tie.Need-mul-nearest-3
+mul-nearest-3 : tie.Need-mul-nearest-quotient-3
 mul-nearest-3 c = search needs
 
-nearest-requires-2 : tie.Need-nearest-requires-2
+nearest-requires-2 : tie.Need-nearest-quotient-requires-2
 nearest-requires-2 c κs = let h = c .before .before .pre .farads (c .if2 .taken) in omega arith
 
 returns-2 : tie.Need-returns-2
 unfolding conductanceOf
-returns-2 c = c .nearest2 .ensures ∙ simp (ne-eqb _ _ (c .before .before .if1 .left), eq-eqb _ _ (c .before .if2 .taken))
+returns-2 c = c .nearest-quotient2 .ensures ∙ simp (ne-eqb _ _ (c .before .before .if1 .left), eq-eqb _ _ (c .before .if2 .taken))
 
-nearest-requires-3 : tie.Need-nearest-requires-3
+nearest-requires-3 : tie.Need-nearest-quotient-requires-3
 nearest-requires-3 c κs = search needs
 
 returns-3 : tie.Need-returns-3
 unfolding conductanceOf
-returns-3 c = c .nearest3 .ensures ∙ simp (ne-eqb _ _ (c .before .before .if1 .left), ne-eqb _ _ (c .before .if2 .left))
+returns-3 c = c .nearest-quotient3 .ensures ∙ simp (ne-eqb _ _ (c .before .before .if1 .left), ne-eqb _ _ (c .before .if2 .left))
 
 pub conductance-spec : {M : Type 1} → statement M
 conductance-spec =

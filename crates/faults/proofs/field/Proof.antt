@@ -5,8 +5,6 @@ use Rattle.whole.specs.Int.{read64}
 use borrow.Author.Needs.{needs}
 use Rattle.faults.proofs.field.Statement.{statement}
 use Rattle.faults.proofs.field.Tie as tie
-use Rattle.faults.proofs.field.Reads as reads
-use Rattle.faults.proofs.magnitude.Reads as magnitude-reads
 
 -- src/lib.rt:51:15
 mul-magnitude : tie.Need-mul-magnitude

@@ -5,7 +5,6 @@ use native.Mathlib.Omega.{arith}
 use borrow.Author.Needs.{needs}
 use Rattle.faults.proofs.fixed_at.Statement.{statement}
 use Rattle.faults.proofs.fixed_at.Tie as tie
-use Rattle.faults.proofs.fixed_at.Reads as reads
 
 array-read-result : tie.Need-array-read-result
 array-read-result c = search needs
