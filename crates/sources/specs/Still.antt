@@ -1,6 +1,5 @@
 -- All rows done: the injections, and the voltages by node before solving, "sources at the area's fixed nodes, 0 elsewhere". Assumes nothing.
 use Prim.Native.Nat.{ℕ, zero, suc, _+_, _≤_, _<_}
-use native.Mathlib.Decide.{decLt}
 use mathlib.Core.Path.{_≡_, refl, sym, ap, _∙_}
 use mathlib.Core.Bool.{Bool, true, false, cond, _&&_}
 use mathlib.Core.List.{List, []}
@@ -20,7 +19,8 @@ use Rattle.paper.specs.Faults.{fixes}
 use Rattle.paper.specs.Areas.{Net, areaOf, fixed, nodesOf}
 use Rattle.paper.specs.Sources.{source, held, injected}
 use Rattle.paper.specs.Solve.{stillOf}
-use Rattle.rows.specs.Mapped.{Mapped}
+use Rattle.facts.specs.Nets.{NetSound}
+use Rattle.rows.specs.Mapped.{area-node}
 use Rattle.sources.specs.Values.{holds, none}
 use Rattle.sources.specs.ByNode.{given, given-length, given-word}
 
@@ -75,16 +75,7 @@ module _ (N : Net) (k : ℕ) where
         put true v n e = length-set v n _ ∙ e
         put false v n e = e
 
-    module _ (area : List ℕ) (m : Mapped N area) (one : 1 ≤ a) where
-      -- only nodes 1 to the last are in an area
-      a-node : (n : ℕ) → areaOf N n ≡ a → (1 ≤ n) × (n ≤ N .nodes)
-      a-node zero e = absurd (omega (arith, m .ground, e))
-      a-node (suc n) e = (omega arith, go (decLt (N .nodes) (suc n)))
-        where
-          go : Dec (N .nodes < suc n) → suc n ≤ N .nodes
-          go (yes l) = absurd (omega (arith, m .past (suc n) l, e))
-          go (no l) = omega arith
-
+    module _ (sound : NetSound N) (one : 1 ≤ a) where
       unfixed : (n : ℕ) → fixed N n ≡ false → held (N .rows) k n ≡ z
       unfolding fixed held
       unfixed n e = total-none (fixes n) (source k) (N .rows) e
@@ -99,7 +90,7 @@ module _ (N : Net) (k : ℕ) where
 
           by-area : (b : Bool) → here n ≡ b → cond b (held (N .rows) k n) z ≡ cond (any (λ m. eqb m n) (nodesOf N a) && fixed N n) (held (N .rows) k n) z
           by-area true e =
-              let q = a-node n (eqb-true (areaOf N n) a e) in
+              let q = area-node N sound a n one (eqb-true (areaOf N n) a e) in
               rw (kept-in here 1 (N .nodes) n e (q .0) (omega arith)) (by-fixed (fixed N n) refl)
           by-area false e = rw (kept-out here (numbers 1 (N .nodes)) n e)
 

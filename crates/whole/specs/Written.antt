@@ -124,3 +124,19 @@ some-at p (a ∷ l) d e = by-test (p a) refl (λ r. some-at p l d r)
     by-test false f next =
         let s = next (rw f at e) in
         record { place = suc (s .place); within = omega (arith, s .within); passes = s .passes }
+
+-- what is kept twice, and by tests that agree
+pub keep-keep : {A : Type 0} (p q : A → Bool) (l : List A) → keep p (keep q l) ≡ keep (λ a. q a && p a) l
+unfolding keep
+keep-keep p q [] = refl
+keep-keep {A = A} p q (a ∷ l) = by-test (q a) ∙ ap (λ (r : List A). cond (q a && p a) (a ∷ r) r) (keep-keep p q l)
+  where
+    by-test : (b : Bool) → keep p (cond b (a ∷ keep q l) (keep q l)) ≡ cond (b && p a) (a ∷ keep p (keep q l)) (keep p (keep q l))
+    by-test true = refl
+    by-test false = refl
+
+pub keep-numbers : (p q : ℕ → Bool) (i k : ℕ) → ((n : ℕ) → i ≤ n → n < i + k → p n ≡ q n) → keep p (numbers i k) ≡ keep q (numbers i k)
+unfolding keep numbers
+keep-numbers p q i zero h = refl
+keep-numbers p q i (suc k) h =
+    rw (h i (omega arith) (omega arith)) (ap (λ (r : List ℕ). cond (q i) (i ∷ r) r) (keep-numbers p q (suc i) k (λ n lo hi. h n (omega arith) (omega arith))))

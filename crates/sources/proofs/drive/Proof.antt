@@ -71,7 +71,7 @@ returns c =
     let N = netIn (s .args .net .now) in
     let k = s .args .k in
     let e : l .loop .i ≡ length (N .rows) = omega (arith, s .pre .1 .0 .0) in (
-      l .loop .inv .1 ∙ ap (given N k (holds N (s .args .a))) e ∙ still-is N k (s .args .a) (s .args .area .now) (s .pre .0 .mapped) (s .pre .1 .0 .1),
+      l .loop .inv .1 ∙ ap (given N k (holds N (s .args .a))) e ∙ still-is N k (s .args .a) (net-sound (s .args .net .now) (s .pre .0 .passes)) (s .pre .1 .0 .1),
       record { at = λ n h. ap (λ (w : Words). word w n) (l .loop .inv .2 ∙ ap (given N k isIS) e) ∙ injected-is N k n h },
     )
 
