@@ -31,7 +31,7 @@ fn currents(
     let mut j = 0;
     while j < legs {
         let p = near[j];
-        let i = wires::current(near, far, g, h, rows, v, j);
+        let i = legs::current(near, far, g, h, rows, v, j);
         sums[p] = sums[p] + i;
         j += 1;
     }
@@ -46,7 +46,7 @@ fn first_past(a: &[i64; 33], b: &[i64; 33], free: &[usize; 32], n: usize, limit:
     let mut i = 0;
     while i < n {
         let p = free[i];
-        let ok = wires::within(a[p] - b[p], limit);
+        let ok = whole::within(a[p] - b[p], limit);
         if !ok {
             return p;
         }

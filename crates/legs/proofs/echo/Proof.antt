@@ -1,11 +1,11 @@
--- `wires::echo` meets its contract. Assumes nothing.
+-- `legs::echo` meets its contract. Assumes nothing.
 use borrow.Author.Needs.{needs}
 use mir.Facts.{toZ-ofZ}
 use Rattle.whole.specs.Size.{fits}
 use Rattle.paper.specs.Legs.{echo}
 use Rattle.wires.specs.Shares.{through-size, current-size, echo-size}
-use Rattle.wires.proofs.echo.Statement.{statement}
-use Rattle.wires.proofs.echo.Tie as tie
+use Rattle.legs.proofs.echo.Statement.{statement}
+use Rattle.legs.proofs.echo.Tie as tie
 
 current-requires : tie.Need-current-requires
 current-requires c κs = search needs

@@ -1,4 +1,4 @@
--- `wires::through` meets its contract. Assumes nothing.
+-- `legs::through` meets its contract. Assumes nothing.
 use Prim.Native.Nat.{ℕ, _*_, _<_, _≤_}
 use mathlib.Core.Path.{_≡_, sym, ap}
 use mathlib.Core.List.{List}
@@ -12,10 +12,10 @@ use mir.Facts.{toZ-ofZ}
 use Rattle.whole.specs.Lists.{Words, z, word, nat}
 use Rattle.whole.specs.Size.{∣_∣≤_, sub, mul, fits}
 use Rattle.paper.specs.Legs.{through}
 use Rattle.wires.specs.Wires.{legAt, Sized}
 use Rattle.wires.specs.Shares.{Volts, volt-size, g-size, g-is}
-use Rattle.wires.proofs.through.Statement.{statement}
-use Rattle.wires.proofs.through.Tie as tie
+use Rattle.legs.proofs.through.Statement.{statement}
+use Rattle.legs.proofs.through.Tie as tie
 
 module _ {near far : List ℕ} {g h v : Words} {rows : ℕ} (s : Sized near far g h rows) (u : Volts v) (j : ℕ) (l : j < 2 * rows) where
   abbrev drop : ℤ

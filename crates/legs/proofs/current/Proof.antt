@@ -1,4 +1,4 @@
--- `wires::current` meets its contract. Assumes nothing.
+-- `legs::current` meets its contract. Assumes nothing.
 use Prim.Native.Nat.{ℕ, _*_, _<_}
 use mathlib.Core.Path.{_≡_, refl}
 use mathlib.Core.List.{List}
@@ -10,10 +10,10 @@ use lib.IntN.{_+ℤ_}
 use Rattle.whole.specs.Lists.{Words, word}
 use Rattle.whole.specs.Size.{fits}
 use Rattle.paper.specs.Legs.{through, current}
 use Rattle.wires.specs.Wires.{legAt, Sized}
 use Rattle.wires.specs.Shares.{Volts, h-size, through-size, current-size}
-use Rattle.wires.proofs.current.Statement.{statement}
-use Rattle.wires.proofs.current.Tie as tie
+use Rattle.legs.proofs.current.Statement.{statement}
+use Rattle.legs.proofs.current.Tie as tie
 
 module _ {near far : List ℕ} {g h v : Words} {rows : ℕ} (s : Sized near far g h rows) (u : Volts v) (j : ℕ) (l : j < 2 * rows) where
   through-fits : SFits w64 (through v (legAt near far g h j))
