@@ -40,12 +40,12 @@ cellLess f top c own = set own c (less (cell own c) f (cell top c))
 unfoldable pub lineLess : ℕ → ℕ → Float → List Float → List Float → List Float
 lineLess n p f top own = turns (p + 1) n (cellLess f top) own
 
--- row q once row p is taken from it
+-- row q once row p is taken from it; its pivot is the diagonal of what it has become
 unfoldable pub rowLess : ℕ → ℕ → ℕ → System → System
 rowLess n p q s =
     let f = quotient (cell (line (s .lines) q) p) (row (s .rows) p .pivot) in
-    let own = lineLess n p f (line (s .lines) p) (line (s .lines) q) in
-    sys (set (s .lines) q own) (set (s .rows) q (record { pivot = cell own q; right = less (row (s .rows) q .right) f (row (s .rows) p .right) }))
+    let lines = set (s .lines) q (lineLess n p f (line (s .lines) p) (line (s .lines) q)) in
+    sys lines (set (s .rows) q (record { pivot = cell (line lines q) q; right = less (row (s .rows) q .right) f (row (s .rows) p .right) }))
 
 unfoldable pub allLess : ℕ → ℕ → System → System
 allLess n p s = turns (p + 1) n (rowLess n p) s

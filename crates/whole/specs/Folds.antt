@@ -5,11 +5,11 @@ use mathlib.Core.Bool.{Bool, true, false, cond, not, _&&_, _||_, and-assoc, or-a
 use mathlib.Core.List.{List, [], _∷_, _++_, map}
 use native.Mathlib.Omega.{arith}
 use native.Mathlib.Numerals.{add-one}
-use lib.ListN.{length, getD, take, drop, set, replicate, drop-of-length-le}
+use lib.ListN.{length, getD, take, drop, replicate, drop-of-length-le, length-append, length-replicate, List·getD-append}
 use lib.Seq.{drop-cons, take-suc}
 use lib.Dec.{ltb}
 use borrow.Author.Tests.{ltb-true}
-use Rattle.whole.specs.Lists.{every, any, count, keep, sum, fold, numbers, first}
+use Rattle.whole.specs.Lists.{filled, every, any, count, keep, sum, fold, numbers, first}
 
 -- ---- tests
 pub and-left : (a b : Bool) → (a && b) ≡ true → a ≡ true
@@ -168,6 +168,20 @@ module _ {A : Type 0} where
 
   pub sum-next : (f : A → ℕ) (l : List A) (i : ℕ) (d : A) → i < length l → sum f (take (i + 1) l) ≡ sum f (take i l) + f (getD l i d)
   sum-next f l i d h = rw (add-one i, take-suc l i d, sum-append) (last-sum f (sum f (take i l)) (getD l i d))
+
+-- ---- filled up
+module _ {A : Type 0} where
+  pub filled-at : (n : ℕ) (d : A) (l : List A) (i : ℕ) (e : A) → i < length l → getD (filled n d l) i e ≡ getD l i e
+  unfolding filled
+  filled-at n d l i e h = List·getD-append l (replicate (n - length l) d) e i h
+
+  pub filled-length : (n : ℕ) (d : A) (l : List A) → length l ≤ n → length (filled n d l) ≡ n
+  unfolding filled
+  filled-length n d l h = simp (length-append, length-replicate) (omega arith)
+
+  pub filled-least : (n : ℕ) (d : A) (l : List A) → length l ≤ length (filled n d l)
+  unfolding filled
+  filled-least n d l = simp (length-append, length-replicate) (omega arith)
 
 -- ---- each in turn
 module _ {A B : Type 0} where
