@@ -63,13 +63,13 @@ pub fn row_words(
     let kind = rows::kind(net, i);
     let own = ends::owner(net, areas, i, 1) == area;
     let other = ends::owner(net, areas, i, 2) == area;
-    let echo = wires::echo(near, far, g, h, rows, v, 2 * i);
+    let echo = legs::echo(near, far, g, h, rows, v, 2 * i);
     RowWords {
         from: own,
         to: (kind == 4) & other,
         held: ((kind == 2) | (kind == 3)) & own,
-        current: wires::current(near, far, g, h, rows, v, 2 * i),
-        far: wires::current(near, far, g, h, rows, v, 2 * i + 1),
+        current: legs::current(near, far, g, h, rows, v, 2 * i),
+        far: legs::current(near, far, g, h, rows, v, 2 * i + 1),
         history: ends::passed_on(kind, echo),
     }
 }
