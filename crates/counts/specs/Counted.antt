@@ -28,7 +28,7 @@ pub record CountIn (recs : Words) (a : ℕ) : Type 0 where
 pub record Counted (net recs : Words) (areas delays : List ℕ) : Type 0 where
   pub network : isNetwork net ≡ true
   pub mapped : (n : ℕ) → n ≤ Limits.nodeEnd → getD areas n 0 ≡ areaOf (netIn net) n
-  pub delayed : (i : ℕ) → i < length (netIn net .rows) → getD delays i 0 ≡ delay (step (netIn net)) (rowAt (netIn net) i)
+  pub delayed : (i : ℕ) → i < length (netIn net .rows) → isLine (rowAt (netIn net) i) ≡ true → getD delays i 0 ≡ delay (step (netIn net)) (rowAt (netIn net) i)
   pub long : length recs ≡ Limits.recordWords
   pub number : (a : ℕ) → a < Limits.nodeEnd → word recs a ≡ pos (nat (word recs a))
   pub most : (a : ℕ) → a ≤ Limits.nodeEnd → countOf recs a ≤ Limits.stepsEnd

@@ -50,7 +50,7 @@ returns c =
     let e₂ = c .before .before .before .before .number2 .ensures in
     let m₁ = k .mapped (from (rowAt (netIn (s .args .net .now)) i)) (omega arith) in
     let m₂ = k .mapped (to (rowAt (netIn (s .args .net .now)) i)) (omega arith) in
-    rw (c .before .before .count-of .ensures, c .before .count-of2 .ensures, e₁, e₂, m₁, m₂, k .delayed i h)
+    rw (c .before .before .count-of .ensures, c .before .count-of2 .ensures, e₁, e₂, m₁, m₂, k .delayed i h l)
 
 pub line-ends-spec : {M : Type 1} → statement M
 line-ends-spec =

@@ -1,0 +1,15 @@
+-- `sending::send` meets its contract. Assumes nothing.
+use Prim.Native.Nat.{_%_, _<_}
+use native.Mathlib.Nat.{mod-lt}
+use native.Mathlib.Omega.{arith}
+use lib.ListN.{length}
+use borrow.Author.Needs.{needs}
+use Rattle.sending.proofs.send.Statement.{statement}
+use Rattle.sending.proofs.send.Tie as tie
+
+inside : (c : tie.Start) → c .args .k % length (c .args .ring .now) < length (c .args .ring .now)
+inside c = mod-lt (c .args .k) (c .pre)
+
+pub send-spec : {M : Type 1} → statement M
+send-spec =
+    tie.close (tie.spec (λ c. search needs) (λ c. omega (arith, inside c)) inside (λ c. search needs) (λ c. search needs))
