@@ -55,7 +55,7 @@ pub fn send_row(
         return;
     }
     let own = ends::owner(net, areas, i, end) == area;
-    let echo = wires::echo(near, far, g, h, rows, v, 2 * i + (end - 1));
+    let echo = legs::echo(near, far, g, h, rows, v, 2 * i + (end - 1));
     let sent = ends::passed_on(kind, echo);
     put_sent(store, own, offsets[i], 2 * delays[i], k, sent);
 }
