@@ -1,0 +1,9 @@
+pub mod Digits
+pub mod Numbers
+pub mod Pieces
+pub mod Lines
+pub mod Texts
+pub mod Reader
+pub mod Tables
+pub mod Said
+pub mod Networks
