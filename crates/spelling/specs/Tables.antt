@@ -13,7 +13,8 @@ use Rattle.whole.specs.Folds.{and-right, both}
 use Rattle.paper.specs.Limits as Limits
 use Rattle.paper.specs.Rows.{Row, Field, kinds, fieldsOf, kind, isStudy}
 use Rattle.paper.specs.Network.{Table, laid, networkOf, rowOfWords, rowsOf, rowCount, tableOf, passes, isNetwork}
-use Rattle.facts.specs.Layout.{length-filled, arity-most}
+use Rattle.whole.specs.Filled.{length-filled}
+use Rattle.facts.specs.Layout.{arity-most}
 use Rattle.facts.specs.Table.{row-most}
 use Rattle.spelling.specs.Numbers.{speakable, allSpeakable}
 use Rattle.spelling.specs.Lines.{Sayable}
@@ -54,7 +55,7 @@ rows-back : (f : Bool) (rs : List Row) (w : Words) → Sayables f rs → rowsOf 
 unfolding rowsOf laid
 rows-back f [] w s = refl
 rows-back f (r ∷ rs) w s =
-    let l : length (filled 8 z r) ≡ 8 = length-filled 8 r (omega (arith, row-length r (s .0), arity-most (kind r))) in
+    let l : length (filled 8 z r) ≡ 8 = length-filled 8 z r (omega (arith, row-length r (s .0), arity-most (kind r))) in
     let e : (filled 8 z r ++ laid rs) ++ w ≡ filled 8 z r ++ (laid rs ++ w) = append-assoc (filled 8 z r) (laid rs) w in
     rw (e, take-at (filled 8 z r) (laid rs ++ w) 8 l, drop-at (filled 8 z r) (laid rs ++ w) 8 l, row-back r (s .0), rows-back false rs w (s .2))
 
