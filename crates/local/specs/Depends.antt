@@ -61,7 +61,7 @@ finish-both N a k bs m m′ (move v) l = record {
 module _ (N : Net) (a : ℕ) (m m′ : Memory) (f : Sound N) (l : SameLengths m m′)
     (good : wellFormed N (m .records) (m .froms) (m .tos) ≡ true) (good′ : wellFormed N (m′ .records) (m′ .froms) (m′ .tos) ≡ true)
     (own : (j : ℕ) → ownerOf N j ≡ a → word (m .records) j ≡ word (m′ .records) j) where
-  same-count : isArea N a m ≡ true → countOf (m .records) a ≡ countOf (m′ .records) a
+  pub same-count : isArea N a m ≡ true → countOf (m .records) a ≡ countOf (m′ .records) a
   same-count e =
       let one : 1 ≤ a = leb-true 1 a (and-left (leb 1 a) (leb a (areaCount N)) e) in
       let most : a ≤ areaCount N = leb-true a (areaCount N) (and-right (leb 1 a) (leb a (areaCount N)) e) in

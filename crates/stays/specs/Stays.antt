@@ -34,7 +34,7 @@ use Rattle.stays.specs.Bounds.{records-bounded, froms-bounded, tos-bound
 
 -- ---- T-fresh
 
-zero-word : (n j : ℕ) → word (replicate n z) j ≡ z
+pub zero-word : (n j : ℕ) → word (replicate n z) j ≡ z
 zero-word zero j = refl
 zero-word (suc n) zero = refl
 zero-word (suc n) (suc j) = zero-word n j

@@ -1,0 +1,6 @@
+pub mod Runs
+pub mod Moves
+pub mod Orders
+pub mod Refused
+pub mod Received
+pub mod Heard

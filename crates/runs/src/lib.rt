@@ -1,0 +1,3 @@
+// Every run: any list of calls from a reset, refused ones among them: theorems in specs/.
+
+pub fn nothing() {}
