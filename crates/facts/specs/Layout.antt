@@ -93,6 +93,21 @@ rows-short zero w i h = absurd (omega arith)
 rows-short (suc n) w zero h = row-short (take 8 w)
 rows-short (suc n) w (suc i) h = rows-short n (drop 8 w) i (omega arith)
 
+-- a row read back has the words of its kind's fields and no more
+abbrev pub roomOf : Row → ℕ
+roomOf r = suc (length (fieldsOf (kind r)))
+
+row-room : (w : Words) → length (rowOfWords w) ≤ roomOf (rowOfWords w)
+unfolding rowOfWords
+row-room [] = omega arith
+row-room (x ∷ w) = rw length-take (omega arith)
+
+pub rows-room : (n : ℕ) (w : Words) (i : ℕ) → i < n → length (getD (rowsOf n w) i []) ≤ roomOf (getD (rowsOf n w) i [])
+unfolding rowsOf
+rows-room zero w i h = absurd (omega arith)
+rows-room (suc n) w zero h = row-room (take 8 w)
+rows-room (suc n) w (suc i) h = rows-room n (drop 8 w) i (omega arith)
+
 -- ---- the record
 
 abbrev rowsIn : Words → List Row
@@ -166,12 +181,24 @@ module _ (net : Words) (e : isNetwork net ≡ true) where
       let a : 8 + 8 * i + j ≡ 8 + (8 * i + j) = omega arith in
       sym (laid-word (rowsIn net) (rows-in-short net) i j h k) ∙ sym (out-after net (8 * i + j)) ∙ ap (word (networkOf (tableOf net))) (sym a) ∙ ap (λ (w : Words). word w (8 + 8 * i + j)) (sym (rec .written))
 
+  -- a row is no longer than its kind has it
+  pub row-room-in : (i : ℕ) → i < length (rowsIn net) → length (getD (rowsIn net) i []) ≤ roomOf (getD (rowsIn net) i [])
+  unfolding tableOf
+  row-room-in i h = rows-room (nat (rowCount net)) (drop 8 net) i (omega (arith, row-count))
+
   -- those after the last row
   pub after-rows : (k : ℕ) → 8 + 8 * length (rowsIn net) ≤ k → word net k ≡ z
   after-rows k h =
       let a : k ≡ 8 + (k - 8) = omega arith in
       ap (λ (w : Words). word w k) (rec .written) ∙ ap (word (networkOf (tableOf net))) a ∙ out-after net (k - 8)
       ∙ List·getD-eq-default (laid (rowsIn net)) z (omega (arith, length-laid (rowsIn net) (rows-in-short net)))
+
+  -- the head's last four
+  pub head-zero : (k : ℕ) → 4 ≤ k → k < 8 → word net k ≡ z
+  head-zero k l h =
+      let w = take 3 net ++ (pos (length (rowsIn net)) ∷ []) in
+      let n : length w ≤ k = rw (length-append (take 3 net) (pos (length (rowsIn net)) ∷ []), length-take) (omega arith) in
+      ap (λ (w : Words). word w k) (rec .written) ∙ out-head net k h ∙ getD-filled 8 z w k ∙ List·getD-eq-default w z n
 
   -- the study's words
   pub head-word : (j : ℕ) → j < 3 → word (getD (tableOf net) 0 []) (suc j) ≡ word net j

@@ -9,15 +9,15 @@ use mathlib.Core.Logic.{_↔_}
 use mathlib.Core.Bool.{Bool, true, false}
 use mathlib.Core.List.{List, [], _∷_}
 use lib.ListN.{length, getD, take, List·getD-eq-default}
-use lib.Dec.{eqb}
+use lib.Dec.{eqb, lit≤}
 use borrow.Author.Tests.{ne-eqb}
-use lib.IntN.{pos}
+use lib.IntN.{ℤ, pos}
 use Rattle.whole.specs.Lists.{Words, z, word, nat, count, sum}
 use Rattle.whole.specs.Folds.{count-next}
 use Rattle.whole.specs.Most.{most-at, most-least}
 use Rattle.whole.specs.Prefix.{sum-below, sum-within, total-alone, count-part}
 use Rattle.paper.specs.Limits as Limits
-use Rattle.paper.specs.Rows.{Row, isBranch, isSource, isLine, from, to}
+use Rattle.paper.specs.Rows.{Row, kinds, fieldsOf, kind, isBranch, isSource, isLine, from, to, travel}
 use Rattle.paper.specs.Faults.{fixes, slots}
 use Rattle.paper.specs.Network.{Table, tableOf, passes, isNetwork}
 use Rattle.paper.specs.Areas.{Net, netOf, netOn, step, areaOf, areaCount, rowArea, joins, branchNumber}
@@ -71,6 +71,26 @@ table-sound h rows e =
       areaSome = λ a l k. Areas.area-some h rows e _ a (omega arith) l (omega (arith, Areas.area-count h rows e, k));
       areaLinked = Areas.area-linked h rows e;
     }
+
+-- ---- the fourth field, of whatever kind
+
+fourth : (r : Row) {step nodes : ℕ} → RowSound step nodes r → (Layout.roomOf r ≤ 4 → word r 4 ≡ z) → word r 4 ≡ pos (travel r)
+unfolding fieldsOf kinds
+fourth r s rest = go (kind r) refl (s .kindLeast) (s .kindMost)
+  where
+    short : (k : ℕ) → kind r ≡ k → suc (length (fieldsOf k)) ≤ 4 → word r 4 ≡ pos (travel r)
+    short k e h = let q : word r 4 ≡ z = rest (rw e h) in q ∙ ap (λ (x : ℤ). pos (nat x)) (sym q)
+
+    go : (k : ℕ) → kind r ≡ k → 1 ≤ k → k ≤ 7 → word r 4 ≡ pos (travel r)
+    go zero e l h = absurd (omega arith)
+    go (suc zero) e l h = short 1 e (lit≤ tt)
+    go (suc (suc zero)) e l h = short 2 e (lit≤ tt)
+    go (suc (suc (suc zero))) e l h = short 3 e (lit≤ tt)
+    go (suc (suc (suc (suc zero)))) e l h = s .line (rw e) .travelIn .isNat
+    go (suc (suc (suc (suc (suc zero))))) e l h = s .switch (rw e) .closesIn .isNat
+    go (suc (suc (suc (suc (suc (suc zero)))))) e l h = s .source (rw e) .riseIn .isNat
+    go (suc (suc (suc (suc (suc (suc (suc zero))))))) e l h = s .source (rw e) .riseIn .isNat
+    go (suc (suc (suc (suc (suc (suc (suc (suc k)))))))) e l h = absurd (omega arith)
 
 -- ---- slots: "slots stand in table order"
 
@@ -175,6 +195,21 @@ module _ (net : Words) (e : isNetwork net ≡ true) where
   pub head-word : (j : ℕ) → j < 3 → word (netIn net .head) (suc j) ≡ word net j
   unfolding netOf netOn
   head-word = Layout.head-word net e
+
+  -- a row has the words of its kind's fields and no more
+  pub row-room : (i : ℕ) → i < length (netIn net .rows) → length (rowAt (netIn net) i) ≤ Layout.roomOf (rowAt (netIn net) i)
+  unfolding netOf netOn
+  row-room = Layout.row-room-in net e
+
+  pub row-beyond : (i j : ℕ) → i < length (netIn net .rows) → Layout.roomOf (rowAt (netIn net) i) ≤ j → word (rowAt (netIn net) i) j ≡ z
+  row-beyond i j h k = List·getD-eq-default (rowAt (netIn net) i) z (omega (arith, row-room i h))
+
+  -- a line's travel, a switch's close, a source's rise, or 0
+  pub travel-word : (i : ℕ) → i < length (netIn net .rows) → word (rowAt (netIn net) i) 4 ≡ pos (travel (rowAt (netIn net) i))
+  travel-word i h = fourth (rowAt (netIn net) i) (net-sound .row i h) (row-beyond i 4 h)
+
+  pub head-zero : (k : ℕ) → 4 ≤ k → k < 8 → word net k ≡ z
+  head-zero = Layout.head-zero net e
 
   -- the words that no row has
   pub after-rows : (k : ℕ) → 8 + 8 * length (netIn net .rows) ≤ k → word net k ≡ z

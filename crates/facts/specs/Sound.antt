@@ -33,6 +33,7 @@ pub record BranchSound (step nodes : ℕ) (r : Row) : Type 0 where
   pub fromIn : Within 0 nodes (word r 1)
   pub toIn : Within 0 nodes (word r 2)
   pub sizeIn : Within 1 Limits.ohmsEnd (word r 3)
+  pub farads : kind r ≡ 3 → size r ≤ Limits.faradEnd
   pub apart : from r ≢ to r
   pub gLeast : 1 ≤ conductance step r
   pub gMost : conductance step r ≤ Limits.conductanceEnd
@@ -127,21 +128,24 @@ record Words (r : Row) : Type 0 where
   one : Within 0 Limits.nodeEnd (word r 1)
   two : Within 0 Limits.nodeEnd (word r 2)
   three : Within 1 Limits.ohmsEnd (word r 3)
+  farads : kind r ≡ 3 → size r ≤ Limits.faradEnd
 
 -- whatever the range of its size
-branch-words : (low high : ℕ) (r : Row) → between z (pos Limits.nodeEnd) (word r 1) ≡ true → between z (pos Limits.nodeEnd) (word r 2) ≡ true
-    → between (pos low) (pos high) (word r 3) ≡ true → 1 ≤ low → high ≤ Limits.ohmsEnd → Words r
-branch-words low high r a b c h k = record { one = within _ _ _ a; two = within _ _ _ b; three = wider (within low high _ c) h k }
+branch-words : (k low high : ℕ) (r : Row) → kind r ≡ k → between z (pos Limits.nodeEnd) (word r 1) ≡ true → between z (pos Limits.nodeEnd) (word r 2) ≡ true
+    → between (pos low) (pos high) (word r 3) ≡ true → 1 ≤ low → high ≤ Limits.ohmsEnd → (k ≡ 3 → high ≤ Limits.faradEnd) → Words r
+branch-words k low high r e a b c h u f =
+    let w = within low high _ c in
+    record { one = within _ _ _ a; two = within _ _ _ b; three = wider w h u; farads = λ q. let m = f (sym e ∙ q) in omega (arith, w .most) }
 
 words : (r : Row) → isBranch r ≡ true → InRange r → Words r
 unfolding fieldsOf kinds
 words r b f =
     by-branch (λ k. kind r ≡ k → Words r) (kind r) b
-    (λ e. branch-words _ _ r (field 1 0 r e f tt) (field 1 1 r e f tt) (field 1 2 r e f tt) (lit≤ tt) (lit≤ tt))
-    (λ e. branch-words _ _ r (field 2 0 r e f tt) (field 2 1 r e f tt) (field 2 2 r e f tt) (lit≤ tt) (lit≤ tt))
-    (λ e. branch-words _ _ r (field 3 0 r e f tt) (field 3 1 r e f tt) (field 3 2 r e f tt) (lit≤ tt) (lit≤ tt))
-    (λ e. branch-words _ _ r (field 4 0 r e f tt) (field 4 1 r e f tt) (field 4 2 r e f tt) (lit≤ tt) (lit≤ tt))
-    (λ e. branch-words _ _ r (field 5 0 r e f tt) (field 5 1 r e f tt) (field 5 2 r e f tt) (lit≤ tt) (lit≤ tt))
+    (λ e. branch-words 1 _ _ r e (field 1 0 r e f tt) (field 1 1 r e f tt) (field 1 2 r e f tt) (lit≤ tt) (lit≤ tt) (λ q. absurd (omega arith)))
+    (λ e. branch-words 2 _ _ r e (field 2 0 r e f tt) (field 2 1 r e f tt) (field 2 2 r e f tt) (lit≤ tt) (lit≤ tt) (λ q. absurd (omega arith)))
+    (λ e. branch-words 3 _ _ r e (field 3 0 r e f tt) (field 3 1 r e f tt) (field 3 2 r e f tt) (lit≤ tt) (lit≤ tt) (λ q. lit≤ tt))
+    (λ e. branch-words 4 _ _ r e (field 4 0 r e f tt) (field 4 1 r e f tt) (field 4 2 r e f tt) (lit≤ tt) (lit≤ tt) (λ q. absurd (omega arith)))
+    (λ e. branch-words 5 _ _ r e (field 5 0 r e f tt) (field 5 1 r e f tt) (field 5 2 r e f tt) (lit≤ tt) (lit≤ tt) (λ q. absurd (omega arith)))
     refl
 
 branch-sound : (step : ℕ) (r : Row) → Parts step r → isBranch r ≡ true → BranchSound step Limits.nodeEnd r
@@ -154,6 +158,7 @@ branch-sound step r p b =
       fromIn = w .one;
       toIn = w .two;
       sizeIn = w .three;
+      farads = w .farads;
       apart = eqb-false (from r) (to r) (unless (isBranch r) (eqb (from r) (to r)) (p .apart) b);
       gLeast = leb-true 1 (conductance step r) (and-left low high g);
       gMost = leb-true (conductance step r) Limits.conductanceEnd (and-right low high g);
@@ -255,14 +260,14 @@ named-most step nodes r s =
     by-kind (λ n. n ≤ nodes) (isBranch r) (isSource r) _ _
     (λ b. omega (arith, s .branch b .fromIn .most, s .branch b .toIn .most)) (λ b. s .source b .atIn .most) (omega arith)
 
-named-branch : (r : Row) → isBranch r ≡ true → named r ≡ max (from r) (to r)
+pub named-branch : (r : Row) → isBranch r ≡ true → named r ≡ max (from r) (to r)
 unfolding named
 named-branch r b = rw b
 
 source-no-branch : (k : ℕ) → (eqb k 6 || eqb k 7) ≡ true → (leb 1 k && leb k 5) ≡ false
 source-no-branch k e = by-source (λ k. (leb 1 k && leb k 5) ≡ false) k e refl refl
 
-named-source : (r : Row) → isSource r ≡ true → named r ≡ at r
+pub named-source : (r : Row) → isSource r ≡ true → named r ≡ at r
 unfolding named
 named-source r s = rw (source-no-branch (kind r) s, s)
 
@@ -280,6 +285,7 @@ sound-named step most nodes r s n =
             fromIn = record { isNat = p .fromIn .isNat; least = omega arith; most = omega (arith, e) };
             toIn = record { isNat = p .toIn .isNat; least = omega arith; most = omega (arith, e) };
             sizeIn = p .sizeIn;
+            farads = p .farads;
             apart = p .apart;
             gLeast = p .gLeast;
             gMost = p .gMost;
