@@ -1,15 +1,14 @@
 -- A double is doubled exactly. So the whole part of its double gives the nearest whole number. Assumes nothing.
 use Prim.Native.Nat.{ℕ, zero, suc, _+_, _*_, _-_, _/_, _%_, _^_, _<_, _≤_}
 use mathlib.Core.Path.{_≡_, refl, sym, subst, ap, _∙_}
-use mathlib.Core.Bool.{Bool, true, false, not, cond, _&&_, _||_, Bool·beq, true≢false, false≢true}
-use native.Mathlib.Nat.{le-trans, le-of-eq, lt-of-le-of-lt, le-of-mul-le-mul-right, mul-le-mul-right, mul-assoc, mul-one, mul-right-comm, add-mul, zero-mul, mul-pos, lt-irrefl, lt-of-lt-of-le, div-le-of-le-mul, div-div-eq-div-mul, add-div-right, zero-div, mul-comm, le-of-lt}
+use mathlib.Core.Bool.{Bool, true, false, _&&_}
+use native.Mathlib.Nat.{le-trans, le-of-eq, lt-of-le-of-lt, le-of-mul-le-mul-right, mul-le-mul-right, mul-assoc, mul-one, mul-right-comm, add-mul, zero-mul, mul-pos, lt-irrefl, lt-of-lt-of-le, div-le-of-le-mul, div-div-eq-div-mul, add-div-right, zero-div, mul-comm}
 use native.Mathlib.Omega.{arith}
-use lib.Dec.{T, leb, ltb, eqb, lt→ltb, le→leb, leb→le, ltb→lt, eqb→eq, nltb→le, lit<, lit≤}
+use lib.Dec.{T, leb, ltb, eqb, lt→ltb, leb→le, ltb→lt, lit<}
 use lib.Pow.{pow-add, pow-lt}
 use lib.IntN.{ℤ, pos, negsuc}
-use lib.Ieee as Ieee
-use lib.Ieee.{Float, nan, inf, fin, binary64, up, down, round, add, sum, neg, lt, le, eq, fits, toUnsigned}
-use lib.Ieee.Fits.{down-pos, up-pos, and-l, and-r}
+use lib.Ieee.{Float, nan, inf, fin, binary64, up, down, round, add, lt, fits, toUnsigned}
+use lib.Ieee.Fits.{down-pos, and-l, and-r}
 use lib.Ieee.Exact.{HasValue, round-exact}
 use lib.Ieee.Nearest.{div-same}
 use lib.Ieee.Scale.{round-same}

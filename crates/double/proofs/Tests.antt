@@ -1,13 +1,13 @@
 -- The tests that code makes, by the number that the double is. Assumes nothing.
-use Prim.Native.Nat.{ℕ, zero, suc, _+_, _*_, _<_, _≤_}
-use mathlib.Core.Path.{_≡_, refl, sym, subst, ap, _∙_}
-use mathlib.Core.Bool.{Bool, true, false, not, cond, _&&_, _||_, Bool·beq, true≢false, false≢true, or-true, and-true}
-use native.Mathlib.Nat.{le-trans, le-of-eq, le-of-mul-le-mul-right, mul-one, zero-mul, mul-pos}
+use Prim.Native.Nat.{ℕ, _+_, _*_, _<_, _≤_}
+use mathlib.Core.Path.{_≡_, refl, sym, ap, _∙_}
+use mathlib.Core.Bool.{Bool, true, false, not, _&&_, _||_, true≢false, false≢true, and-true}
+use native.Mathlib.Nat.{le-trans, le-of-eq, le-of-mul-le-mul-right, mul-one, zero-mul}
 use native.Mathlib.Omega.{arith}
 use borrow.Author.Tests.{ltb-true, ltb-false, leb-true, leb-false, lt-ltb, eq-eqb, ne-eqb, eqb-true, eqb-false}
-use lib.Dec.{T, leb, ltb, eqb}
+use lib.Dec.{leb, ltb, eqb}
 use lib.IntN.{ℤ, pos, negℤ}
-use lib.Ieee.{Float, nan, inf, fin, binary64, up, down, neg, lt, le, eq, ofInt}
+use lib.Ieee.{Float, nan, inf, fin, binary64, up, down, neg, lt, le, ofInt}
 use lib.Ieee.Fits.{down-pos, up-pos}
 use lib.Ieee.Positive.{num, den}
 use Rattle.whole.specs.Rounding.{nearest, nearest-unique}

@@ -1,5 +1,5 @@
 -- The double of a whole number by its two halves is that number rounded once, to the nearest double, for each number of 64 bits. Assumes nothing.
-use Prim.Native.Nat.{ℕ, zero, suc, _+_, _*_, _-_, _/_, _%_, _^_, _<_, _≤_}
+use Prim.Native.Nat.{ℕ, suc, _*_, _-_, _/_, _%_, _^_, _<_}
 use mathlib.Core.Path.{_≡_, refl, sym, subst, ap, _∙_}
 use mathlib.Core.Bool.{Bool, true, false, cond, true≢false, false≢true}
 use native.Mathlib.Nat.{mul-one, mul-assoc, mul-comm, mul-right-comm, mul-pos, mul-lt-mul-of-pos-right, mul-sub, zero-lt-suc, lt-of-lt-of-le, le-of-lt}
@@ -17,7 +17,6 @@ use borrow.Author.Tests.{lt-ltb, le-ltb}
 use mir.Syntax.{w64}
 use mir.Val.{SFits}
 use Rattle.std.proofs.num.Nearest.{halves-masked}
-use Rattle.whole.specs.Floor.{high, low}
 use Rattle.paper.specs.Doubles.{double, four-giga}
 
 -- the machine's sum of -A and B, with B below A

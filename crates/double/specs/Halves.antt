@@ -1,17 +1,14 @@
 -- What is rounded, and how large it gets. Assumes nothing.
-use Prim.Native.Nat.{ℕ, _+_, _*_, _<_, _≤_}
+use Prim.Native.Nat.{ℕ, _*_, _≤_}
 use mathlib.Core.Path.{_≡_, refl}
 use mathlib.Core.Bool.{Bool, true, false, cond, false≢true}
-use native.Mathlib.Nat.{mul-le-mul-right}
-use native.Mathlib.Omega.{arith}
 use borrow.Author.Tests.{leb-true}
 use lib.Dec.{T}
-use lib.IntN.{ℤ, pos, negℤ, natAbs}
+use lib.IntN.{pos, negℤ, natAbs}
 use lib.Ieee.{Float, nan, inf, fin, up, down}
 use lib.Ieee.Fits.{down-pos}
-use lib.Ieee.Positive.{num, den}
 use Rattle.whole.specs.Int.{abs-neg}
-use Rattle.whole.specs.Rounding.{nearest, nearest-low}
+use Rattle.whole.specs.Rounding.{nearest, nearest-most}
 use Rattle.paper.specs.Doubles.{inRange, wholeOf}
 use Rattle.paper.specs.Limits.{voltageEnd}
 
@@ -20,13 +17,6 @@ abbrev pub UpTo : ℕ → Float → Type 0
 UpTo top nan = ⊥
 UpTo top (inf s) = ⊥
 UpTo top (fin s m e) = (m * up e ≤ top * down e) × (T s → m ≡ 0)
-
--- a quotient of at most top rounds to at most top
-pub nearest-most : (a b top : ℕ) → 0 < b → a ≤ top * b → nearest a b ≤ top
-nearest-most a b top h l = by-contra (λ (g : top < nearest a b). omega (arith, mul-le-mul-right b g, nearest-low a b))
-  where
-    by-contra : (top < nearest a b → ⊥) → nearest a b ≤ top
-    by-contra f = omega (arith, f)
 
 signed-abs : (s : Bool) (n : ℕ) → natAbs (cond s (negℤ (pos n)) (pos n)) ≡ n
 signed-abs true n = abs-neg (pos n)

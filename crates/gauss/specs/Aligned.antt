@@ -13,13 +13,12 @@ use lib.Ieee.{Float, nan}
 use Rattle.whole.specs.Lists.{Words}
 use Rattle.whole.specs.Folds.{getD-map, filled-at, filled-least}
 use Rattle.paper.specs.Limits.{nodeEnd}
-use Rattle.whole.specs.Turns.{turns}
 use Rattle.whole.specs.TurnLaws.{turns-keeps}
 use Rattle.paper.specs.declared.Equation.{Equation}
 use Rattle.paper.specs.Legs.{Leg}
 use Rattle.paper.specs.Doubles.{double}
 use Rattle.paper.specs.Solve.{nought, entry, matrixRow, equation, system}
-use Rattle.paper.specs.Elimination.{System, sys, line, cell, row, less, quotient, lineLess, rowLess, allLess, eliminated}
+use Rattle.paper.specs.Elimination.{System, sys, line, cell, row, rowLess, allLess, eliminated}
 
 pub record Aligned (n : ℕ) (s : System) : Type 0 where
   pub enough : n ≤ length (s .rows)

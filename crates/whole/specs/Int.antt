@@ -1,16 +1,16 @@
 -- Laws on ℤ that lib.IntN lacks: sizes of sums and products, ring laws, tests as facts. Assumes nothing.
 use mathlib.Core.Path.{_≡_, refl, sym, _∙_, ap, subst}
-use mathlib.Core.Bool.{Bool, true, false, not, cond, _&&_}
-use Prim.Native.Nat.{ℕ, zero, suc, _+_, _*_, _-_, _<_, _≤_, _^_, _/_, _%_}
+use mathlib.Core.Bool.{Bool, true, false, not, cond}
+use Prim.Native.Nat.{ℕ, zero, suc, _+_, _*_, _-_, _<_, _≤_, _^_}
 use native.Mathlib.Nat as NatL
 use native.Mathlib.Omega.{arith}
-use lib.Dec.{T, ltb, leb, ltb→lt, nltb→le, leb·suc-suc}
-use lib.IntN.{ℤ, pos, negsuc, negℤ, natAbs, sucℤ, predℤ, subℕ, _+ℤ_, _-ℤ_, _*ℤ_, ℤ-ind, +ℤ-assoc, +ℤ-comm, +ℤ-idl, +ℤ-idr, *ℤ-zero, zero-*ℤ, sucℤ-*ℤ, predℤ-*ℤ, *ℤ-comm, +ℤ-sucℤ, +ℤ-predℤ, sucℤ-+ℤ, predℤ-+ℤ, *ℤ-negsuc, negℤ-+ℤ, negℤ-negℤ, +ℤ-invr, +ℤ-negℤ-cancel}
+use lib.Dec.{T, ltb, ltb→lt}
+use lib.IntN.{ℤ, pos, negsuc, negℤ, natAbs, sucℤ, predℤ, subℕ, _+ℤ_, _-ℤ_, _*ℤ_, +ℤ-assoc, +ℤ-comm, +ℤ-idl, +ℤ-idr, *ℤ-zero, zero-*ℤ, sucℤ-*ℤ, predℤ-*ℤ, *ℤ-comm, sucℤ-+ℤ, predℤ-+ℤ, negℤ-+ℤ, negℤ-negℤ, +ℤ-invr}
 use lib.Signed.{mag, leZ, ltZ, nonNeg}
-use mir.Syntax.{Width, w64}
-use mir.Val.{SFits, Fits, hbits, toZ, ofZ}
-use mir.Facts.{toZ-ofZ, fits-natAbs}
-use borrow.Author.Tests.{ltb-true, ltb-false, leb-true, leb-false, lt-leb, le-leb, lt-ltb, le-ltb}
+use mir.Syntax.{w64}
+use mir.Val.{SFits, toZ, ofZ}
+use mir.Facts.{toZ-ofZ}
+use borrow.Author.Tests.{leb-true, lt-ltb, le-ltb}
 
 cond-ind : (c : Bool) (x y : ℤ) (P : ℤ → Type 0) → (T c → P x) → (T (not c) → P y) → P (cond c x y)
 cond-ind true x y P f g = f tt
@@ -116,23 +116,6 @@ abs-add-le x y p q = omega (arith, abs-add x y)
 pub abs-sub-le : (x y : ℤ) {m n : ℕ} → natAbs x ≤ m → natAbs y ≤ n → natAbs (x -ℤ y) ≤ m + n
 abs-sub-le x y p q = omega (arith, abs-sub x y)
 
--- ---- tests. `v < -(k+1)` and `v <= k+1`, as a range test makes them
-pub below-low : (k : ℕ) (z : ℤ) → ltZ z (negsuc k) ≡ true → leb (natAbs z) (suc k) ≡ false
-below-low k (pos n) e = cc
-below-low k (negsuc n) e = lt-leb (suc n) (suc k) (let h : k < n = ltb-true k n e in omega arith)
-
-pub not-below-low : (k : ℕ) (z : ℤ) → ltZ z (negsuc k) ≡ false → leZ z (pos (suc k)) ≡ leb (natAbs z) (suc k)
-not-below-low k (pos n) e = refl
-not-below-low k (negsuc n) e = sym (le-leb (suc n) (suc k) (let h : n ≤ k = ltb-false k n e in omega arith))
-
-pub above-high : (k : ℕ) (z : ℤ) → ltZ (pos (suc k)) z ≡ true → leb (natAbs z) (suc k) ≡ false
-above-high k (pos n) e = lt-leb n (suc k) (ltb-true (suc k) n e)
-above-high k (negsuc n) e = cc
-
-pub between : (k : ℕ) (z : ℤ) → ltZ z (negsuc k) ≡ false → ltZ (pos (suc k)) z ≡ false → leb (natAbs z) (suc k) ≡ true
-between k (pos n) e f = le-leb n (suc k) (ltb-false (suc k) n f)
-between k (negsuc n) e f = le-leb (suc n) (suc k) (let h : n ≤ k = ltb-false k n e in omega arith)
-
 -- what the machine reads back of a signed number that fits
 pub read64 : (z : ℤ) → mag z < 2 ^ 63 → toZ w64 (ofZ w64 z) ≡ z
 read64 z h = toZ-ofZ (record { sfits = h })
@@ -161,15 +144,7 @@ same-bits f g e = sym (toZ-ofZ f) ∙ ap (toZ w64) e ∙ toZ-ofZ g
 pub is-lit : {x : ℤ} (b : ℕ) → SFits w64 x → ofZ w64 x ≡ b → x ≡ toZ w64 b
 is-lit b f e = sym (toZ-ofZ f) ∙ ap (toZ w64) e
 
--- `v <= k+1 && -(k+1) <= v`, as its two ways leave it
-pub low-half : (k : ℕ) (z : ℤ) → leZ z (pos (suc k)) ≡ true → leZ (negsuc k) z ≡ leb (natAbs z) (suc k)
-low-half k (pos n) e = sym e
-low-half k (negsuc n) e = sym (leb·suc-suc n k)
-
-pub high-half : (k : ℕ) (z : ℤ) → leZ z (pos k) ≡ false → leZ z (pos k) ≡ leb (natAbs z) k
-high-half k (pos n) e = refl
-high-half k (negsuc n) e = cc
-
+-- a word that a test has found not to be below 0
 pub not-neg : (z : ℤ) → ltZ z (pos 0) ≡ false → T (nonNeg z)
 not-neg (pos n) e = tt
 not-neg (negsuc n) e = subst T e tt

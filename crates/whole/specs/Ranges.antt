@@ -1,15 +1,15 @@
 -- Whether |x| ≤ m: by the sign of m - |x|, and for many words at once by the sign of all these taken together. Assumes nothing.
-use Prim.Native.Nat.{ℕ, zero, suc, _+_, _-_, _<_, _≤_, _^_}
+use Prim.Native.Nat.{ℕ, zero, suc, _-_, _<_, _≤_, _^_}
 use mathlib.Core.Path.{_≡_, refl, sym, ap, _∙_}
 use mathlib.Core.Bool.{Bool, true, false, _&&_, true≢false}
 use native.Mathlib.Omega.{arith}
 use borrow.Author.Tests.{ltb-true, ltb-false, lt-ltb, le-ltb, lt-leb, le-leb}
 use lib.Bits.{bitOr, or-lt, or-comm, or-add-and, and-le-r}
 use lib.Dec.{T, leb, ltb, leb·zero}
-use lib.IntN.{ℤ, pos, negsuc, negℤ, natAbs, subℕ, _+ℤ_, _-ℤ_}
+use lib.IntN.{ℤ, pos, negsuc, natAbs, subℕ, _+ℤ_, _-ℤ_}
 use lib.Signed.{mag, leZ, ltZ, nonNeg}
 use mir.Syntax.{w64}
-use mir.Val.{SFits, toZ, ofZ}
+use mir.Val.{SFits, toZ}
 use Rattle.whole.specs.Int.{subℕ-lt, subℕ-ge}
 use Rattle.whole.specs.Lists.{upTo}
 

@@ -1,6 +1,6 @@
 -- Quotients: to the nearest, halves up; toward zero. Assumes nothing.
 use Prim.Native.Nat.{ℕ, zero, suc, _+_, _*_, _-_, _<_, _≤_, _^_, _/_, _%_}
-use mathlib.Core.Path.{_≡_, refl, sym, ap, subst, _∙_}
+use mathlib.Core.Path.{_≡_, refl, sym, ap, _∙_}
 use mathlib.Core.Bool.{true, false≢true}
 use native.Mathlib.Nat as NatL
 use native.Mathlib.Nat.{div-eq-of-lt-le, div-add-mod', div-le-of-le-mul, div-mul-le-self, lt-div-mul-add, mul-le-mul-right, mul-le-mul-left, mod-lt}
@@ -29,6 +29,13 @@ nearest-high a b h = let g : 0 < 2 * b = omega arith in omega (arith, lt-div-mul
 pub nearest-unique : (a b r : ℕ) → 2 * r * b ≤ 2 * a + b → 2 * a < 2 * r * b + b → nearest a b ≡ r
 unfolding nearest
 nearest-unique a b r lo hi = div-eq-of-lt-le (2 * b) (omega arith) (omega arith)
+
+-- a quotient of at most top rounds to at most top
+pub nearest-most : (a b top : ℕ) → 0 < b → a ≤ top * b → nearest a b ≤ top
+nearest-most a b top h l = by-contra (λ (g : top < nearest a b). omega (arith, mul-le-mul-right b g, nearest-low a b))
+  where
+    by-contra : (top < nearest a b → ⊥) → nearest a b ≤ top
+    by-contra f = omega (arith, f)
 
 -- by the rest, without doubling
 pub nearest-down : (a b : ℕ) → 0 < b → a % b < b - a % b → a / b ≡ nearest a b

@@ -6,11 +6,10 @@ use native.Mathlib.Omega.{arith}
 use native.Mathlib.Nat.{le-trans}
 use borrow.Author.Tests.{leb-true}
 use lib.Dec.{T, ltb, leb, ltb→lt, leb→le}
-use lib.IntN.{ℤ, negℤ, natAbs, _+ℤ_, _-ℤ_, _*ℤ_}
+use lib.IntN.{ℤ, natAbs, _+ℤ_, _-ℤ_, _*ℤ_}
 use mir.Syntax.{w64}
-use mir.Val.{SFits, toZ, ofZ}
-use mir.Facts.{toZ-ofZ}
-use Rattle.whole.specs.Int.{fits64, abs-add-le, abs-sub-le, abs-mul-le, abs-neg}
+use mir.Val.{SFits}
+use Rattle.whole.specs.Int.{fits64, abs-add-le, abs-sub-le, abs-mul-le}
 
 infix 50 ∣_∣≤_
 pub record ∣_∣≤_ (z : ℤ) (m : ℕ) : Type 0 where

@@ -1,16 +1,16 @@
 -- Sums of whole numbers over a list: regrouped, negated, exchanged, and how large they get. Assumes nothing.
-use Prim.Native.Nat.{ℕ, zero, suc, _+_, _*_, _<_, _≤_}
+use Prim.Native.Nat.{ℕ, _+_, _*_, _<_, _≤_}
 use mathlib.Core.Path.{_≡_, refl, sym, ap, _∙_}
-use mathlib.Core.Bool.{Bool, true, false, cond, _&&_}
+use mathlib.Core.Bool.{Bool, true, false, cond}
 use mathlib.Core.List.{List, [], _∷_, _++_, map}
 use native.Mathlib.Omega.{arith}
 use native.Mathlib.Numerals.{add-one}
 use lib.Dec.{leb}
 use lib.ListN.{length, getD, take, drop, drop-of-length-le}
 use lib.Seq.{drop-cons, take-suc}
-use lib.IntN.{ℤ, pos, negℤ, natAbs, _+ℤ_, _-ℤ_, _*ℤ_, +ℤ-assoc, +ℤ-comm, +ℤ-idl, +ℤ-idr, negℤ-+ℤ, *ℤ-zero}
+use lib.IntN.{ℤ, negℤ, natAbs, _+ℤ_, _-ℤ_, _*ℤ_, +ℤ-assoc, +ℤ-comm, +ℤ-idl, +ℤ-idr, negℤ-+ℤ, *ℤ-zero}
 use Rattle.whole.specs.Lists.{z, total, count, every, upTo}
-use Rattle.whole.specs.Int.{+ℤ-swap, +ℤ-left, *ℤ-distr-l}
+use Rattle.whole.specs.Int.{+ℤ-left, *ℤ-distr-l}
 use Rattle.whole.specs.Size.{∣_∣≤_, add, tested}
 use Rattle.whole.specs.Folds.{and-left, and-right}
 

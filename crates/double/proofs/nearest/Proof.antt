@@ -1,11 +1,9 @@
 -- Assumes nothing.
-use mathlib.Core.Path.{_≡_, sym, ap, _∙_}
-use mathlib.Core.Bool.{Bool, true, cond}
+use mathlib.Core.Path.{_≡_}
+use mathlib.Core.Bool.{true}
 use lib.Ieee.{inFloat}
 use Rattle.whole.specs.Int.{read64}
-use Rattle.paper.specs.declared.Rounded.{Rounded}
-use Rattle.paper.specs.declared.Rounded.the-variants.{Whole, Outside}
-use Rattle.paper.specs.Doubles.{inRange, wholeOf, nearestOf}
+use Rattle.paper.specs.Doubles.{inRange, nearestOf}
 use Rattle.double.proofs.Tests.{range-yes, range-low, range-high}
 use Rattle.double.proofs.nearest.Statement.{statement}
 use Rattle.double.proofs.nearest.Tie as tie

@@ -1,6 +1,6 @@
 -- The invariant: the turns that are left lead to the answer; line p and its equation are as they were. Assumes nothing.
 use Prim.Native.Nat.{_-_, _<_}
-use mathlib.Core.Path.{_≡_, refl, sym, _∙_}
+use mathlib.Core.Path.{_≡_, refl}
 use native.Mathlib.Omega.{arith}
 use lib.Seq.{getD-set-other}
 use Rattle.whole.specs.Turns.{turns, turns-next, turns-end}

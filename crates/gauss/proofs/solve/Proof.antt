@@ -1,6 +1,5 @@
 -- Assumes nothing.
 use mathlib.Core.Path.{_∙_, ap}
-use Prim.Native.Nat.{ℕ}
 use borrow.Author.Needs.{needs}
 use Rattle.paper.specs.Elimination.{solved, voltages}
 use Rattle.gauss.proofs.solve.Statement.{statement}

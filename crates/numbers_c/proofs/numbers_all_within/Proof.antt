@@ -1,11 +1,10 @@
 -- Assumes nothing.
-use mathlib.Core.Path.{_≡_, refl, sym, ap, _∙_}
+use mathlib.Core.Path.{_≡_, refl, sym, ap}
 use native.Mathlib.Omega.{arith}
 use borrow.Author.Tests.{le-ltb}
 use mir.Syntax.{w64}
 use mir.Val.{toZ, ofZ}
-use mathlib.Core.Bool.{Bool, true, false, not, _&&_}
-use lib.Dec.{T}
+use mathlib.Core.Bool.{not}
 use lib.IntN.{ℤ, pos, negsuc}
 use lib.Signed.{nonNeg, ltZ}
 use mir.Facts.{toZ-ofZ}

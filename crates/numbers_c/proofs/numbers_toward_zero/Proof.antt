@@ -1,5 +1,4 @@
 -- Assumes nothing.
-use mathlib.Core.Path.{_∙_, ap, sym}
 use mir.Facts.{toZ-ofZ}
 use Rattle.whole.specs.Int.{read64}
 use Rattle.numbers_c.specs.Outcomes.{partOf}

@@ -1,9 +1,8 @@
 -- The invariant: the sign gathered so far, and the words that are left, say together what all words say.
-use Prim.Native.Nat.{ℕ, _≤_, _<_, _-_, _+_, _^_}
+use Prim.Native.Nat.{ℕ, _≤_, _-_, _+_, _^_}
 use mathlib.Core.Path.{_≡_, refl, sym, ap, _∙_}
-use mathlib.Core.Bool.{Bool, true, _&&_, and-assoc, and-true}
+use mathlib.Core.Bool.{Bool, _&&_, and-assoc, and-true}
 use native.Mathlib.Omega.{arith}
-use lib.Bits.{bitOr}
 use lib.Dec.{ltb}
 use lib.ListN.{length, getD, drop}
 use lib.IntN.{ℤ, pos, natAbs}
@@ -13,7 +12,7 @@ use mir.Val.{toZ, ofZ}
 use mir.Facts.{toZ-ofZ}
 use Rattle.whole.specs.Lists.{every, upTo}
 use Rattle.whole.specs.Int.{read64}
-use Rattle.whole.specs.Ranges.{roomOf, room-sign, sign-bit, or-sign}
+use Rattle.whole.specs.Ranges.{room-sign, sign-bit, or-sign}
 use Rattle.whole.specs.Folds.{every-more, every-done}
 use Rattle.whole.proofs.all_within.Statement.{statement}
 use Rattle.whole.proofs.all_within.Tie as tie
