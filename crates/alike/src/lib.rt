@@ -1,0 +1,1 @@
+// Which cells the elimination reads. The crate is its specs.
