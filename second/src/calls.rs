@@ -1,0 +1,148 @@
+//! The three calls over lent memory, as the paper states them: each answers its number and what the number
+//! carries, and every refusal leaves all lent memory unchanged.
+
+use crate::limits::Whole;
+use crate::network::Network;
+use crate::reader;
+use crate::record::{self, NETWORK_WORDS};
+use crate::refusal::{Refusal, Stop};
+use crate::state::{self, RECORD_WORDS, STORE_WORDS};
+use crate::step::{self, AreaStep, Histories};
+
+/// Answers the number and the line (0 where none); an accepted reading writes all 1,024 words.
+pub fn read(text: &[u8], network: &mut [i64]) -> (u64, u64) {
+    if network.len() != NETWORK_WORDS {
+        return (Refusal::Store.number(), 0);
+    }
+    match reader::read_study(text) {
+        Err(bad) => (bad.refusal.number(), bad.line),
+        Ok(study) => {
+            network.copy_from_slice(&record::record_of(&study));
+            (0, 0)
+        }
+    }
+}
+
+/// Answers 9 or 8, or writes records and both line stores all zero and answers 0.
+pub fn reset(network: &[i64], records: &mut [i64], froms: &mut [i64], tos: &mut [i64]) -> u64 {
+    match lent_network(network, records, froms, tos) {
+        Err(stop) => stop.refusal.number(),
+        Ok(_) => {
+            records.fill(0);
+            froms.fill(0);
+            tos.fill(0);
+            0
+        }
+    }
+}
+
+/// Answers 0 and the area's new count, or the refusal's number and its place.
+pub fn advance(
+    network: &[i64],
+    records: &mut [i64],
+    froms: &mut [i64],
+    tos: &mut [i64],
+    area: u64,
+) -> (u64, u64) {
+    match checked_step(network, records, froms, tos, area) {
+        Err(stop) => (stop.refusal.number(), stop.place as u64),
+        Ok((network, area, taken)) => {
+            let count = write_step(&network, area, &taken, records, froms, tos);
+            (0, count as u64)
+        }
+    }
+}
+
+/// 9 for a wrong length, then 8 for a record that the reader could not write.
+fn lent_network(words: &[i64], records: &[i64], froms: &[i64], tos: &[i64]) -> Result<Network, Stop> {
+    let lengths = [words.len(), records.len(), froms.len(), tos.len()];
+    if lengths != [NETWORK_WORDS, RECORD_WORDS, STORE_WORDS, STORE_WORDS] {
+        return Err(Stop::nowhere(Refusal::Store));
+    }
+    let study = record::study_of_record(words).ok_or(Stop::nowhere(Refusal::Network))?;
+    Ok(Network::of_study(&study))
+}
+
+/// Everything an advance judges, in the paper's order 9, 8, 10 to 17; it only reads.
+fn checked_step(
+    words: &[i64],
+    records: &[i64],
+    froms: &[i64],
+    tos: &[i64],
+    area: u64,
+) -> Result<(Network, usize, AreaStep), Stop> {
+    let network = lent_network(words, records, froms, tos)?;
+    if !state::well_formed(&network, records, froms, tos) {
+        return Err(Stop::nowhere(Refusal::State));
+    }
+    if area == 0 || area > network.area_count as u64 {
+        return Err(Stop::nowhere(Refusal::Area));
+    }
+    let area = area as usize;
+    let count_of = |any: usize| Whole::from(records[state::count_place(any)]);
+    if count_of(area) == network.steps {
+        return Err(Stop::nowhere(Refusal::Done));
+    }
+    let step = count_of(area) + 1;
+    if let Some(branch) = step::first_waiting_line(&network, area, step, &count_of) {
+        return Err(Stop::at(Refusal::Wait, branch));
+    }
+    let histories = lent_histories(&network, step, records, froms, tos);
+    let taken = step::take_step(&network, area, step, &histories)?;
+    Ok((network, area, taken))
+}
+
+/// L and C keep theirs in the records. A line's from end reads what the to end sent at step k - d, and the
+/// other way about; 0 where k - d < 1, whatever the slot holds.
+fn lent_histories(network: &Network, step: Whole, records: &[i64], froms: &[i64], tos: &[i64]) -> Histories {
+    let first = state::first_slots(network);
+    let mut histories = Histories { at_from: Vec::new(), at_to: Vec::new() };
+    for (index, branch) in network.branches.iter().enumerate() {
+        let (at_from, at_to) = match branch.delay() {
+            None => (records[state::history_place(branch.row)], 0),
+            Some(delay) if step - delay < 1 => (0, 0),
+            Some(delay) => {
+                let slot = state::slot_of_step(first[index], delay, step - delay);
+                (tos[slot], froms[slot])
+            }
+        };
+        histories.at_from.push(Whole::from(at_from));
+        histories.at_to.push(Whole::from(at_to));
+    }
+    histories
+}
+
+/// Writes the area's own words only, and answers its new count.
+fn write_step(
+    network: &Network,
+    area: usize,
+    taken: &AreaStep,
+    records: &mut [i64],
+    froms: &mut [i64],
+    tos: &mut [i64],
+) -> i64 {
+    records[state::count_place(area)] += 1;
+    let count = records[state::count_place(area)];
+    for (node, voltage) in &taken.voltages {
+        records[state::voltage_place(*node)] = *voltage as i64;
+    }
+    let first = state::first_slots(network);
+    for done in &taken.branches {
+        let branch = &network.branches[done.branch];
+        put(records, state::from_current_place(branch.row), done.from_current);
+        put(records, state::to_current_place(branch.row), done.to_current);
+        put(records, state::history_place(branch.row), done.next_history);
+        if let Some(delay) = branch.delay() {
+            let slot = state::slot_of_step(first[done.branch], delay, Whole::from(count));
+            put(froms, slot, done.from_sent);
+            put(tos, slot, done.to_sent);
+        }
+    }
+    count
+}
+
+fn put(words: &mut [i64], place: usize, value: Option<Whole>) {
+    if let Some(value) = value {
+        words[place] = value as i64;
+    }
+}

@@ -1,0 +1,123 @@
+//! The calls under comparison: the proved library's, by the C declarations, as far as this build links it.
+
+pub type ReadCall = fn(&[u8], &mut [i64]) -> (u64, u64);
+pub type ResetCall = fn(&[i64], &mut [i64], &mut [i64], &mut [i64]) -> u64;
+pub type AdvanceCall = fn(&[i64], &mut [i64], &mut [i64], &mut [i64], u64) -> (u64, u64);
+
+/// A later call is compared only together with the earlier ones.
+#[derive(Clone, Copy)]
+pub struct Calls {
+    pub read: ReadCall,
+    pub reset: Option<ResetCall>,
+    pub advance: Option<AdvanceCall>,
+}
+
+/// The proved calls, or none in a build without the library.
+pub fn proved_calls() -> Option<Calls> {
+    #[cfg(feature = "read")]
+    return Some(Calls {
+        read: linked::read,
+        #[cfg(feature = "reset")]
+        reset: Some(linked::reset),
+        #[cfg(not(feature = "reset"))]
+        reset: None,
+        #[cfg(feature = "advance")]
+        advance: Some(linked::advance),
+        #[cfg(not(feature = "advance"))]
+        advance: None,
+    });
+    #[cfg(not(feature = "read"))]
+    None
+}
+
+#[cfg(feature = "read")]
+mod linked {
+    extern "C" {
+        fn emt_read(
+            text: *const u8,
+            text_len: usize,
+            network: *mut i64,
+            network_len: usize,
+            line: *mut u64,
+        ) -> u64;
+        #[cfg(feature = "reset")]
+        fn emt_reset(
+            network: *const i64,
+            network_len: usize,
+            records: *mut i64,
+            records_len: usize,
+            froms: *mut i64,
+            froms_len: usize,
+            tos: *mut i64,
+            tos_len: usize,
+        ) -> u64;
+        #[cfg(feature = "advance")]
+        fn emt_advance(
+            network: *const i64,
+            network_len: usize,
+            records: *mut i64,
+            records_len: usize,
+            froms: *mut i64,
+            froms_len: usize,
+            tos: *mut i64,
+            tos_len: usize,
+            area: u64,
+            place: *mut u64,
+        ) -> u64;
+    }
+
+    /// An answer that no call gives: a call that leaves its second answer unwritten shows by it.
+    const UNWRITTEN: u64 = 0xDEAD_BEEF_DEAD_BEEF;
+
+    pub fn read(text: &[u8], network: &mut [i64]) -> (u64, u64) {
+        let mut line = UNWRITTEN;
+        // SAFETY: both pairs come from slices, and `line` is one word of our own.
+        let number =
+            unsafe { emt_read(text.as_ptr(), text.len(), network.as_mut_ptr(), network.len(), &mut line) };
+        (number, line)
+    }
+
+    #[cfg(feature = "reset")]
+    pub fn reset(network: &[i64], records: &mut [i64], froms: &mut [i64], tos: &mut [i64]) -> u64 {
+        // SAFETY: every pair comes from a slice, and no two slices overlap.
+        unsafe {
+            emt_reset(
+                network.as_ptr(),
+                network.len(),
+                records.as_mut_ptr(),
+                records.len(),
+                froms.as_mut_ptr(),
+                froms.len(),
+                tos.as_mut_ptr(),
+                tos.len(),
+            )
+        }
+    }
+
+    #[cfg(feature = "advance")]
+    pub fn advance(
+        network: &[i64],
+        records: &mut [i64],
+        froms: &mut [i64],
+        tos: &mut [i64],
+        area: u64,
+    ) -> (u64, u64) {
+        let mut place = UNWRITTEN;
+        // SAFETY: every pair comes from a slice, no two slices overlap, `place` is one word of our own.
+        let number = unsafe {
+            emt_advance(
+                network.as_ptr(),
+                network.len(),
+                records.as_mut_ptr(),
+                records.len(),
+                froms.as_mut_ptr(),
+                froms.len(),
+                tos.as_mut_ptr(),
+                tos.len(),
+                area,
+                &mut place,
+            )
+        };
+        (number, place)
+    }
+}

@@ -1,0 +1,18 @@
+//! The comparison tool: studies and damage made by dice, the fixed list of bad texts, the two ways to ask
+//! the proved program (its listing, its calls), and the search for the smallest text that shows a difference.
+
+pub mod arguments;
+pub mod call_mode;
+pub mod damage;
+pub mod dice;
+pub mod edges;
+pub mod exact;
+pub mod fixed;
+pub mod foreign;
+pub mod lent;
+pub mod moves;
+pub mod shrink;
+pub mod slips;
+pub mod studies;
+pub mod tally;
+pub mod text_mode;

@@ -1,0 +1,98 @@
+//! A whole run from rest. Every value that a line end ever sent is kept, so that no ring, no slot and no
+//! remainder stands between a reading and the step it asks for.
+
+use crate::limits::Whole;
+use crate::network::Network;
+use crate::refusal::{Refusal, Stop};
+use crate::step::{self, AreaStep, Histories};
+
+#[derive(Clone, Debug)]
+pub struct Run {
+    pub network: Network,
+    /// Accepted steps by area; place 0 is unused.
+    pub counts: Vec<Whole>,
+    /// By node; place 0 is ground.
+    pub voltages: Vec<Whole>,
+    pub from_currents: Vec<Whole>,
+    pub to_currents: Vec<Whole>,
+    histories: Vec<Whole>,
+    /// By branch, then by step: the value sent at step s stands in place s - 1.
+    sent_from: Vec<Vec<Whole>>,
+    sent_to: Vec<Vec<Whole>>,
+    pub largest_imbalance: Whole,
+}
+
+impl Run {
+    pub fn at_rest(network: Network) -> Run {
+        let branches = network.branches.len();
+        Run {
+            counts: vec![0; network.area_count + 1],
+            voltages: vec![0; network.node_count + 1],
+            from_currents: vec![0; branches],
+            to_currents: vec![0; branches],
+            histories: vec![0; branches],
+            sent_from: vec![Vec::new(); branches],
+            sent_to: vec![Vec::new(); branches],
+            largest_imbalance: 0,
+            network,
+        }
+    }
+
+    /// Advances one area by one step and answers its new count.
+    pub fn advance(&mut self, area: usize) -> Result<Whole, Stop> {
+        if area == 0 || area > self.network.area_count {
+            return Err(Stop::nowhere(Refusal::Area));
+        }
+        if self.counts[area] == self.network.steps {
+            return Err(Stop::nowhere(Refusal::Done));
+        }
+        let step = self.counts[area] + 1;
+        let count_of = |any: usize| self.counts[any];
+        if let Some(branch) = step::first_waiting_line(&self.network, area, step, &count_of) {
+            return Err(Stop::at(Refusal::Wait, branch));
+        }
+        let histories = self.histories_at(area, step);
+        let taken = step::take_step(&self.network, area, step, &histories)?;
+        self.keep(area, &taken);
+        Ok(step)
+    }
+
+    /// A line end's history is what the far end sent d steps earlier, 0 where that was before step 1.
+    fn histories_at(&self, area: usize, step: Whole) -> Histories {
+        let mut histories = Histories { at_from: self.histories.clone(), at_to: self.histories.clone() };
+        for (index, branch) in self.network.branches.iter().enumerate() {
+            let Some(delay) = branch.delay() else { continue };
+            if self.network.area_of[branch.from] == area {
+                histories.at_from[index] = sent_at(&self.sent_to[index], step - delay);
+            }
+            if self.network.area_of[branch.to] == area {
+                histories.at_to[index] = sent_at(&self.sent_from[index], step - delay);
+            }
+        }
+        histories
+    }
+
+    fn keep(&mut self, area: usize, taken: &AreaStep) {
+        self.counts[area] += 1;
+        for (node, voltage) in &taken.voltages {
+            self.voltages[*node] = *voltage;
+        }
+        for done in &taken.branches {
+            let index = done.branch;
+            self.from_currents[index] = done.from_current.unwrap_or(self.from_currents[index]);
+            self.to_currents[index] = done.to_current.unwrap_or(self.to_currents[index]);
+            self.histories[index] = done.next_history.unwrap_or(self.histories[index]);
+            self.sent_from[index].extend(done.from_sent);
+            self.sent_to[index].extend(done.to_sent);
+        }
+        self.largest_imbalance = self.largest_imbalance.max(taken.largest_imbalance);
+    }
+}
+
+fn sent_at(sent: &[Whole], step: Whole) -> Whole {
+    if step < 1 {
+        0
+    } else {
+        sent[step as usize - 1]
+    }
+}

@@ -1,0 +1,99 @@
+//! The lent state: where each value stands, and when the records are well formed.
+
+use crate::limits::{self, Whole};
+use crate::network::Network;
+use std::ops::RangeInclusive;
+
+pub const RECORD_WORDS: usize = 512;
+pub const STORE_WORDS: usize = 4_096;
+
+/// Counts by area from 1, voltages by node from 1; the rest by row from 0, sources counted.
+const COUNTS: usize = 0;
+const VOLTAGES: usize = 32;
+const FROM_CURRENTS: usize = 64;
+const TO_CURRENTS: usize = 144;
+const HISTORIES: usize = 224;
+
+pub fn count_place(area: usize) -> usize {
+    COUNTS + area - 1
+}
+
+pub fn voltage_place(node: usize) -> usize {
+    VOLTAGES + node - 1
+}
+
+pub fn from_current_place(row: usize) -> usize {
+    FROM_CURRENTS + row
+}
+
+pub fn to_current_place(row: usize) -> usize {
+    TO_CURRENTS + row
+}
+
+pub fn history_place(row: usize) -> usize {
+    HISTORIES + row
+}
+
+/// By branch, the first of a line's 2d slots, the same in both stores: slots stand in table order.
+pub fn first_slots(network: &Network) -> Vec<usize> {
+    let mut next = 0;
+    let mut first = Vec::new();
+    for branch in &network.branches {
+        first.push(next);
+        next += 2 * branch.delay().unwrap_or(0) as usize;
+    }
+    first
+}
+
+/// Step s of a line end is in place s mod 2d of that line's slots.
+pub fn slot_of_step(first_slot: usize, delay: Whole, step: Whole) -> usize {
+    first_slot + step.rem_euclid(2 * delay) as usize
+}
+
+/// What each word of the records may hold; a word that nothing uses may hold 0 only.
+pub fn record_ranges(network: &Network) -> Vec<RangeInclusive<Whole>> {
+    let mut ranges = vec![0..=0; RECORD_WORDS];
+    for area in 1..=network.area_count {
+        ranges[count_place(area)] = 0..=network.steps;
+    }
+    for node in 1..=network.node_count {
+        ranges[voltage_place(node)] = limits::VOLTAGE;
+    }
+    for branch in &network.branches {
+        ranges[from_current_place(branch.row)] = limits::CURRENT;
+        if branch.is_line() {
+            ranges[to_current_place(branch.row)] = limits::CURRENT;
+        }
+        if branch.keeps_history() {
+            ranges[history_place(branch.row)] = limits::HISTORY;
+        }
+    }
+    ranges
+}
+
+/// How many words of each store the lines use; their 2d slots count as used before they are sent.
+pub fn used_slots(network: &Network) -> usize {
+    network.branches.iter().filter_map(|branch| branch.delay()).map(|delay| 2 * delay as usize).sum()
+}
+
+/// Whether records and stores are well formed for the network.
+pub fn well_formed(network: &Network, records: &[i64], froms: &[i64], tos: &[i64]) -> bool {
+    let ranges = record_ranges(network);
+    let records_fit = records.iter().zip(&ranges).all(|(word, range)| range.contains(&Whole::from(*word)));
+    let used = used_slots(network);
+    let store_fits = |store: &[i64]| {
+        let (slots, rest) = store.split_at(used);
+        slots.iter().all(|word| limits::HISTORY.contains(&Whole::from(*word)))
+            && rest.iter().all(|word| *word == 0)
+    };
+    records_fit && store_fits(froms) && store_fits(tos) && counts_close(network, records)
+}
+
+/// The areas at a line's two ends differ by at most d in count.
+fn counts_close(network: &Network, records: &[i64]) -> bool {
+    network.branches.iter().all(|branch| {
+        let Some(delay) = branch.delay() else { return true };
+        let count_at = |node: usize| Whole::from(records[count_place(network.area_of[node])]);
+        (count_at(branch.from) - count_at(branch.to)).abs() <= delay
+    })
+}
