@@ -83,10 +83,11 @@ fn solve_back(a: &[[f64; 32]; 32], rows: [Equation; 32], n: usize) -> [f64; 32]
     x
 }
 
-// The voltages of n free nodes as doubles, from the matrix and each row's pivot and right side. The matrix is used up.
+// The voltages of n free nodes as doubles, from the matrix and each row's pivot and right side. The matrix is left as the elimination leaves it.
 pub fn solve(a: &mut [[f64; 32]; 32], rows: [Equation; 32], n: usize) -> [f64; 32]
     requires { ⌜ n ≤ 32 ⌝ }
     ensures { λ r. ⌜ r ≡ voltages n (sys (now (a .entry)) rows) ⌝ }
+    ensures { λ _. ⌜ now (a .exit) ≡ eliminated n (sys (now (a .entry)) rows) .lines ⌝ }
 {
     let done = eliminate(a, rows, n);
     solve_back(a, done, n)

@@ -19,7 +19,7 @@ unfolding solution
 returns-2 c =
     let s = c .before .before .before .before .before in
     rw (le-leb (s .args .n) 32 (c .before .before .before .before .if1 .left))
-    (ap (out true) (c .solve .ensures ∙ ap (λ (r : List Equation). voltages (s .args .n) (sys (s .args .a .now) r)) (c .before .before .before .equations .ensures)))
+    (ap (out true) (c .solve .ensures .0 ∙ ap (λ (r : List Equation). voltages (s .args .n) (sys (s .args .a .now) r)) (c .before .before .before .equations .ensures)))
 
 pub numbers-solve-spec : {M : Type 1} → statement M
 numbers-solve-spec = tie.close (tie.spec returns (λ c κs. search needs) (λ c κs. search needs) returns-2)
