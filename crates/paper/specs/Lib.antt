@@ -18,6 +18,7 @@ pub mod Solve
 pub mod Advance
 pub mod Resetting
 pub mod Listing
+pub mod Pieces
 pub mod Computing
 pub mod Examples
 pub mod Cases

@@ -112,6 +112,9 @@ impl Room {
     pub const RECORDS: usize = 512;
 
     pub const STORE: usize = 4_096;
+
+    // what a buffer for the listing has at least
+    pub const STEP_BYTES: usize = 4_160;
 }
 
 pub fn quantities_agree()
@@ -147,4 +150,5 @@ pub fn room_agrees()
     ensures { λ _. do ⌜ (← ⟦Room::NETWORK⟧ .entry) ≡ Limits.networkWords ⌝ }
     ensures { λ _. do ⌜ (← ⟦Room::RECORDS⟧ .entry) ≡ Limits.recordWords ⌝ }
     ensures { λ _. do ⌜ (← ⟦Room::STORE⟧ .entry) ≡ Limits.storeWords ⌝ }
+    ensures { λ _. do ⌜ (← ⟦Room::STEP_BYTES⟧ .entry) ≡ Limits.stepBytes ⌝ }
 {}
