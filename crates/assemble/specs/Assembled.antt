@@ -20,12 +20,13 @@ use Rattle.paper.specs.Solve.{nought, entry, rightSide, matrixRow, equation, sy
 use Rattle.paper.specs.Elimination.{System, sys, line, cell, row}
 use Rattle.paper.specs.Doubles.{double}
 use Rattle.alike.specs.Alike.{Alike, Roomy}
+use Rattle.alike.specs.Square.{Square}
 use Rattle.wires.specs.Wires.{legsIn, Sized}
 use Rattle.wires.specs.Leaving.{leaving}
 use Rattle.wires.specs.Shares.{Volts, conductance, toward, drawn, entry-same, entry-other, right-is, conductance-size, toward-size, drawn-sum}
 use Rattle.wires.specs.Free.{Free, Injects, inject-size}
 use Rattle.gather.specs.Joins.{cellOf, Gathered}
-use Rattle.assemble.specs.Filled.{Square, LineOf, Filled, Fitting, equationAt}
+use Rattle.assemble.specs.Filled.{LineOf, Filled, Fitting, equationAt}
 
 -- ---- the system's cells and rows, one by one
 module _ (legs : List Leg) (free : List ℕ) (still : Words) (inject : ℕ → ℤ) where

@@ -4,7 +4,7 @@ use mathlib.Core.Path.{_≡_, refl, sym, ap, _∙_}
 use mathlib.Core.Bool.{Bool, true, false, cond}
 use mathlib.Core.List.{List, [], _∷_, _++_, map}
 use native.Mathlib.Omega.{arith}
-use borrow.Author.Tests.{ltb-true, ltb-false, eqb-true, eqb-false}
+use borrow.Author.Tests.{ltb-true, ltb-false}
 use lib.Dec.{eqb, ltb}
 use lib.Seq.{getD-set-same, getD-set-other}
 use lib.ListN.{getD, set, length, length-set}
@@ -17,12 +17,8 @@ use Rattle.whole.specs.Lists.{Words, word}
 use Rattle.whole.specs.Size.{∣_∣≤_}
 use Rattle.paper.specs.Elimination.{System, sys, line, cell, row}
 use Rattle.paper.specs.Doubles.{double}
+use Rattle.alike.specs.Square.{Square, square-set}
 use Rattle.gather.specs.Joins.{cellOf}
-
--- the matrix array
-pub record Square (a : List (List Float)) : Type 0 where
-  pub lines : length a ≡ 32
-  pub line : (p : ℕ) → p < 32 → length (getD a p []) ≡ 32
 
 -- line p: the pivot at its own place, minus the joining conductances elsewhere
 pub record LineOf (n p : ℕ) (pivot : Float) (joins : Words) (l : List Float) : Type 0 where
@@ -59,10 +55,6 @@ module _ (n m : ℕ) (free : List ℕ) (inject pivots rights joins : Words) {a :
   old-line : (p : ℕ) → (p ≡ m → ⊥) → getD (set a m l) p [] ≡ getD a p []
   old-line p d = getD-set-other a m p l [] d
 
-  lengths : (p : ℕ) → p < 32 → (t : Bool) → eqb p m ≡ t → length (getD (set a m l) p []) ≡ 32
-  lengths p k true f = rw (eqb-true p m f, new-line) (new .long)
-  lengths p k false f = ap length (old-line p (eqb-false p m f)) ∙ s .square .line p k
-
   lines : (p : ℕ) → p < m + 1 → (t : Bool) → ltb p m ≡ t → LineOf n p (double (word pivots (getD free p 0))) joins (getD (set a m l) p [])
   lines p k true f = let q : p < m = ltb-true p m f in rw (old-line p (λ d. omega arith)) (s .line p q)
   lines p k false f =
@@ -79,7 +71,7 @@ module _ (n m : ℕ) (free : List ℕ) (inject pivots rights joins : Words) {a :
 
   pub filled-more : Filled n (m + 1) free inject pivots rights joins (set a m l) (set rows m e)
   filled-more = record {
-    square = record { lines = length-set a m l ∙ s .square .lines; line = λ p k. lengths p k (eqb p m) refl };
+    square = square-set m l (s .square) (λ k. new .long);
     long = length-set rows m e ∙ s .long;
     line = λ p k. lines p k (ltb p m) refl;
     row = λ p k. rowsOf p k (ltb p m) refl;

@@ -7,11 +7,12 @@ ghost use lib.ListN.{length, take};
 ghost use Rattle.whole.specs.Lists.{word};
 ghost use Rattle.whole.specs.Size.{∣_∣≤_};
 ghost use Rattle.paper.specs.Solve.{system};
+ghost use Rattle.alike.specs.Square.{Square};
 ghost use Rattle.wires.specs.Wires.{legsIn, Sized};
 ghost use Rattle.wires.specs.Shares.{Volts};
 ghost use Rattle.wires.specs.Free.{Free, Injects};
 ghost use Rattle.gather.specs.Joins.{cellOf};
-ghost use Rattle.assemble.specs.Filled.{Square, LineOf, Fitting, Filled};
+ghost use Rattle.assemble.specs.Filled.{LineOf, Fitting, Filled};
 ghost use Rattle.assemble.specs.Assembled.{Assembled};
 use paper::Equation;
 
