@@ -1,0 +1,76 @@
+use borrow.Author.Needs.{needs}
+use mathlib.Core.Path.{_≡_, refl, sym, _∙_, ap}
+use Prim.Native.Nat.{ℕ, _+_, _<_}
+use mathlib.Core.Bool.{Bool}
+use mathlib.Core.List.{List}
+use lib.IntN.{ℤ}
+use lib.ListN.{length, set}
+use mir.Facts.{toZ-ofZ}
+use Rattle.line.specs.declared.Walk.{Walk}
+use native.Mathlib.Omega.{arith}
+use Rattle.line.specs.Walks.{field-none, field-read, tab-in, word-in}
+use Rattle.line.proofs.field_at.Statement.{statement}
+use Rattle.line.proofs.field_at.Tie as tie
+
+abbrev row-of : Bool → ℕ → List ℤ → Walk
+row-of b n r = record { ok = b; at = n; row = r }
+
+is-at-requires : tie.Need-is-at-requires
+is-at-requires c κs = search needs
+
+returns : tie.Need-returns
+returns c =
+    let a = c .before .before .before .before .before .args in
+    field-none (a .text .now) (a .kind) (a .i) (a .walk) (c .before .before .is-at .ensures) (c .if1 .taken)
+
+-- the tab is there
+inside : (c : tie.Else1) →
+    let a = c .before .before .before .before .before .args in
+    a .walk .at < length (a .text .now)
+inside c =
+    let a = c .before .before .before .before .before .args in
+    tab-in (a .text .now) (a .kind) (a .i) (a .walk) (c .before .before .is-at .ensures) (c .if1 .left)
+
+add-start : tie.Need-add-start
+add-start c = search needs
+
+end-of-requires : tie.Need-end-of-requires
+end-of-requires c κs = omega (arith, inside c)
+
+sub-read-number : tie.Need-sub-read-number
+sub-read-number c = search needs
+
+part-read-number-start : tie.Need-part-read-number-start
+part-read-number-start c = search needs
+
+part-read-number-end : tie.Need-part-read-number-end
+part-read-number-end c =
+    let a = c .before .before .before .before .before .before .args in
+    omega (arith, word-in (a .text .now) (a .walk .at + 1) (omega (arith, inside (c .before))), c .end-of .ensures)
+
+low-of-requires : tie.Need-low-of-requires
+low-of-requires c κs = search needs
+
+read-number-requires : tie.Need-read-number-requires
+read-number-requires c κs = search needs
+
+add-row : tie.Need-add-row
+add-row c = search needs
+
+mul-row : tie.Need-mul-row
+mul-row c = search needs
+
+array-set-from-row : tie.Need-array-set-from-row
+array-set-from-row c = search needs
+
+returns-2 : tie.Need-returns-2
+returns-2 c =
+    let e : tie.After-end-of = c .before .before .before .before in
+    let l : tie.After-low-of = c .before .before in
+    let i : tie.Else1 = e .before in
+    let a = i .before .before .before .before .before .args in
+    ap (λ (v : ℤ). row-of (c .before .read-number .result .ok) (e .end-of .result) (set (a .walk .row) (1 + a .i) v)) (toZ-ofZ (search needs))
+    ∙ field-read (a .text .now) (a .kind) (a .i) (a .walk) (i .before .before .is-at .ensures) (i .if1 .left) (e .end-of .ensures) (toZ-ofZ (record { sfits = l .low-of .ok }) ∙ l .low-of .ensures) (c .before .read-number .ensures)
+
+pub field-at-spec : {M : Type 1} → statement M
+field-at-spec = tie.close (tie.spec is-at-requires returns add-start end-of-requires sub-read-number part-read-number-start part-read-number-end low-of-requires read-number-requires add-row mul-row array-set-from-row returns-2)

@@ -1,0 +1,148 @@
+-- The lines of a text and the fields of a line, as a reader meets them: the bytes up to the next LF, or up to the next tab or LF. Assumes nothing.
+use Prim.Native.Nat.{ℕ, zero, suc, _+_, _≤_, _<_}
+use native.Mathlib.Omega.{arith}
+use native.Mathlib.Numerals.{add-one}
+use mathlib.Core.Path.{_≡_, refl, sym, _∙_, ap}
+use mathlib.Core.Bool.{Bool, true, false, cond, _&&_, _||_}
+use mathlib.Core.List.{List, [], _∷_}
+use borrow.Author.Tests.{eqb-true}
+use lib.Dec.{eqb}
+use lib.ListN.{getD, length, drop, take}
+use lib.Seq.{drop-cons, drop-drop}
+use Rattle.whole.specs.Lists.{any}
+use Rattle.whole.specs.Folds.{or-left, or-right}
+use Rattle.paper.specs.Text.{LF, TAB, split, cut, push}
+
+abbrev pub kept : Bool → ℕ → List ℕ → List ℕ
+kept true b r = []
+kept false b r = b ∷ r
+
+-- the bytes before the first that stops
+unfoldable pub before : (ℕ → Bool) → List ℕ → List ℕ
+before stop [] = []
+before stop (b ∷ t) = kept (stop b) b (before stop t)
+
+-- and what is left from it on
+abbrev pub rest : (ℕ → Bool) → List ℕ → List ℕ
+rest stop s = drop (length (before stop s)) s
+
+abbrev pub isLF : ℕ → Bool
+isLF b = eqb b LF
+
+unfoldable pub ends : ℕ → Bool
+ends b = eqb b TAB || eqb b LF
+
+abbrev pub lineOf : List ℕ → List ℕ
+lineOf = before isLF
+
+abbrev pub fieldOf : List ℕ → List ℕ
+fieldOf = before ends
+
+abbrev pub ended : List ℕ → Bool
+ended = any isLF
+
+abbrev pub startsWith : ℕ → List ℕ → Bool
+startsWith b [] = false
+startsWith b (c ∷ s) = eqb c b
+
+-- the fields that follow, each after its tab
+unfoldable pub fieldsFrom : List ℕ → List (List ℕ)
+fieldsFrom [] = []
+fieldsFrom (b ∷ s) = cond (eqb b TAB) (split TAB (lineOf s)) []
+
+-- ---- lengths
+
+module _ (stop : ℕ → Bool) where
+  pub before-length : (s : List ℕ) → length (before stop s) ≤ length s
+  unfolding before
+  before-length [] = omega arith
+  before-length (b ∷ t) = by-test (stop b) (before-length t)
+    where
+      by-test : (e : Bool) → length (before stop t) ≤ length t → length (kept e b (before stop t)) ≤ suc (length t)
+      by-test true h = omega arith
+      by-test false h = omega arith
+
+  -- one byte more of a text
+  pub before-here : (s : List ℕ) (i : ℕ) → i < length s → stop (getD s i 0) ≡ true → length (before stop (drop i s)) ≡ 0
+  unfolding before
+  before-here s i h e = rw (drop-cons s i 0 h, e)
+
+  pub before-next : (s : List ℕ) (i : ℕ) → i < length s → stop (getD s i 0) ≡ false → length (before stop (drop i s)) ≡ suc (length (before stop (drop (i + 1) s)))
+  unfolding before
+  before-next s i h e = rw (add-one, drop-cons s i 0 h, e)
+
+  pub before-taken : (s : List ℕ) → take (length (before stop s)) s ≡ before stop s
+  unfolding before
+  before-taken [] = refl
+  before-taken (b ∷ t) = by-test (stop b) (before-taken t)
+    where
+      by-test : (e : Bool) → take (length (before stop t)) t ≡ before stop t → take (length (kept e b (before stop t))) (b ∷ t) ≡ kept e b (before stop t)
+      by-test true h = refl
+      by-test false h = ap (λ (l : List ℕ). b ∷ l) h
+
+-- ---- lines
+
+pub split-ended : (s : List ℕ) → ended s ≡ true → split LF s ≡ lineOf s ∷ split LF (drop (suc (length (lineOf s))) s)
+unfolding any split before
+split-ended [] e = let c : _≡_ {A = ℕ} 0 1 = cc in absurd (omega arith)
+split-ended (b ∷ t) e = by-test (eqb b LF) refl (split-ended t)
+  where
+    by-test : (x : Bool) → eqb b LF ≡ x → (ended t ≡ true → split LF t ≡ lineOf t ∷ split LF (drop (suc (length (lineOf t))) t))
+        → cut (eqb b LF) b (split LF t) ≡ kept (eqb b LF) b (lineOf t) ∷ split LF (drop (length (kept (eqb b LF) b (lineOf t))) t)
+    by-test true f ih = rw f
+    by-test false f ih = let g : ended t ≡ true = sym (ap (λ (y : Bool). y || ended t) f) ∙ e in rw f (ap (push b) (ih g))
+
+pub split-open : (s : List ℕ) → ended s ≡ false → split LF s ≡ s ∷ []
+unfolding any split
+split-open [] e = refl
+split-open (b ∷ t) e = rw (or-left (eqb b LF) (ended t) e) (ap (push b) (split-open t (or-right (eqb b LF) (ended t) e)))
+
+-- ---- fields
+
+pub split-fields : (s : List ℕ) → split TAB (lineOf s) ≡ fieldOf s ∷ fieldsFrom (rest ends s)
+unfolding split before ends fieldsFrom
+split-fields [] = refl
+split-fields (b ∷ t) = by-test (eqb b TAB) refl (eqb b LF) refl (split-fields t)
+  where
+    by-test : (x : Bool) → eqb b TAB ≡ x → (y : Bool) → eqb b LF ≡ y → split TAB (lineOf t) ≡ fieldOf t ∷ fieldsFrom (rest ends t)
+        → split TAB (kept (eqb b LF) b (lineOf t)) ≡ kept (eqb b TAB || eqb b LF) b (fieldOf t) ∷ fieldsFrom (drop (length (kept (eqb b TAB || eqb b LF) b (fieldOf t))) (b ∷ t))
+    by-test true p true q ih = let x : b ≡ 9 = eqb-true b 9 p in let y : b ≡ 10 = eqb-true b 10 q in absurd (omega arith)
+    by-test true p false q ih = rw (q, p) (rw p)
+    by-test false p true q ih = rw (q, p) (rw p)
+    by-test false p false q ih = rw (q, p) (ap (push b) ih)
+
+-- the rest has the LF that the whole has, and the rest of its line
+pub rest-ended : (s : List ℕ) → ended (rest ends s) ≡ ended s
+unfolding any before ends
+rest-ended [] = refl
+rest-ended (b ∷ t) = by-test (eqb b TAB) (eqb b LF) refl (rest-ended t)
+  where
+    by-test : (x y : Bool) → eqb b LF ≡ y → ended (rest ends t) ≡ ended t → ended (drop (length (kept (x || y) b (fieldOf t))) (b ∷ t)) ≡ (eqb b LF || ended t)
+    by-test true y q ih = refl
+    by-test false true q ih = refl
+    by-test false false q ih = rw q ih
+
+pub rest-line : (s : List ℕ) → length (fieldOf s) + length (lineOf (rest ends s)) ≡ length (lineOf s)
+unfolding before ends
+rest-line [] = refl
+rest-line (b ∷ t) = by-test (eqb b TAB) (eqb b LF) refl (rest-line t)
+  where
+    by-test : (x y : Bool) → eqb b LF ≡ y → length (fieldOf t) + length (lineOf (rest ends t)) ≡ length (lineOf t)
+        → length (kept (x || y) b (fieldOf t)) + length (lineOf (drop (length (kept (x || y) b (fieldOf t))) (b ∷ t))) ≡ length (kept (eqb b LF) b (lineOf t))
+    by-test true y q ih = omega arith
+    by-test false true q ih = omega arith
+    by-test false false q ih = rw q (omega (arith, ih))
+
+-- and begins with a tab or an LF, or is empty
+abbrev pub stops : List ℕ → Bool
+stops [] = true
+stops (b ∷ s) = ends b
+
+pub rest-stops : (s : List ℕ) → stops (rest ends s) ≡ true
+unfolding before
+rest-stops [] = refl
+rest-stops (b ∷ t) = by-test (ends b) refl (rest-stops t)
+  where
+    by-test : (x : Bool) → ends b ≡ x → stops (rest ends t) ≡ true → stops (drop (length (kept x b (fieldOf t))) (b ∷ t)) ≡ true
+    by-test true e ih = e
+    by-test false e ih = ih

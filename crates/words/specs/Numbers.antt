@@ -1,0 +1,267 @@
+-- A number of any length, held at an end that lies past every field's. Assumes nothing.
+use Prim.Native.Nat.{ℕ, zero, suc, _+_, _*_, _-_, _≤_, _<_}
+use native.Mathlib.Omega.{arith}
+use mathlib.Core.Path.{_≡_, refl, sym, _∙_, ap, subst}
+use mathlib.Core.Bool.{Bool, true, false, not, cond, _&&_, _||_}
+use mathlib.Core.List.{List, [], _∷_}
+use borrow.Author.Tests.{ltb-true, ltb-false, lt-ltb, le-ltb, eqb-true, eqb-false, ne-eqb}
+use lib.Dec.{leb, ltb, eqb}
+use lib.IntN.{ℤ, pos, negsuc, negℤ}
+use lib.ListN.{getD, length, drop, drop-of-length-le, length-drop}
+use lib.Seq.{drop-cons}
+use Rattle.whole.specs.Lists.{z, empty, every, fold}
+use Rattle.paper.specs.Text.{MINUS, digit, decimal, negative, decimalOf, numberOf}
+use Rattle.words.specs.declared.Digits.{Digits}
+use Rattle.words.specs.declared.Number.{Number}
+
+-- ---- held at the end
+
+abbrev pub heldEnd : ℕ
+heldEnd = 10000000000000000
+
+unfoldable pub cap : ℕ → ℕ
+cap n = cond (ltb n heldEnd) n heldEnd
+
+pub cap-small : (n : ℕ) → n < heldEnd → cap n ≡ n
+unfolding cap
+cap-small n h = rw (lt-ltb n heldEnd h)
+
+pub cap-large : (n : ℕ) → heldEnd ≤ n → cap n ≡ heldEnd
+unfolding cap
+cap-large n h = rw (le-ltb n heldEnd h)
+
+pub cap-most : (n : ℕ) → cap n ≤ heldEnd
+cap-most n = by-test (ltb n heldEnd) refl
+  where
+    by-test : (t : Bool) → ltb n heldEnd ≡ t → cap n ≤ heldEnd
+    by-test true e = rw (cap-small n (ltb-true n heldEnd e)) (let h : n < heldEnd = ltb-true n heldEnd e in omega arith)
+    by-test false e = rw (cap-large n (ltb-false n heldEnd e)) (omega arith)
+
+unfoldable pub capZ : ℤ → ℤ
+capZ (pos n) = pos (cap n)
+capZ (negsuc n) = negℤ (pos (cap (suc n)))
+
+cap-neg : (n : ℕ) → capZ (negℤ (pos n)) ≡ negℤ (pos (cap n))
+unfolding capZ cap
+cap-neg zero = refl
+cap-neg (suc n) = refl
+
+-- one digit more
+unfoldable pub held : ℕ → ℕ → ℕ
+held v b = cap (10 * v + (b - 48))
+
+held-cap : (v b : ℕ) → held (cap v) b ≡ cap (10 * v + (b - 48))
+unfolding held
+held-cap v b = by-test (ltb v heldEnd) refl
+  where
+    by-test : (t : Bool) → ltb v heldEnd ≡ t → cap (10 * cap v + (b - 48)) ≡ cap (10 * v + (b - 48))
+    by-test true e = rw (cap-small v (ltb-true v heldEnd e))
+    by-test false e =
+        let h : heldEnd ≤ v = ltb-false v heldEnd e in
+        rw (cap-large v h, cap-large (10 * heldEnd + (b - 48)) (omega arith), cap-large (10 * v + (b - 48)) (omega arith))
+
+-- holding on the way is holding at the end
+held-fold : (v : ℕ) (s : List ℕ) → fold held (cap v) s ≡ cap (fold (λ n b. 10 * n + (b - 48)) v s)
+unfolding fold
+held-fold v [] = refl
+held-fold v (b ∷ t) = rw (held-cap v b) (held-fold (10 * v + (b - 48)) t)
+
+pub held-decimal : (s : List ℕ) → fold held 0 s ≡ cap (decimalOf s)
+unfolding decimalOf cap
+held-decimal s = held-fold 0 s
+
+-- ---- digits
+
+abbrev pub noDigits : Digits
+noDigits = record { ok = false; value = 0 }
+
+abbrev pub digitsIf : Bool → ℕ → Digits
+digitsIf true v = record { ok = true; value = v }
+digitsIf false v = noDigits
+
+unfoldable pub digitsOf : List ℕ → Digits
+digitsOf s = digitsIf (every digit s) (fold held 0 s)
+
+abbrev pub zeroIf : Bool → Digits
+zeroIf b = record { ok = b; value = 0 }
+
+unfoldable pub plainOf : Bool → List ℕ → Digits
+plainOf may [] = noDigits
+plainOf may (b ∷ t) = cond (eqb b 48) (zeroIf (may && empty t)) (digitsOf (b ∷ t))
+
+-- a field's number where it is well spelt
+unfoldable pub readNumber : Bool → List ℕ → Number
+readNumber signed s = let ok = decimal s || (signed && negative s) in record { ok = ok; value = cond ok (capZ (numberOf s)) z }
+
+-- ---- a number without a minus
+
+decimal-is : (b : ℕ) (t : List ℕ) → eqb b 48 ≡ false → decimal (b ∷ t) ≡ every digit (b ∷ t)
+unfolding decimal every
+decimal-is b [] e = go (digit b)
+  where
+    go : (a : Bool) → a ≡ (a && true)
+    go true = refl
+    go false = refl
+decimal-is b (c ∷ t) e = rw e (go (digit b) (digit c && every digit t))
+  where
+    go : (a d : Bool) → ((a && true) && d) ≡ (a && d)
+    go true d = refl
+    go false d = refl
+
+-- what the digits read give
+given : (b : Bool) (v : ℕ) (x : ℤ) → (b ≡ true → pos v ≡ x)
+    → _≡_ {A = Number} (record { ok = digitsIf b v .ok; value = pos (digitsIf b v .value) }) (record { ok = b; value = cond b x z })
+given true v x h = rw (h refl)
+given false v x h = refl
+
+given-neg : (b : Bool) (v : ℕ) (x : ℤ) → (b ≡ true → negℤ (pos v) ≡ x)
+    → _≡_ {A = Number} (record { ok = digitsIf b v .ok; value = negℤ (pos (digitsIf b v .value)) }) (record { ok = b; value = cond b x z })
+given-neg true v x h = rw (h refl)
+given-neg false v x h = refl
+
+abbrev pub asNumber : Digits → Number
+asNumber d = record { ok = d .ok; value = pos (d .value) }
+
+abbrev pub asNegative : Digits → Number
+asNegative d = record { ok = d .ok; value = negℤ (pos (d .value)) }
+
+zero-is : (t : List ℕ) → asNumber (zeroIf (empty t)) ≡ (record { ok = decimal (48 ∷ t); value = cond (decimal (48 ∷ t)) (capZ (numberOf (48 ∷ t))) z })
+unfolding decimal digit numberOf decimalOf fold capZ cap
+zero-is [] = refl
+zero-is (c ∷ t) = refl
+
+digits-are : (b : ℕ) (t : List ℕ) → eqb b 45 ≡ false → eqb b 48 ≡ false
+    → asNumber (digitsOf (b ∷ t)) ≡ (record { ok = decimal (b ∷ t); value = cond (decimal (b ∷ t)) (capZ (numberOf (b ∷ t))) z })
+unfolding digitsOf numberOf capZ
+digits-are b t m e =
+    rw (decimal-is b t e, m) (given (every digit (b ∷ t)) (fold held 0 (b ∷ t)) (pos (cap (decimalOf (b ∷ t)))) (λ _. ap pos (held-decimal (b ∷ t))))
+
+plain-is : (s : List ℕ) → eqb (getD s 0 0) 45 ≡ false → asNumber (plainOf true s) ≡ (record { ok = decimal s; value = cond (decimal s) (capZ (numberOf s)) z })
+unfolding plainOf decimal
+plain-is [] m = refl
+plain-is (b ∷ t) m = by-zero (eqb b 48) refl
+  where
+    by-zero : (e : Bool) → eqb b 48 ≡ e → asNumber (plainOf true (b ∷ t)) ≡ (record { ok = decimal (b ∷ t); value = cond (decimal (b ∷ t)) (capZ (numberOf (b ∷ t))) z })
+    by-zero true e = subst (λ (x : ℕ). asNumber (plainOf true (x ∷ t)) ≡ (record { ok = decimal (x ∷ t); value = cond (decimal (x ∷ t)) (capZ (numberOf (x ∷ t))) z })) (sym (eqb-true b 48 e)) (zero-is t)
+    by-zero false e = rw e (digits-are b t m e)
+
+-- ---- and one with it
+
+and-false : (b : Bool) → (b && false) ≡ false
+and-false true = refl
+and-false false = refl
+
+and-true : (b : Bool) → (b && true) ≡ b
+and-true true = refl
+and-true false = refl
+
+abbrev peakOf : List ℕ → Number
+peakOf t = let ok = decimal t && not (eqb (getD t 0 48) 48) in record { ok = ok; value = cond ok (capZ (negℤ (pos (decimalOf t)))) z }
+
+minus-is : (t : List ℕ) → asNegative (plainOf false t) ≡ peakOf t
+unfolding plainOf decimal digitsOf
+minus-is [] = refl
+minus-is (b ∷ t) = by-zero (eqb b 48) refl
+  where
+    by-zero : (e : Bool) → eqb b 48 ≡ e → asNegative (plainOf false (b ∷ t)) ≡ peakOf (b ∷ t)
+    by-zero true e = rw (e, and-false (decimal (b ∷ t)))
+    by-zero false e =
+        rw (e, and-true (decimal (b ∷ t)), decimal-is b t e)
+        (given-neg (every digit (b ∷ t)) (fold held 0 (b ∷ t)) (capZ (negℤ (pos (decimalOf (b ∷ t)))))
+        (λ _. ap (λ (n : ℕ). negℤ (pos n)) (held-decimal (b ∷ t)) ∙ sym (cap-neg (decimalOf (b ∷ t)))))
+
+not-decimal : (t : List ℕ) → decimal (45 ∷ t) ≡ false
+unfolding decimal digit
+not-decimal [] = refl
+not-decimal (c ∷ t) = refl
+
+-- a minus is no digit
+no-digits : (t : List ℕ) → asNumber (plainOf true (45 ∷ t)) ≡ (record { ok = false; value = z })
+unfolding plainOf digitsOf every digit
+no-digits t = refl
+
+-- ---- a field
+
+pub with-minus : (signed : Bool) (s : List ℕ) → (signed && eqb (getD s 0 0) 45) ≡ true → asNegative (plainOf false (drop 1 s)) ≡ readNumber signed s
+unfolding readNumber negative numberOf
+with-minus true [] e = let c : _≡_ {A = ℕ} 0 1 = cc in absurd (omega arith)
+with-minus true (b ∷ t) e = let q : b ≡ 45 = eqb-true b 45 e in rw (q, not-decimal t) (minus-is t)
+with-minus false s e = let c : _≡_ {A = ℕ} 0 1 = cc in absurd (omega arith)
+
+no-negative : (signed : Bool) (s : List ℕ) → (signed && eqb (getD s 0 0) 45) ≡ false → (signed && negative s) ≡ false
+unfolding negative
+no-negative true [] e = refl
+no-negative true (b ∷ t) e = rw e
+no-negative false s e = refl
+
+or-none : (b : Bool) → (b || false) ≡ b
+or-none true = refl
+or-none false = refl
+
+pub without-minus : (signed : Bool) (s : List ℕ) → (signed && eqb (getD s 0 0) 45) ≡ false → asNumber (plainOf true s) ≡ readNumber signed s
+unfolding readNumber
+without-minus signed s e = by-first (eqb (getD s 0 0) 45) refl
+  where
+    at-minus : (s : List ℕ) → eqb (getD s 0 0) 45 ≡ true → asNumber (plainOf true s) ≡ (record { ok = decimal s; value = cond (decimal s) (capZ (numberOf s)) z })
+    at-minus [] f = let c : _≡_ {A = ℕ} 0 1 = cc in absurd (omega arith)
+    at-minus (b ∷ t) f = let q : b ≡ 45 = eqb-true b 45 f in rw (q, not-decimal t) (no-digits t)
+
+    by-first : (m : Bool) → eqb (getD s 0 0) 45 ≡ m → asNumber (plainOf true s) ≡ readNumber signed s
+    by-first true f = rw (no-negative signed s e, or-none (decimal s)) (at-minus s f)
+    by-first false f = rw (no-negative signed s e, or-none (decimal s)) (plain-is s f)
+
+-- ---- how large it may be
+
+fold-most : (v : ℕ) (s : List ℕ) → v ≤ heldEnd → fold held v s ≤ heldEnd
+unfolding fold held
+fold-most v [] h = h
+fold-most v (b ∷ t) h = fold-most (held v b) t (cap-most (10 * v + (b - 48)))
+
+if-most : (b : Bool) (v : ℕ) → v ≤ heldEnd → digitsIf b v .value ≤ heldEnd
+if-most true v h = h
+if-most false v h = omega arith
+
+pub plain-most : (may : Bool) (s : List ℕ) → plainOf may s .value ≤ heldEnd
+unfolding plainOf digitsOf
+plain-most may [] = omega arith
+plain-most may (b ∷ t) = by-zero (eqb b 48)
+  where
+    by-zero : (e : Bool) → cond e (zeroIf (may && empty t)) (digitsOf (b ∷ t)) .value ≤ heldEnd
+    by-zero true = omega arith
+    by-zero false = if-most (every digit (b ∷ t)) (fold held 0 (b ∷ t)) (fold-most 0 (b ∷ t) (omega arith))
+
+-- ---- the ways through the code
+
+pub digits-bad : (s : List ℕ) → every digit s ≡ false → noDigits ≡ digitsOf s
+unfolding digitsOf
+digits-bad s e = rw e
+
+pub digits-good : (s : List ℕ) (v : ℕ) → every digit s ≡ true → v ≡ fold held 0 s → digitsIf true v ≡ digitsOf s
+unfolding digitsOf
+digits-good s v e f = rw (e, f)
+
+empty-drop : (s : List ℕ) (i : ℕ) → i < length s → empty (drop (suc i) s) ≡ eqb (length s) (i + 1)
+empty-drop s i h = by-test (eqb (length s) (i + 1)) refl
+  where
+    some : (t : List ℕ) → (length t ≡ 0 → ⊥) → empty t ≡ false
+    some [] n = absurd (n refl)
+    some (b ∷ t) n = refl
+
+    by-test : (t : Bool) → eqb (length s) (i + 1) ≡ t → empty (drop (suc i) s) ≡ eqb (length s) (i + 1)
+    by-test true e = let l : length s ≡ i + 1 = eqb-true (length s) (i + 1) e in let m : length s ≤ suc i = omega arith in rw (e, drop-of-length-le s m)
+    by-test false e =
+        let l : length s ≡ i + 1 → ⊥ = eqb-false (length s) (i + 1) e in
+        rw e (some (drop (suc i) s) (λ (n : length (drop (suc i) s) ≡ 0). l (omega (arith, length-drop (suc i) s))))
+
+module _ (may : Bool) (s : List ℕ) (start : ℕ) where
+  pub plain-none : length s ≤ start → noDigits ≡ plainOf may (drop start s)
+  unfolding plainOf
+  plain-none h = rw (drop-of-length-le s h)
+
+  pub plain-zero : start < length s → getD s start 0 ≡ 48 → zeroIf (may && eqb (length s) (start + 1)) ≡ plainOf may (drop start s)
+  unfolding plainOf
+  plain-zero h e = rw (drop-cons s start 0 h, e, empty-drop s start h)
+
+  pub plain-more : start < length s → (getD s start 0 ≡ 48 → ⊥) → digitsOf (drop start s) ≡ plainOf may (drop start s)
+  unfolding plainOf
+  plain-more h n = rw (drop-cons s start 0 h, ne-eqb (getD s start 0) 48 n)

@@ -1,0 +1,197 @@
+// A line's word as a kind, and a field as a number. "Numbers are decimal without leading zeros; a minus stands only before a nonzero peak";
+// "a number however long is well spelt".
+ghost use mathlib.Core.Path.{_≡_};
+ghost use mathlib.Core.Bool.{true, false, cond, _&&_};
+ghost use Prim.Native.Nat.{_≤_, _<_, _+_};
+ghost use lib.Dec.{eqb};
+ghost use lib.IntN.{pos, negℤ};
+ghost use lib.ListN.{length, getD, drop};
+ghost use Rattle.paper.specs.Rows.{kinds};
+ghost use Rattle.paper.specs.Text.{digit, placeOf};
+ghost use Rattle.whole.specs.Lists.{sameBytes};
+ghost use Rattle.words.specs.Numbers.{held, digitsOf, plainOf, readNumber};
+ghost use Rattle.words.specs.Words.{spelling, Only};
+
+// ---- numbers, held at 10^16, past every end of a field
+
+const MOST: u64 = 10_000_000_000_000_000;
+
+pub struct Digits {
+    pub ok: bool,
+    pub value: u64,
+}
+
+pub struct Number {
+    pub ok: bool,
+    pub value: i64,
+}
+
+fn is_digit(b: u8) -> bool
+    ensures { λ r. ⌜ r ≡ digit b ⌝ }
+{
+    (b'0' <= b) & (b <= b'9')
+}
+
+// One digit more.
+fn push(v: u64, b: u8) -> u64
+    requires { ⌜ (v ≤ 10000000000000000) × (digit b ≡ true) ⌝ }
+    ensures { λ r. ⌜ r ≡ held v b ⌝ }
+{
+    let w = 10 * v + (b - 48) as u64;
+    if w < MOST {
+        return w;
+    }
+    MOST
+}
+
+fn all_digits(s: &[u8], start: usize) -> Digits
+    requires { ⌜ start ≤ length (now s) ⌝ }
+    ensures { λ r. ⌜ r ≡ digitsOf (drop start (now (s .entry))) ⌝ }
+{
+    let mut v: u64 = 0;
+    let mut i = start;
+    while i < s.len() {
+        let b = s[i];
+        if !is_digit(b) {
+            return Digits {
+                ok: false,
+                value: 0,
+            };
+        }
+        v = push(v, b);
+        i += 1;
+    }
+    Digits { ok: true, value: v }
+}
+
+// Digits without a leading zero, or 0 alone where it may stand.
+fn plain(s: &[u8], start: usize, zero: bool) -> Digits
+    requires { ⌜ start ≤ length (now s) ⌝ }
+    ensures { λ r. ⌜ r ≡ plainOf zero (drop start (now (s .entry))) ⌝ }
+{
+    if s.len() <= start {
+        return Digits {
+            ok: false,
+            value: 0,
+        };
+    }
+    let b = s[start];
+    if b == b'0' {
+        return Digits {
+            ok: zero & (s.len() == start + 1),
+            value: 0,
+        };
+    }
+    all_digits(s, start)
+}
+
+fn starts_minus(s: &[u8]) -> bool
+    ensures { λ r. ⌜ r ≡ eqb (getD (now (s .entry)) 0 0) 45 ⌝ }
+{
+    if s.len() == 0 {
+        return false;
+    }
+    s[0] == b'-'
+}
+
+// A field's number, and whether it is well spelt where a minus may stand, or may not.
+pub fn read_number(s: &[u8], signed: bool) -> Number
+    ensures { λ r. ⌜ r ≡ readNumber signed (now (s .entry)) ⌝ }
+{
+    if signed & starts_minus(s) {
+        let n = plain(s, 1, false);
+        return Number {
+            ok: n.ok,
+            value: -(n.value as i64),
+        };
+    }
+    let n = plain(s, 0, true);
+    Number {
+        ok: n.ok,
+        value: n.value as i64,
+    }
+}
+
+// ---- words
+
+const LENGTHS: [usize; 8] = [5, 1, 1, 1, 4, 2, 2, 2];
+
+const WORDS: [[u8; 5]; 8] = [
+    [b's', b't', b'u', b'd', b'y'],
+    [b'R', 0, 0, 0, 0],
+    [b'L', 0, 0, 0, 0],
+    [b'C', 0, 0, 0, 0],
+    [b'L', b'I', b'N', b'E', 0],
+    [b'S', b'W', 0, 0, 0],
+    [b'V', b'S', 0, 0, 0],
+    [b'I', b'S', 0, 0, 0],
+];
+
+fn length_of(kind: usize) -> usize
+    requires { ⌜ kind < 8 ⌝ }
+    ensures { λ r. ⌜ r ≡ length (spelling kind) ⌝ }
+{
+    LENGTHS[kind]
+}
+
+fn letter(kind: usize, i: usize) -> u8
+    requires { ⌜ (kind < 8) × (i < 5) ⌝ }
+    ensures { λ r. ⌜ r ≡ getD (spelling kind) i 0 ⌝ }
+{
+    WORDS[kind][i]
+}
+
+fn is_word(word: &[u8], kind: usize) -> bool
+    requires { ⌜ kind < 8 ⌝ }
+    ensures { λ r. ⌜ r ≡ sameBytes (spelling kind) (now (word .entry)) ⌝ }
+{
+    if word.len() != length_of(kind) {
+        return false;
+    }
+    let mut i = 0;
+    while i < word.len() {
+        if word[i] != letter(kind, i) {
+            return false;
+        }
+        i += 1;
+    }
+    true
+}
+
+// The one kind whose word may begin so, or 8.
+fn candidate(first: u8, length: usize) -> usize
+    ensures { λ r. ⌜ Only first length r ⌝ }
+{
+    match first {
+        b'R' => 1,
+        b'L' => {
+            if length == 1 {
+                return 2;
+            }
+            4
+        }
+        b'C' => 3,
+        b'S' => 5,
+        b'V' => 6,
+        b'I' => 7,
+        b'a'..=b'z' => 0,
+        _ => 8,
+    }
+}
+
+// The kind that a word names, or 8.
+pub fn kind_of(word: &[u8]) -> usize
+    ensures { λ r. ⌜ r ≡ placeOf 0 kinds (now (word .entry)) ⌝ }
+{
+    if word.len() == 0 {
+        return 8;
+    }
+    let kind = candidate(word[0], word.len());
+    if 8 <= kind {
+        return 8;
+    }
+    if is_word(word, kind) {
+        return kind;
+    }
+    8
+}
