@@ -1,0 +1,3 @@
+pub mod EndLeg
+pub mod LegLaws
+pub mod Paper
