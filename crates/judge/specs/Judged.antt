@@ -97,3 +97,26 @@ module _ (recs : Words) (areas most : ℕ) (long : length recs ≡ Limits.record
       every-append (λ k. leb k Limits.stepsEnd) (replicate areas most) (replicate (32 - length (replicate areas most)) 0)
       ∙ both (every-same (λ k. leb k Limits.stepsEnd) areas most (le-leb most Limits.stepsEnd l)) (every-same (λ k. leb k Limits.stepsEnd) (32 - length (replicate areas most)) 0 refl) in
       rw (getD-take 32 recs (a - 1) z (omega arith)) at (within-most Limits.stepsEnd (filled 32 0 (replicate areas most)) (take 32 recs) small s (a - 1))
+
+-- ---- a state that is well formed
+
+module _ {net recs froms tos : Words} {areas delays : List ℕ} {rows nodes count slots : ℕ} (k : Lent net recs froms tos areas delays rows nodes count slots)
+    (e : wellFormed (netIn net) recs froms tos ≡ true) where
+  counts-good : countsFormed recs count (steps (netIn net .head)) ≡ true
+  counts-good =
+      and-left (countsFormed recs count (steps (netIn net .head)))
+      (within (filled 32 0 (replicate nodes Limits.voltageEnd)) (take 32 (drop 32 recs))
+      && (every (rowFormed net recs) (numbers 0 rows)
+      && (tailsFormed recs rows && (every (near (netIn net) recs) (netIn net .rows) && (storeIs froms slots && storeIs tos slots)))))
+      (sym (lent-parts k) ∙ e)
+
+  pub formed-counted : Counted net recs areas delays
+  formed-counted =
+      record {
+        network = k .network;
+        mapped = k .mapped .area-at;
+        delayed = k .delayed;
+        long = k .records-long;
+        number = counts-number recs count (steps (netIn net .head)) (k .records-long) counts-good;
+        most = counts-most recs count (steps (netIn net .head)) (k .records-long) counts-good (net-sound net (k .network) .study .stepsIn .most);
+      }
