@@ -110,32 +110,32 @@ rows-room (suc n) w (suc i) h = rows-room n (drop 8 w) i (omega arith)
 
 -- ---- the record
 
-abbrev rowsIn : Words → List Row
+abbrev pub rowsIn : Words → List Row
 rowsIn net = tail (tableOf net)
 
 module _ (net : Words) where
   -- its eight head words
-  abbrev headOf : Words
+  abbrev pub headOf : Words
   headOf = filled 8 z (take 3 net ++ (pos (length (rowsIn net)) ∷ []))
 
-  head-long : length headOf ≡ 8
+  pub head-long : length headOf ≡ 8
   head-long =
       length-filled 8 z (take 3 net ++ (pos (length (rowsIn net)) ∷ []))
       (rw (length-append (take 3 net) (pos (length (rowsIn net)) ∷ []), length-take) (omega arith))
 
-  rows-in-short : Short (rowsIn net)
+  pub rows-in-short : Short (rowsIn net)
   unfolding tableOf
   rows-in-short = rows-short (nat (rowCount net)) (drop 8 net)
 
-  laid-out : networkOf (tableOf net) ≡ filled Limits.networkWords z (headOf ++ laid (rowsIn net))
+  pub laid-out : networkOf (tableOf net) ≡ filled Limits.networkWords z (headOf ++ laid (rowsIn net))
   unfolding networkOf tableOf
   laid-out = refl
 
   -- words of the head, of the rows, and after them
-  out-head : (k : ℕ) → k < 8 → word (networkOf (tableOf net)) k ≡ word headOf k
+  pub out-head : (k : ℕ) → k < 8 → word (networkOf (tableOf net)) k ≡ word headOf k
   out-head k h = rw laid-out (getD-filled Limits.networkWords z (headOf ++ laid (rowsIn net)) k ∙ List·getD-append headOf (laid (rowsIn net)) z k (omega (arith, head-long)))
 
-  out-after : (k : ℕ) → word (networkOf (tableOf net)) (8 + k) ≡ word (laid (rowsIn net)) k
+  pub out-after : (k : ℕ) → word (networkOf (tableOf net)) (8 + k) ≡ word (laid (rowsIn net)) k
   out-after k =
       let e : 8 + k ≡ length headOf + k = omega (arith, head-long) in
       rw laid-out (getD-filled Limits.networkWords z (headOf ++ laid (rowsIn net)) (8 + k) ∙ ap (word (headOf ++ laid (rowsIn net))) e ∙ getD-append-add headOf (laid (rowsIn net)) k z)

@@ -1,0 +1,38 @@
+-- What is judged of a lent network record: each row by its eight words after what is seen of those before, and the words that no row has.
+-- Assumes nothing.
+use Prim.Native.Nat.{ℕ, suc, _+_, _*_}
+use mathlib.Core.Bool.{Bool, _&&_, _||_}
+use mathlib.Core.List.{List, [], _∷_}
+use lib.Dec.{leb, ltb, eqb}
+use lib.ListN.{length, take, drop}
+use Rattle.whole.specs.Lists.{Words, z, word, every, upTo}
+use Rattle.paper.specs.Rows.{kind, fieldsOf}
+use Rattle.faults.specs.declared.Seen.{Seen}
+use Rattle.faults.specs.Seen.{seenFault}
+
+-- the eight words of row i
+abbrev pub wordsOf : Words → ℕ → Words
+wordsOf net i = take 8 (drop (8 + 8 * i) net)
+
+-- the study's row, as its eight words would be
+abbrev pub studyWords : Words → Words
+studyWords net = z ∷ word net 0 ∷ word net 1 ∷ word net 2 ∷ z ∷ z ∷ z ∷ z ∷ []
+
+-- "unused ones 0": a kind has three to five fields
+unfoldable pub spareZero : Words → Bool
+spareZero w =
+    upTo 0 (word w 7)
+    && upTo 0 (word w 6)
+    && (ltb 4 (length (fieldsOf (kind w))) || upTo 0 (word w 5))
+    && (ltb 3 (length (fieldsOf (kind w))) || upTo 0 (word w 4))
+
+abbrev pub knownRow : Words → Bool
+knownRow w = leb 1 (kind w) && leb (kind w) 7
+
+-- a row that the reader could have written after those that are seen
+unfoldable pub goodRow : Seen → Words → Bool
+goodRow s w = knownRow w && spareZero w && eqb (seenFault s w) 0
+
+-- the head's last four words, and those after the last row
+unfoldable pub blank : Words → ℕ → Bool
+blank net rows = every (upTo 0) (take 4 (drop 4 net)) && every (upTo 0) (drop (8 + 8 * rows) net)

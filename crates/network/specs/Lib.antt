@@ -1,0 +1,4 @@
+pub mod Judged
+pub mod Replayed
+pub mod Laws
+pub mod Refused

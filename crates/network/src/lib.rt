@@ -1,0 +1,132 @@
+// 8 NETWORK: "lent network record not one the reader could write". The rows are replayed through the one function of faults that the reader goes by.
+ghost use mathlib.Core.Path.{_≡_};
+ghost use mathlib.Core.Bool.{true};
+ghost use Prim.Native.Nat.{_≤_, _<_};
+ghost use lib.ListN.{length};
+ghost use Rattle.paper.specs.Rows.{kind};
+ghost use Rattle.paper.specs.Network.{isNetwork};
+ghost use Rattle.faults.specs.Seen.{Held};
+ghost use Rattle.network.specs.Judged as Judged;
+ghost use Rattle.network.specs.Judged.{wordsOf, studyWords, spareZero, knownRow, goodRow};
+ghost use Rattle.network.specs.Laws.{Sized, Replayed};
+use faults::Seen;
+use paper::Room;
+
+// the eight words of row i
+fn row_at(net: &[i64], i: usize) -> [i64; 8]
+    requires { ⌜ (length (now net) ≡ 1024) × (i < 80) ⌝ }
+    ensures { λ r. ⌜ r ≡ wordsOf (now (net .entry)) i ⌝ }
+{
+    let b = 8 + 8 * i;
+    [
+        net[b],
+        net[b + 1],
+        net[b + 2],
+        net[b + 3],
+        net[b + 4],
+        net[b + 5],
+        net[b + 6],
+        net[b + 7],
+    ]
+}
+
+fn study_row(net: &[i64]) -> [i64; 8]
+    requires { ⌜ length (now net) ≡ 1024 ⌝ }
+    ensures { λ r. ⌜ r ≡ studyWords (now (net .entry)) ⌝ }
+{
+    [0, net[0], net[1], net[2], 0, 0, 0, 0]
+}
+
+fn known(row: [i64; 8]) -> bool
+    ensures { λ r. ⌜ r ≡ knownRow row ⌝ }
+{
+    (1 <= row[0]) & (row[0] <= 7)
+}
+
+// "unused ones 0"
+fn spare_zero(row: [i64; 8]) -> bool
+    requires { ⌜ kind row < 8 ⌝ }
+    ensures { λ r. ⌜ r ≡ spareZero row ⌝ }
+{
+    let fields = kinds::fields(row[0] as usize);
+    whole::within(row[7], 0)
+        & whole::within(row[6], 0)
+        & ((4 < fields) | whole::within(row[5], 0))
+        & ((3 < fields) | whole::within(row[4], 0))
+}
+
+// Whether the reader could have written this row after those that are seen.
+fn good(seen: Seen, row: [i64; 8]) -> bool
+    requires { ⌜ Held seen ⌝ }
+    ensures { λ r. ⌜ r ≡ goodRow seen row ⌝ }
+{
+    if !known(row) {
+        return false;
+    }
+    if !spare_zero(row) {
+        return false;
+    }
+    faults::line_fault(seen, row) == 0
+}
+
+// the words that no row has
+fn blank(net: &[i64], rows: usize) -> bool
+    requires { ⌜ (length (now net) ≡ 1024) × (rows ≤ 80) ⌝ }
+    ensures { λ r. ⌜ r ≡ Judged.blank (now (net .entry)) rows ⌝ }
+{
+    let end = 8 + 8 * rows;
+    whole::all_within(&net[4..8], 0) & whole::all_within(&net[end..], 0)
+}
+
+// each row in turn, after the study's
+fn rows_pass(net: &[i64], rows: usize, first: Seen) -> bool
+    requires { ⌜ Sized (now net) rows ⌝ }
+    requires { ⌜ (Judged.blank (now net) rows ≡ true) × Replayed (now net) 0 first ⌝ }
+    ensures { λ r. ⌜ r ≡ isNetwork (now (net .entry)) ⌝ }
+{
+    let mut seen = first;
+    let mut i = 0;
+    while i < rows {
+        let row = row_at(net, i);
+        if !good(seen, row) {
+            return false;
+        }
+        let next = faults::seen_after(seen, row);
+        seen = next;
+        i += 1;
+    }
+    true
+}
+
+// the study's row and then the others
+fn table_passes(net: &[i64], rows: usize) -> bool
+    requires { ⌜ Sized (now net) rows ⌝ }
+    requires { ⌜ Judged.blank (now net) rows ≡ true ⌝ }
+    ensures { λ r. ⌜ r ≡ isNetwork (now (net .entry)) ⌝ }
+{
+    let none = faults::nothing_seen();
+    let row = study_row(net);
+    if faults::line_fault(none, row) != 0 {
+        return false;
+    }
+    let first = faults::seen_after(none, row);
+    rows_pass(net, rows, first)
+}
+
+pub fn is_network(net: &[i64]) -> bool
+    requires { ⌜ length (now net) ≡ 1024 ⌝ }
+    ensures { λ r. ⌜ r ≡ isNetwork (now (net .entry)) ⌝ }
+{
+    let count = net[3];
+    if count < 0 {
+        return false;
+    }
+    let rows = count as usize;
+    if Room::ROWS < rows {
+        return false;
+    }
+    if !blank(net, rows) {
+        return false;
+    }
+    table_passes(net, rows)
+}
