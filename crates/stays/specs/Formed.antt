@@ -139,7 +139,7 @@ module _ (N : Net) (f : Sound N) where
   past-currents : (i : ℕ) → endAt N (144 + i) ≡ getD rest₁ i 0
   past-currents i = let e : 144 + i ≡ 64 + (80 + i) = omega arith in ap (endAt N) e ∙ past-volts (80 + i) ∙ next-blocks 80 (map currentEndOf (N .rows)) rest₁ i (few-rows currentEndOf)
 
-  past-tos : (i : ℕ) → endAt N (224 + i) ≡ getD (map historyEndOf (N .rows)) i 0
+  pub past-tos : (i : ℕ) → endAt N (224 + i) ≡ getD (map historyEndOf (N .rows)) i 0
   past-tos i =
       let e : 224 + i ≡ 144 + (80 + i) = omega arith in
       ap (endAt N) e ∙ past-currents (80 + i) ∙ next-blocks 80 (map toCurrentEndOf (N .rows)) (map historyEndOf (N .rows)) i (few-rows toCurrentEndOf)

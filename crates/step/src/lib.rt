@@ -1,0 +1,1 @@
+// One step of one area of a well-formed state.
