@@ -3,7 +3,7 @@ use Prim.Native.Nat.{ℕ, zero, suc, _+_, _≤_, _<_}
 use native.Mathlib.Omega.{arith}
 use mathlib.Core.Path.{_≡_, refl, sym, ap, _∙_}
 use mathlib.Core.Logic.{_⊎_, inl, inr}
-use mathlib.Core.Bool.{Bool, true, false, cond, not, _&&_, _||_, true≢false}
+use mathlib.Core.Bool.{Bool, true, false, cond, not, _&&_, _||_, or-true, true≢false}
 use mathlib.Core.List.{List, [], _∷_}
 use lib.ListN.{length, getD}
 use lib.Dec.{eqb, ltb}
@@ -40,7 +40,7 @@ Behind N a k recs i =
     ⊎ ((areaOf N (to (rowAt N i)) ≡ a) × (countAtNode N recs (from (rowAt N i)) + delayAt N i < k))
 
 module _ (N : Net) (a k : ℕ) (recs : Words) where
-  waits-line : (i : ℕ) → waitsFor N a k recs (rowAt N i) ≡ true → isLine (rowAt N i) ≡ true
+  pub waits-line : (i : ℕ) → waitsFor N a k recs (rowAt N i) ≡ true → isLine (rowAt N i) ≡ true
   unfolding waitsFor
   waits-line i = go (isLine (rowAt N i)) _
     where
@@ -48,7 +48,7 @@ module _ (N : Net) (a k : ℕ) (recs : Words) where
       go true y e = refl
       go false y e = absurd (true≢false (sym e))
 
-  waits-behind : (i : ℕ) → waitsFor N a k recs (rowAt N i) ≡ true → Behind N a k recs i
+  pub waits-behind : (i : ℕ) → waitsFor N a k recs (rowAt N i) ≡ true → Behind N a k recs i
   unfolding waitsFor
   waits-behind i = go (isLine (rowAt N i)) (here N a (from (rowAt N i))) (here N a (to (rowAt N i))) (late N recs k (rowAt N i) (to (rowAt N i))) (late N recs k (rowAt N i) (from (rowAt N i))) refl refl refl refl
     where
@@ -64,7 +64,15 @@ module _ (N : Net) (a k : ℕ) (recs : Words) where
       go true false false x y p q r s e = absurd (true≢false (sym e))
       go false f t x y p q r s e = absurd (true≢false (sym e))
 
-  free-allowed : (i : ℕ) → isLine (rowAt N i) ≡ true → waitsFor N a k recs (rowAt N i) ≡ false → Allowed N a k recs i
+  pub behind-waits : (i : ℕ) → isLine (rowAt N i) ≡ true → Behind N a k recs i → waitsFor N a k recs (rowAt N i) ≡ true
+  unfolding waitsFor
+  behind-waits i l (inl p) =
+      rw (l, eq-eqb (areaOf N (from (rowAt N i))) a (p .0), lt-ltb (countAtNode N recs (to (rowAt N i)) + delayAt N i) k (p .1))
+  behind-waits i l (inr p) =
+      rw (l, eq-eqb (areaOf N (to (rowAt N i))) a (p .0), lt-ltb (countAtNode N recs (from (rowAt N i)) + delayAt N i) k (p .1))
+      (or-true (here N a (from (rowAt N i)) && late N recs k (rowAt N i) (to (rowAt N i))))
+
+  pub free-allowed : (i : ℕ) → isLine (rowAt N i) ≡ true → waitsFor N a k recs (rowAt N i) ≡ false → Allowed N a k recs i
   unfolding waitsFor
   free-allowed i l e = record { at-from = λ q. side-from (eq-eqb _ a q); at-to = λ q. side-to (eq-eqb _ a q) }
     where
@@ -84,7 +92,7 @@ module _ (N : Net) (a k : ℕ) (recs : Words) where
       side-to : here N a (to (rowAt N i)) ≡ true → k ≤ countAtNode N recs (from (rowAt N i)) + delayAt N i
       side-to q = ltb-false _ k (both .1 q)
 
-  allowed-free : (i : ℕ) → (isLine (rowAt N i) ≡ true → Allowed N a k recs i) → waitsFor N a k recs (rowAt N i) ≡ false
+  pub allowed-free : (i : ℕ) → (isLine (rowAt N i) ≡ true → Allowed N a k recs i) → waitsFor N a k recs (rowAt N i) ≡ false
   allowed-free i h = go (waitsFor N a k recs (rowAt N i)) refl
     where
       side : Allowed N a k recs i → Behind N a k recs i → ⊥

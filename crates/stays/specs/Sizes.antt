@@ -140,7 +140,7 @@ module _ (N : Net) (m : Memory) (f : Formed N m) (s : NetSound N) (a k : ℕ) wh
 
 -- ---- "17 HISTORY: a next history or sent value beyond 10^17"
 
-beyond-place : (v : Words) (i : ℕ) (bs : List Branch) → firstBeyond v i bs ≡ place (beyond v) i bs
+pub beyond-place : (v : Words) (i : ℕ) (bs : List Branch) → firstBeyond v i bs ≡ place (beyond v) i bs
 unfolding firstBeyond place
 beyond-place v i [] = refl
 beyond-place v i (b ∷ bs) = rw (beyond-place v (suc i) bs)

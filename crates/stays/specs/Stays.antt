@@ -89,7 +89,7 @@ module _ (N : Net) (f : Sound N) (m : Memory) (long : Long m) (a k : ℕ) (one :
 
 -- ---- the step
 
-stop-move : {x : Advance} {v : Words} → stop x ≡ move v → ⊥
+pub stop-move : {x : Advance} {v : Words} → stop x ≡ move v → ⊥
 stop-move e = let z : _≡_ {A = ℕ} 0 1 = cc in omega arith
 
 module _ (N : Net) (s : NetSound N) (a : ℕ) (m : Memory) (long : Long m) (good : wellFormed N (m .records) (m .froms) (m .tos) ≡ true) where

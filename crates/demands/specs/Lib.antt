@@ -1,0 +1,9 @@
+pub mod Said
+pub mod Volts
+pub mod Branches
+pub mod Balance
+pub mod Step
+pub mod Exact
+pub mod Passing
+pub mod Histories
+pub mod Refusals
