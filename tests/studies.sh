@@ -1,0 +1,49 @@
+#!/usr/bin/env bash
+# The worked studies: each listing ends as studies/NAME.end says (its last step and the closing line), by the second program and by
+# emtrun, and the two listings are the same bytes throughout. The repair that studies/floating.md tells is tried too.
+# Closing line: N passed, M failed.
+set -u
+cd "$(dirname "$0")/.." || exit 1
+
+passed=0
+failed=0
+work=$(mktemp -d)
+trap 'rm -rf "$work"' EXIT
+
+check() { # what it is, and the status of the comparison before
+    if [ "$2" -eq 0 ]; then
+        passed=$((passed + 1))
+    else
+        echo "$1"
+        failed=$((failed + 1))
+    fi
+}
+
+second=second/target/release/second
+(cd second && cargo build -j1 --release --offline) >"$work/cargo" 2>&1
+check "second/ does not build: $(tail -n 1 "$work/cargo")" $?
+programs=$second
+if grep -q '^emtrun:' crates.txt; then
+    programs="$second target/bin/emtrun"
+else
+    echo "crate emtrun is not listed yet: the second program runs alone"
+fi
+
+for program in $programs; do
+    for text in studies/*.txt; do
+        name=$(basename "$text" .txt)
+        "$program" <"$text" >"$work/$name.$(basename "$program")" 2>"$work/said"
+        tail -n "$(wc -l <"studies/$name.end")" "$work/$name.$(basename "$program")" | cmp -s - "studies/$name.end"
+        check "$program: $text does not end as studies/$name.end" $?
+        if [ "$program" != $second ]; then
+            cmp -s "$work/$name.second" "$work/$name.emtrun"
+            check "$text: two listings" $?
+        fi
+    done
+    last=$({ cat studies/floating.txt; printf 'C\t4\t0\t200\n'; } | "$program" 2>/dev/null | tail -n 1)
+    [ "$last" = "$(printf 'done\t200')" ]
+    check "$program: studies/floating.txt with the stray capacitance ends in '$last'" $?
+done
+
+echo "$passed passed, $failed failed"
+[ "$failed" -eq 0 ]
