@@ -1,0 +1,16 @@
+-- `emt::emt_reset` meets its contract: the number of what `reset` answers. Assumes nothing.
+use mathlib.Core.Path.{_≡_, ap, _∙_}
+use borrow.Author.Needs.{needs}
+use Rattle.paper.specs.Answers.{resettingNumber}
+use Rattle.emt.proofs.emt_reset.Statement.{statement}
+use Rattle.emt.proofs.emt_reset.Tie as tie
+
+returns : tie.Need-returns
+returns c =
+    let r = c .before .before .before .before .reset .ensures in
+    record { answer = c .resetting-number .ensures ∙ ap resettingNumber (r .answer); memory = r .memory }
+
+pub emt-reset-spec : {M : Type 1} → statement M
+emt-reset-spec =
+    tie.close
+    (tie.spec (λ c κs. search needs) (λ c κs. search needs) (λ c. search needs) (λ c. search needs) (λ c. search needs) returns)
