@@ -30,7 +30,8 @@ use Rattle.local.specs.Outcome.{stepOf}
 use Rattle.stays.specs.Formed.{Formed, formed}
 use Rattle.runs.specs.Runs.{Lent, after, accepts, taken}
 use Rattle.runs.specs.Moves.{Inv, took, call-is}
-use Rattle.runs.specs.Orders.{IsArea, start, run-inv, area-of-accepted}
+use Rattle.demands.specs.Said.{IsArea}
+use Rattle.runs.specs.Orders.{start, run-inv, area-of-accepted}
 use Rattle.runs.specs.Refused.{counts-are}
 use Rattle.runs.specs.Received.{Side, fromSide, toSide, far, nodeAt, storeOf, areaAt, StepIn, Sent, slots-hold}
 

@@ -4,3 +4,5 @@ pub mod Orders
 pub mod Refused
 pub mod Received
 pub mod Heard
+pub mod Lines
+pub mod Words

@@ -48,7 +48,7 @@ at m (recordWord j) = word (m .records) j
 at m (fromWord j) = word (m .froms) j
 at m (toWord j) = word (m .tos) j
 
-acc-firm : (x : Advance) → accepted x ≡ true → firm x ≡ true
+pub acc-firm : (x : Advance) → accepted x ≡ true → firm x ≡ true
 acc-firm (Took k) e = refl
 acc-firm Network e = refl
 acc-firm Store e = refl
@@ -93,6 +93,12 @@ module _ (N : Net) (a : ℕ) (m : Memory) (good : wellFormed N (m .records) (m .
 
 -- ---- over a network record
 
+-- whose each word is
+abbrev pub ownerIn : Net → Cell → ℕ
+ownerIn N (recordWord j) = ownerOf N j
+ownerIn N (fromWord j) = keeperOf N from j
+ownerIn N (toWord j) = keeperOf N to j
+
 module _ (net : Words) (network : isNetwork net ≡ true) where
   abbrev pub N : Net
   N = netIn net
@@ -121,9 +127,7 @@ module _ (net : Words) (network : isNetwork net ≡ true) where
   moves = record { S = Memory; Ans = Advance; call = λ a m. advanceOf net a m .answer; after = λ a m. advanceOf net a m .after; acc = accepted; firm = firm }
 
   abbrev pub owner : Cell → ℕ
-  owner (recordWord j) = ownerOf N j
-  owner (fromWord j) = keeperOf N from j
-  owner (toWord j) = keeperOf N to j
+  owner = ownerIn N
 
   -- what area a's next step hears; nothing, where it has no next step
   unfoldable pub hears : ℕ → Memory → List Heard
@@ -132,7 +136,7 @@ module _ (net : Words) (network : isNetwork net ≡ true) where
   pub keep : (a : ℕ) (m : Memory) → Inv m → Inv (advanceOf net a m .after)
   keep a m i = rw (called a m i) (let p = stays N s a m (i .long) (i .good) in record { long = p .0; good = p .1 })
 
-  ext : (m n : Memory) → Inv m → Inv n → ((c : Cell) → at m c ≡ at n c) → m ≡ n
+  pub ext : (m n : Memory) → Inv m → Inv n → ((c : Cell) → at m c ≡ at n c) → m ≡ n
   ext m n i j h = λ x. memory
       (ext-getD z (m .records) (n .records) (i .long .records ∙ sym (j .long .records)) (λ k _. h (recordWord k)) x)
       (ext-getD z (m .froms) (n .froms) (i .long .froms ∙ sym (j .long .froms)) (λ k _. h (fromWord k)) x)
@@ -176,7 +180,7 @@ module _ (net : Words) (network : isNetwork net ≡ true) where
     same-cells (fromWord k) o = touch-same (m .froms) (onNet N a m .after .froms) (n .froms) (onNet N a n .after .froms) k (same .froms k) (own (fromWord k) o)
     same-cells (toWord k) o = touch-same (m .tos) (onNet N a m .after .tos) (n .tos) (onNet N a n .after .tos) k (same .tos k) (own (toWord k) o)
 
-  reads : (a : ℕ) (m n : Memory) → Inv m → Inv n → ((c : Cell) → owner c ≡ a → at m c ≡ at n c) → hears a m ≡ hears a n
+  pub reads : (a : ℕ) (m n : Memory) → Inv m → Inv n → ((c : Cell) → owner c ≡ a → at m c ≡ at n c) → hears a m ≡ hears a n
       → firm (advanceOf net a m .answer) ≡ true → firm (advanceOf net a n .answer) ≡ true
       → (advanceOf net a m .answer ≡ advanceOf net a n .answer) × ((c : Cell) → owner c ≡ a → at (advanceOf net a m .after) c ≡ at (advanceOf net a n .after) c)
   reads a m n i j own ears f g =
@@ -280,12 +284,12 @@ module _ (net : Words) (network : isNetwork net ≡ true) where
     moved = ap (λ (r : Advanced). r .after) call-is
 
   module _ (a b : ℕ) (m : Memory) (i : Inv m) (n : a ≢ b) (ok : accepted (advanceOf net a m .answer) ≡ true) (f : firm (advanceOf net b m .answer) ≡ true) where
-    alive : firm (advanceOf net b (advanceOf net a m .after) .answer) ≡ true
+    pub alive : firm (advanceOf net b (advanceOf net a m .after) .answer) ≡ true
     alive =
         let i′ : Inv (next a m i (took a m i ok)) = rw (moved a m i ok) at (keep a m i) in
         rw (moved a m i ok, called b (next a m i (took a m i ok)) i′) (next-firm a m i (took a m i ok) b n i′ (rw (called b m i) at f))
 
-    unheard : hears b (advanceOf net a m .after) ≡ hears b m
+    pub unheard : hears b (advanceOf net a m .after) ≡ hears b m
     unheard = rw (moved a m i ok) (next-hears a m i (took a m i ok) b n (rw (called b m i) at f))
 
   pub local : Local moves Inv

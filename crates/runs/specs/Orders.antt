@@ -35,13 +35,9 @@ use Rattle.local.specs.Waits.{Free, late-not}
 use Rattle.local.specs.Outcome.{stepOf, isArea, StepRefusal, floating14, range15, unbalanced16, history17, Outcome, no-area, done, waits, stops, takes, outcome}
 use Rattle.local.specs.Outcome as Outcome
 use Rattle.stays.specs.Stays.{Long, fresh-well}
+use Rattle.demands.specs.Said.{IsArea}
 use Rattle.runs.specs.Runs.{Lent, reset, after, accepts, taken, firm}
 use Rattle.runs.specs.Moves.{Inv, called, keep, moves, local, own-count, other-count, moved, took, free-firm}
-
--- an area's number
-pub record IsArea (N : Net) (a : ℕ) : Type 0 where
-  pub one : 1 ≤ a
-  pub most : a ≤ areaCount N
 
 module _ (net : Words) (lent : Memory) (ok : Lent net lent) where
   abbrev N : Net
@@ -111,7 +107,7 @@ module _ (net : Words) (lent : Memory) (ok : Lent net lent) where
       go true false p q = refl
       go false y p q = refl
 
-  same-counts : (w v : List ℕ) → ((a : ℕ) → IsArea N a → taken net a w start ≡ taken net a v start) → (a : ℕ) → taken net a w start ≡ taken net a v start
+  pub same-counts : (w v : List ℕ) → ((a : ℕ) → IsArea N a → taken net a w start ≡ taken net a v start) → (a : ℕ) → taken net a w start ≡ taken net a v start
   same-counts w v h a = go (isArea N a start) refl
     where
       go : (x : Bool) → isArea N a start ≡ x → taken net a w start ≡ taken net a v start

@@ -34,7 +34,8 @@ use Rattle.local.specs.Outcome.{stepOf, legsNow, voltsOf, Taken}
 use Rattle.stays.specs.Formed.{Formed, formed}
 use Rattle.runs.specs.Runs.{Lent, after, accepts}
 use Rattle.runs.specs.Moves.{Cell, recordWord, fromWord, toWord, Inv, called, keep, writes, took, call-is, moved, next, own-count, other-count}
-use Rattle.runs.specs.Orders.{IsArea, start, run-inv}
+use Rattle.demands.specs.Said.{IsArea}
+use Rattle.runs.specs.Orders.{start, run-inv}
 use Rattle.runs.specs.Refused.{counts-are}
 
 -- ---- the two ends of a line, each with its node and its store

@@ -30,7 +30,8 @@ use Rattle.local.specs.Outcome.{stepOf, StepRefusal, floating14, range15, unbal
 use Rattle.stays.specs.Stays.{zero-word}
 use Rattle.runs.specs.Runs.{Lent, after, accepts, taken, firm}
 use Rattle.runs.specs.Moves.{Inv, called, keep, moves, took, moved, own-count, other-count, free-firm}
-use Rattle.runs.specs.Orders.{IsArea, start, starts, start-inv, run-inv, run-is, count-is, diamond, area-of-accepted}
+use Rattle.demands.specs.Said.{IsArea}
+use Rattle.runs.specs.Orders.{start, starts, start-inv, run-inv, run-is, count-is, diamond, area-of-accepted}
 
 -- the numbers that a run is answered
 pub record RunNumber (x : Advance) : Type 0 where

@@ -1,0 +1,95 @@
+-- T-received in voltages and currents alone: at an accepted step k of a run, the current of a line's end is g·v, less what the far end's g·v and
+-- current came to at its own accepted step k - d of that run. No store is spoken of. Assumes nothing.
+use Prim.Native.Nat.{ℕ, _-_, _≤_, _<_}
+use mathlib.Core.Path.{_≡_, refl, sym, ap, _∙_}
+use mathlib.Core.Bool.{true}
+use mathlib.Core.List.{List}
+use lib.ListN.{length}
+use lib.IntN.{ℤ, negℤ, _+ℤ_}
+use borrow.Author.Tests.{lt-ltb}
+use Rattle.paper.specs.declared.Advance.the-variants.{Took}
+use Rattle.whole.specs.Lists.{Words, word}
+use Rattle.paper.specs.Rows.{isLine, from, to}
+use Rattle.paper.specs.Areas.{Net, areaOf}
+use Rattle.paper.specs.Legs.{sentTo}
+use Rattle.paper.specs.Advance.{Memory, advanceOf}
+use Rattle.facts.specs.Nets.{netIn, rowAt}
+use Rattle.local.specs.Slots.{delayAt, slotOf}
+use Rattle.demands.specs.Said.{fromCurrent, toCurrent, fromSent, toSent, gv, Stepped, EndObeys}
+use Rattle.demands.specs.Step.{step}
+use Rattle.runs.specs.Runs.{Lent, after}
+use Rattle.runs.specs.Orders.{start}
+use Rattle.runs.specs.Received.{Side, fromSide, toSide, far, nodeAt, storeOf, areaAt, StepIn, right-after, Sent}
+use Rattle.runs.specs.Heard.{hears, received}
+
+-- the current that leaves a line's end into the line
+abbrev pub currentAt : Memory → Side → ℕ → ℤ
+currentAt m fromSide i = fromCurrent m i
+currentAt m toSide i = toCurrent m i
+
+-- g·v at that end
+abbrev pub gvAt : Net → Memory → Side → ℕ → ℤ
+gvAt N m s i = gv N m i (nodeAt s (rowAt N i))
+
+pub record LineLaw (net : Words) (m : Memory) (w : List ℕ) (k : ℕ) (s : Side) (i : ℕ) (n : Memory) : Type 0 where
+  -- k - d < 1
+  pub early : k ≤ delayAt (netIn net) i → currentAt n s i ≡ gvAt (netIn net) n s i
+  -- the far area's accepted step k - d, and what its end's g·v and current came to right after it
+  pub step : delayAt (netIn net) i < k → StepIn net m w (areaAt (netIn net) (far s) i) (k - delayAt (netIn net) i)
+  pub later : (h : delayAt (netIn net) i < k)
+      → let p = right-after net m w (areaAt (netIn net) (far s) i) (k - delayAt (netIn net) i) (step h) in
+      currentAt n s i ≡ gvAt (netIn net) n s i +ℤ negℤ (gvAt (netIn net) p (far s) i +ℤ currentAt p (far s) i)
+
+sentBy : Net → Memory → Side → ℕ → ℕ → ℤ
+sentBy N m fromSide i x = fromSent N m i x
+sentBy N m toSide i x = toSent N m i x
+
+module _ (net : Words) (lent : Memory) (ok : Lent net lent) (a : ℕ) (w : List ℕ) (k : ℕ) (e : advanceOf net a (after net w (start net lent ok)) .answer ≡ Took k) where
+  abbrev N : Net
+  N = netIn net
+
+  abbrev m : Memory
+  m = after net w (start net lent ok)
+
+  abbrev n : Memory
+  n = advanceOf net a m .after
+
+  abbrev EndOf : Memory → ℕ → Memory → Side → ℕ → Type 0
+  EndOf before x now s i = EndObeys N x i (nodeAt s (rowAt N i)) now (currentAt now s i) (sentBy N now s i x) (sentBy N before (far s) i)
+
+  end-law : (before : Memory) (b x : ℕ) → advanceOf net b before .answer ≡ Took x → (s : Side) (i : ℕ) → i < length (N .rows) → isLine (rowAt N i) ≡ true → areaAt N s i ≡ b
+      → EndOf before x (advanceOf net b before .after) s i
+  unfolding sentBy
+  end-law before b x q fromSide i h l o = step net b before x q .from-end i h l o
+  end-law before b x q toSide i h l o = step net b before x q .to-end i h l o
+
+  heard-is : (s : Side) (i : ℕ) → delayAt N i < k → hears N m k s i ≡ sentBy N m (far s) i (k - delayAt N i)
+  unfolding sentTo sentBy
+  heard-is fromSide i h = rw (lt-ltb (delayAt N i) k h)
+  heard-is toSide i h = rw (lt-ltb (delayAt N i) k h)
+
+  store-is : (p : Memory) (s : Side) (i x : ℕ) (y : ℤ) → y ≡ word (storeOf s p) (slotOf N i x) → y ≡ sentBy N p s i x
+  unfolding sentBy
+  store-is p fromSide i x y h = h
+  store-is p toSide i x y h = h
+
+  -- T-received, of the current that the step wrote
+  pub line-law : (i : ℕ) → i < length (N .rows) → isLine (rowAt N i) ≡ true → (s : Side) → areaAt N s i ≡ a → LineLaw net (start net lent ok) w k s i n
+  line-law i h l s o = record {
+    early = own .early;
+    step = λ d. got d .step;
+    later = λ d.
+        let t = got d .step in
+        let b = areaAt N (far s) i in
+        let x = k - delayAt N i in
+        let p = right-after net (start net lent ok) w b x t in
+        own .later d
+        ∙ ap (λ (y : ℤ). gvAt N n s i +ℤ y) (sym (heard-is s i d) ∙ store-is p (far s) i x (hears N m k s i) (got d .value)
+        ∙ end-law (after net (t .before) (start net lent ok)) b x (t .answer) (far s) i h l refl .sent);
+  }
+    where
+      own : EndOf m k n s i
+      own = end-law m a k e s i h l o
+
+      got : delayAt N i < k → Sent net (start net lent ok) w (far s) i (k - delayAt N i) (hears N m k s i)
+      got = received net lent ok a w k e i h l s o .later
