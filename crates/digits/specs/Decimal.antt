@@ -1,0 +1,162 @@
+-- A number's digits, several at a time. Assumes nothing.
+use Prim.Native.Nat.{ℕ, zero, suc, _+_, _*_, _/_, _%_, _^_, _≤_, _<_}
+use mathlib.Core.Path.{_≡_, refl, sym, ap, _∙_}
+use mathlib.Core.Bool.{Bool, true, false, not}
+use mathlib.Core.List.{List, [], _∷_, _++_, append-assoc, append-nil}
+use native.Mathlib.Omega.{arith}
+use native.Mathlib.Decide.{decLt}
+use native.Mathlib.Nat.{mul-assoc, pow-suc, pow-succ', one-le-pow, div-div-eq-div-mul, div-le-self, div-one, div-add-mod'}
+use borrow.Author.Tests.{eqb-true, eqb-false, eq-eqb, ne-eqb}
+use lib.Dec.{eqb}
+use lib.ListN.{length, length-append}
+use lib.IntN.{ℤ, pos, negsuc, natAbs}
+use Rattle.paper.specs.Text.{MINUS}
+use Rattle.paper.specs.Listing.{digits, shownNat, shown}
+use Rattle.digits.specs.Puts.{Puts, puts-then, puts-as, puts-room}
+
+-- n's last w digits, zeros in front too
+unfoldable pub fixed : ℕ → ℕ → List ℕ
+fixed zero n = []
+fixed (suc w) n = fixed w (n / 10) ++ ((48 + n % 10) ∷ [])
+
+pub length-fixed : (w n : ℕ) → length (fixed w n) ≡ w
+unfolding fixed
+length-fixed zero n = refl
+length-fixed (suc w) n = omega (arith, length-append (fixed w (n / 10)) ((48 + n % 10) ∷ []), length-fixed w (n / 10))
+
+-- ---- the listing's digits, the last one first
+
+stopped : (f n : ℕ) (rest : List ℕ) → digits f false n rest ≡ rest
+unfolding digits
+stopped zero n rest = refl
+stopped (suc f) n rest = refl
+
+before : (f : ℕ) (more : Bool) (n : ℕ) (rest : List ℕ) → digits f more n rest ≡ digits f more n [] ++ rest
+unfolding digits
+before zero more n rest = refl
+before (suc f) false n rest = refl
+before (suc f) true n rest =
+    let q = n / 10 in
+    let d = 48 + n % 10 in
+    let m = not (eqb q 0) in
+    before f m q (d ∷ rest) ∙ sym (ap (λ (l : List ℕ). l ++ rest) (before f m q (d ∷ [])) ∙ append-assoc (digits f m q []) (d ∷ []) rest)
+
+abbrev last : ℕ → List ℕ → List ℕ
+last n rest = (48 + n % 10) ∷ rest
+
+-- a digit, and a number of more than one
+one-digit : (f n : ℕ) (rest : List ℕ) → n < 10 → digits (suc f) true n rest ≡ last n rest
+unfolding digits
+one-digit f n rest h = ap (λ (b : Bool). digits f (not b) (n / 10) (last n rest)) (eq-eqb (n / 10) 0 (omega arith)) ∙ stopped f (n / 10) (last n rest)
+
+more-digits : (f n : ℕ) (rest : List ℕ) → 10 ≤ n → digits (suc f) true n rest ≡ digits f true (n / 10) (last n rest)
+unfolding digits
+more-digits f n rest h = ap (λ (b : Bool). digits f (not b) (n / 10) (last n rest)) (ne-eqb (n / 10) 0 (λ e. omega arith))
+
+-- where there is room, more of it changes nothing
+same-room : (f g n : ℕ) (rest : List ℕ) → n < 10 ^ suc f → n < 10 ^ suc g → digits (suc f) true n rest ≡ digits (suc g) true n rest
+same-room zero g n rest h k = one-digit zero n rest h ∙ sym (one-digit g n rest h)
+same-room (suc f) zero n rest h k = one-digit (suc f) n rest k ∙ sym (one-digit zero n rest k)
+same-room (suc f) (suc g) n rest h k = go (decLt n 10) (same-room f g (n / 10) (last n rest))
+  where
+    go : Dec (n < 10) → (n / 10 < 10 ^ suc f → n / 10 < 10 ^ suc g → digits (suc f) true (n / 10) (last n rest) ≡ digits (suc g) true (n / 10) (last n rest))
+        → digits (suc (suc f)) true n rest ≡ digits (suc (suc g)) true n rest
+    go (yes l) next = one-digit (suc f) n rest l ∙ sym (one-digit (suc g) n rest l)
+    go (no l) next =
+        more-digits (suc f) n rest (omega arith)
+        ∙ next (omega (arith, pow-suc 10 (suc f))) (omega (arith, pow-suc 10 (suc g)))
+        ∙ sym (more-digits (suc g) n rest (omega arith))
+
+by-ten : (w n : ℕ) → n / 10 / 10 ^ w ≡ n / 10 ^ suc w
+by-ten w n = div-div-eq-div-mul n 10 (10 ^ w) ∙ ap (λ (x : ℕ). n / x) (sym (pow-succ' 10 w))
+
+-- the last w digits of a number with more
+split : (w f n : ℕ) (rest : List ℕ) → 10 ^ w ≤ n → digits (f + w) true n rest ≡ digits f true (n / 10 ^ w) (fixed w n ++ rest)
+unfolding digits fixed
+split zero f n rest h = let e : f + 0 ≡ f = omega arith in rw (e, div-one n)
+split (suc w) f n rest h =
+    let e : f + suc w ≡ suc (f + w) = omega arith in
+    let more : 10 ^ w ≤ n / 10 = omega (arith, pow-suc 10 w) in
+    let one : 1 ≤ 10 ^ w = one-le-pow w 10 (omega arith) in
+    rw e (more-digits (f + w) n rest (omega arith) ∙ split w f (n / 10) (last n rest) more
+    ∙ ap (λ (q : ℕ). digits f true q (fixed w (n / 10) ++ last n rest)) (by-ten w n)
+    ∙ ap (digits f true (n / 10 ^ suc w)) (sym (append-assoc (fixed w (n / 10)) (last n []) rest)))
+
+-- ---- a number of a listing, and its digits several at a time
+
+pub shown-digit : (n : ℕ) → n < 10 → shownNat n ≡ fixed 1 n
+unfolding shownNat fixed
+shown-digit n h = one-digit 19 n [] h
+
+-- of 20 digits, w and those before them
+pub shown-split : (w f n : ℕ) → suc f + w ≡ 20 → 10 ^ w ≤ n → n / 10 ^ w < 10 ^ suc f → n < 10 ^ 20 → shownNat n ≡ shownNat (n / 10 ^ w) ++ fixed w n
+unfolding shownNat
+shown-split w f n e h k l =
+    let less : n / 10 ^ w < 10 ^ 20 = omega (arith, div-le-self n (10 ^ w)) in
+    ap (λ (m : ℕ). digits m true n []) (sym e) ∙ split w (suc f) n [] h
+    ∙ before (suc f) true (n / 10 ^ w) (fixed w n ++ [])
+    ∙ rw (append-nil (fixed w n), same-room f 19 (n / 10 ^ w) [] k less)
+
+pub shown-length : (w n : ℕ) → n < 10 ^ suc w → n < 10 ^ 20 → length (shownNat n) ≤ suc w
+unfolding shownNat digits
+shown-length w n h k = rw (same-room 19 w n [] k h) (omega (arith, few (suc w) true n []))
+  where
+    few : (f : ℕ) (more : Bool) (n : ℕ) (rest : List ℕ) → length (digits f more n rest) ≤ f + length rest
+    few zero more n rest = omega arith
+    few (suc f) false n rest = omega arith
+    few (suc f) true n rest = omega (arith, few f (not (eqb (n / 10) 0)) (n / 10) ((48 + n % 10) ∷ rest))
+
+-- and a minus
+pub whole-length : (w : ℕ) (x : ℤ) → natAbs x < 10 ^ suc w → natAbs x < 10 ^ 20 → length (shown x) ≤ suc (suc w)
+unfolding shown
+whole-length w (pos n) h k = omega (arith, shown-length w n h k)
+whole-length w (negsuc n) h k = omega (arith, shown-length w (suc n) h k)
+
+pub fixed-join : (v w n : ℕ) → fixed (v + w) n ≡ fixed v (n / 10 ^ w) ++ fixed w n
+unfolding fixed
+fixed-join v zero n = let e : v + 0 ≡ v = omega arith in rw (e, div-one n, append-nil)
+fixed-join v (suc w) n =
+    let e : v + suc w ≡ suc (v + w) = omega arith in
+    rw (e, fixed-join v w (n / 10), by-ten w n, append-assoc)
+
+-- only the last w digits count
+low-digits : (w q r : ℕ) → fixed w (q * 10 ^ w + r) ≡ fixed w r
+unfolding fixed
+low-digits zero q r = refl
+low-digits (suc w) q r =
+    let x : q * 10 ^ suc w + r ≡ q * 10 ^ w * 10 + r = rw (pow-suc 10 w, mul-assoc q (10 ^ w) 10) in
+    let a : (q * 10 ^ w * 10 + r) / 10 ≡ q * 10 ^ w + r / 10 = omega arith in
+    let b : (q * 10 ^ w * 10 + r) % 10 ≡ r % 10 = omega arith in
+    rw (x, a, b, low-digits w q (r / 10))
+
+pub fixed-rest : (w n : ℕ) → fixed w (n % 10 ^ w) ≡ fixed w n
+fixed-rest w n = sym (low-digits w (n / 10 ^ w) (n % 10 ^ w)) ∙ ap (fixed w) (div-add-mod' n (10 ^ w))
+
+-- ---- put in parts
+
+module _ {l m : List ℕ} {at i : ℕ} where
+  pub fixed-puts : {o : List ℕ} {q : ℕ} (v w n : ℕ) → Puts l at (fixed v (n / 10 ^ w)) i m → Puts m i (fixed w (n % 10 ^ w)) q o → Puts l at (fixed (v + w) n) q o
+  fixed-puts v w n p r = puts-as (ap (λ (d : List ℕ). fixed v (n / 10 ^ w) ++ d) (fixed-rest w n) ∙ sym (fixed-join v w n)) (puts-then p r)
+
+  pub fixed-room : (v w x : ℕ) → Puts l at (fixed v x) i m → at + (v + w) ≤ length l → i + w ≤ length m
+  fixed-room v w x p h = puts-room w p (omega (arith, length-fixed v x))
+
+-- a number of more than w digits
+module _ (n : ℕ) (most : n < 10 ^ 20) (w f : ℕ) (e : suc f + w ≡ 20) (more : 10 ^ w ≤ n) (few : n / 10 ^ w < 10 ^ suc f) where
+  -- of exactly one more
+  pub shown-exact : n / 10 ^ w < 10 → shownNat n ≡ fixed (1 + w) n
+  shown-exact h = shown-split w f n e more few most ∙ ap (λ (d : List ℕ). d ++ fixed w n) (shown-digit (n / 10 ^ w) h) ∙ sym (fixed-join 1 w n)
+
+  long : length (shownNat n) ≡ length (shownNat (n / 10 ^ w)) + w
+  long = ap length (shown-split w f n e more few most) ∙ length-append (shownNat (n / 10 ^ w)) (fixed w n) ∙ ap (λ (d : ℕ). length (shownNat (n / 10 ^ w)) + d) (length-fixed w n)
+
+  pub lead-room : (at t : ℕ) → at + length (shownNat n) ≤ t → at + length (shownNat (n / 10 ^ w)) ≤ t
+  lead-room at t h = omega (arith, long)
+
+  module _ {l m : List ℕ} {at i : ℕ} (p : Puts l at (shownNat (n / 10 ^ w)) i m) where
+    pub rest-room : at + length (shownNat n) ≤ length l → i + w ≤ length m
+    rest-room h = puts-room w p (omega (arith, long))
+
+    pub rest-puts : {o : List ℕ} {q : ℕ} → Puts m i (fixed w (n % 10 ^ w)) q o → Puts l at (shownNat n) q o
+    rest-puts r =
+        puts-as (ap (λ (d : List ℕ). shownNat (n / 10 ^ w) ++ d) (fixed-rest w n) ∙ sym (shown-split w f n e more few most)) (puts-then p r)

@@ -1,0 +1,45 @@
+-- Bytes put into a buffer one after another, from a place on: what each function that writes a part of a listing promises. Assumes nothing.
+use Prim.Native.Nat.{ℕ, suc, _+_, _≤_}
+use mathlib.Core.Path.{_≡_, refl, sym, ap, _∙_}
+use mathlib.Core.List.{List, [], _∷_, _++_}
+use native.Mathlib.Omega.{arith}
+use native.Mathlib.Numerals.{add-one}
+use lib.ListN.{length, set, take, drop, length-append}
+use lib.Seq.{sets, length-sets, sets-eq}
+
+-- the bytes bs put into the buffer from `at` on, and the next place
+pub record Puts (before : List ℕ) (at : ℕ) (bs : List ℕ) (next : ℕ) (after : List ℕ) : Type 0 where
+  pub place : next ≡ at + length bs
+  pub buffer : after ≡ sets before at bs
+
+sets-append : (bs cs l : List ℕ) (at : ℕ) → sets l at (bs ++ cs) ≡ sets (sets l at bs) (at + length bs) cs
+sets-append [] cs l at = let e : at + 0 ≡ at = omega arith in rw e
+sets-append (b ∷ bs) cs l at = let e : at + suc (length bs) ≡ suc at + length bs = omega arith in rw e (sets-append bs cs (set l at b) (suc at))
+
+module _ {l m : List ℕ} {at n : ℕ} where
+  pub puts-then : {bs cs o : List ℕ} {q : ℕ} → Puts l at bs n m → Puts m n cs q o → Puts l at (bs ++ cs) q o
+  puts-then {bs} {cs} p r =
+      record {
+        place = rw length-append (omega (arith, p .place, r .place));
+        buffer = r .buffer ∙ rw (p .place, p .buffer) (sym (sets-append bs cs l at));
+      }
+
+  pub puts-length : {bs : List ℕ} → Puts l at bs n m → length m ≡ length l
+  puts-length {bs} p = ap length (p .buffer) ∙ length-sets l at bs
+
+  -- what is left for k bytes more
+  pub puts-room : {bs : List ℕ} (k : ℕ) → Puts l at bs n m → at + (length bs + k) ≤ length l → n + k ≤ length m
+  puts-room {bs} k p h = omega (arith, p .place, puts-length p)
+
+  pub puts-as : {bs cs : List ℕ} → bs ≡ cs → Puts l at bs n m → Puts l at cs n m
+  puts-as e p = rw (← e) p
+
+pub puts-none : (l : List ℕ) (at : ℕ) → Puts l at [] at l
+puts-none l at = record { place = omega arith; buffer = refl }
+
+pub puts-one : (l : List ℕ) (at b : ℕ) → Puts l at (b ∷ []) (at + 1) (set l at b)
+puts-one l at b = record { place = refl; buffer = refl }
+
+-- from the start: the bytes, and then what stood there
+pub puts-first : {l m bs : List ℕ} {n : ℕ} → Puts l 0 bs n m → length bs ≤ length l → m ≡ bs ++ drop (length bs) l
+puts-first {l} {m} {bs} p h = let e : 0 + length bs ≡ length bs = omega arith in p .buffer ∙ rw e at (sets-eq bs l 0 (omega arith))
