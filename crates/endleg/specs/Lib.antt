@@ -1,3 +1,4 @@
 pub mod EndLeg
 pub mod LegLaws
 pub mod Paper
+pub mod EndSizes

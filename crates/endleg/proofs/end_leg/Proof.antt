@@ -71,8 +71,7 @@ plain-leg-requires c κs =
     let s = c .before .before .before .before in
     let o = s .pre .0 .0 in
     let m = s .pre .0 .1 in
-    let l : s .args .i < 80 = omega (arith, s .pre .1 .0, net-sound (s .args .net .now) (o .passes) .rowMost) in
-    ((record { passes = o .passes; row = s .pre .1 .0; branch = branch c }, s .pre .1 .1), (o .rated, (m .records-long, m .held (s .args .i) l)))
+    ((record { passes = o .passes; row = s .pre .1 .0; branch = branch c }, s .pre .1 .1), (o .rated, (m .records-long, m .held (s .args .i) (omega (arith, s .pre .1 .0, net-sound (s .args .net .now) (o .passes) .rowMost)))))
 
 returns-3 : tie.Need-returns-3
 returns-3 c =
