@@ -1,0 +1,5 @@
+pub mod Reach
+pub mod Legs
+pub mod Closure
+pub mod Meaning
+pub mod Alike
