@@ -135,7 +135,7 @@ pub record Faultless (s : Seen) (w : Words) : Type 0 where
   pub full : seenFull s w ≡ false
 
 -- where the first of two is no fault, it is the second
-none-first : (b : Bool) (m n : ℕ) → cond b (suc m) n ≡ 0 → (b ≡ false) × (n ≡ 0)
+pub none-first : (b : Bool) (m n : ℕ) → cond b (suc m) n ≡ 0 → (b ≡ false) × (n ≡ 0)
 none-first true m n e = absurd (omega arith)
 none-first false m n e = (refl, e)
 

@@ -59,10 +59,10 @@ unfolding namesOf fieldsOf kinds bytes count low high
 source-range w o = field-in 6 0 1 w o 0 (omega arith) (omega arith)
 
 -- a row by its kind and its words
-words : ℕ → Words → Words
+unfoldable pub words : ℕ → Words → Words
 words k w = pos k ∷ word w 1 ∷ word w 2 ∷ word w 3 ∷ word w 4 ∷ word w 5 ∷ drop 6 w
 
-shape : (w : Words) → 6 ≤ length w → kind w < 8 → w ≡ words (kind w) w
+pub shape : (w : Words) → 6 ≤ length w → kind w < 8 → w ≡ words (kind w) w
 unfolding words
 shape w few known =
     head-tail w few
@@ -70,7 +70,7 @@ shape w few known =
     ∙ ap (λ (x : ℤ). x ∷ word w 1 ∷ word w 2 ∷ word w 3 ∷ word w 4 ∷ word w 5 ∷ drop 6 w) (kind-word (word w 0) known)
 
 -- what holds of a row of each kind
-by-kind : (P : Words → Type 0) (w : Words) → 6 ≤ length w → kind w < 8
+pub by-kind : (P : Words → Type 0) (w : Words) → 6 ≤ length w → kind w < 8
     → P (words 0 w) → P (words 1 w) → P (words 2 w) → P (words 3 w) → P (words 4 w) → P (words 5 w) → P (words 6 w) → P (words 7 w) → P w
 by-kind P w few known a b c d e f g h = subst P (sym (shape w few known)) (each (λ k. P (words k w)) a b c d e f g h (kind w) known)
 

@@ -52,7 +52,7 @@ fn field(row: [i64; 8], i: usize) -> u64
     magnitude(row[i])
 }
 
-fn kind_of(row: [i64; 8]) -> usize
+pub fn kind_of(row: [i64; 8]) -> usize
     requires { ⌜ kind row < 8 ⌝ }
     ensures { λ r. ⌜ r ≡ kind row ⌝ }
 {

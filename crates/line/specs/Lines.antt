@@ -193,7 +193,7 @@ kind-most n (k ∷ ks) w h = by-test (sameBytes (k .spelt) w) (kind-most (suc n)
     by-test true l = omega arith
     by-test false l = l
 
-kinds-most : (w : List ℕ) → placeOf 0 kinds w ≤ 8
+pub kinds-most : (w : List ℕ) → placeOf 0 kinds w ≤ 8
 unfolding kinds
 kinds-most w = kind-most 0 kinds w eight
   where
@@ -207,7 +207,7 @@ spelt-length [] (s ∷ ss) e = absurd (false≢true e)
 spelt-length (f ∷ fs) [] e = absurd (false≢true e)
 spelt-length (f ∷ fs) (s ∷ ss) e = ap suc (spelt-length fs ss (and-right (spelt f s) (allSpelt fs ss) e))
 
-drop-zeros : (m n : ℕ) → drop m (replicate n z) ≡ replicate (n - m) z
+pub drop-zeros : (m n : ℕ) → drop m (replicate n z) ≡ replicate (n - m) z
 drop-zeros zero n = let e : n - 0 ≡ n = omega arith in rw e
 drop-zeros (suc m) zero = let e : 0 - suc m ≡ 0 = omega arith in rw e
 drop-zeros (suc m) (suc n) = let e : suc n - suc m ≡ n - m = omega arith in rw e (drop-zeros m n)
