@@ -3,3 +3,4 @@ pub mod Legs
 pub mod Closure
 pub mod Meaning
 pub mod Alike
+pub mod Listed

@@ -101,4 +101,4 @@ module _ (N : Net) where
 
   pub flags-are : Flagged N (flags (length (N .rows)))
   unfolding fixed
-  flags-are = record { flag-at = λ n h. rw take-length at (flags-at (length (N .rows)) n (omega arith) h) }
+  flags-are = record { long = flags-length (length (N .rows)); flag-at = λ n h. rw take-length at (flags-at (length (N .rows)) n (omega arith) h) }

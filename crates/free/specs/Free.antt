@@ -1,5 +1,5 @@
 -- The fixed nodes as flags by node, and an area's free nodes in rising order. Assumes nothing.
-use Prim.Native.Nat.{ℕ, _+_, _≤_, _<_}
+use Prim.Native.Nat.{ℕ, suc, _+_, _≤_, _<_}
 use mathlib.Core.Path.{_≡_}
 use mathlib.Core.Bool.{Bool, true, false, cond, not, _&&_}
 use mathlib.Core.List.{List, [], _∷_, _++_}
@@ -13,6 +13,7 @@ use Rattle.facts.specs.Nets.{rowAt}
 
 -- "A node with a VS is fixed"
 pub record Flagged (N : Net) (flags : List Bool) : Type 0 where
+  pub long : length flags ≡ suc Limits.nodeEnd
   pub flag-at : (n : ℕ) → n ≤ Limits.nodeEnd → getD flags n false ≡ fixed N n
 
 -- row i's flag
