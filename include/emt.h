@@ -1,0 +1,105 @@
+/* Zanguremi: the calls of the proved library (rt staticlib emt -> target/staticlib/libemt.a).
+ *
+ * The caller lends all memory; the library allocates nothing and keeps nothing between calls. Lent pieces must not overlap.
+ * Every call settles its answer and every lent word on all inputs: a wrong length, a damaged record or a damaged text is refused by a
+ * number, and a refused call leaves all lent memory as it was (only *line, *place and *written are always written).
+ *
+ * Units: voltage 0.1 V, current 0.1 nA, conductance nS, time ns. */
+#ifndef EMT_H
+#define EMT_H
+
+#include <stddef.h>
+#include <stdint.h>
+
+#ifdef __cplusplus
+extern "C" {
+#endif
+
+/* ---- Lengths of lent memory; another length is refused by EMT_STORE */
+#define EMT_NETWORK_WORDS 1024 /* a network, as emt_read writes it */
+#define EMT_RECORD_WORDS 512   /* counts, voltages, currents, histories */
+#define EMT_STORE_WORDS 4096   /* what the from ends of all lines sent; as many for the to ends */
+#define EMT_TEXT_BYTES 65536   /* the longest study text; a longer one is EMT_SIZE */
+#define EMT_LIST_BYTES 4160    /* the shortest buffer that emt_list takes; a longer one means fewer calls */
+
+/* ---- Ends of each quantity */
+#define EMT_NODES 32 /* 0 is ground */
+#define EMT_BRANCHES 64
+#define EMT_SOURCES 16
+#define EMT_ROWS (EMT_BRANCHES + EMT_SOURCES)
+#define EMT_VOLTAGE_MOST INT64_C(20000000)                /* 2 MV, either sign */
+#define EMT_CONDUCTANCE_MOST INT64_C(1000000000)          /* of one branch; the least is 1 */
+#define EMT_HISTORY_MOST INT64_C(100000000000000000)      /* history or sent line value, either sign */
+#define EMT_CURRENT_MOST INT64_C(140000000000000000)      /* recorded current, either sign */
+#define EMT_INJECTION_MOST INT64_C(2000000000000000)      /* peak of an IS, either sign */
+#define EMT_STEP_LENGTH_MOST INT64_C(1000000)             /* ns; the least is 1 */
+#define EMT_STEPS_MOST INT64_C(1000000)                   /* the least is 1 */
+#define EMT_LIMIT_MOST INT64_C(1000000000000000)          /* balance limit; the least is 0 */
+#define EMT_MILLIOHM_LEAST INT64_C(1000)                  /* R, SW, LINE */
+#define EMT_MILLIOHM_MOST INT64_C(1000000000000)
+#define EMT_NANOHENRY_MOST INT64_C(1000000000000)         /* the least is 1 */
+#define EMT_PICOFARAD_MOST INT64_C(1000000000)            /* the least is 1 */
+#define EMT_TRAVEL_MOST INT64_C(1000000000)               /* ns; the least is 1 */
+#define EMT_OPEN_MOST INT64_C(1000001)                    /* a switch that stays closed to the last step */
+#define EMT_RISE_MOST INT64_C(1000)                       /* steps */
+
+/* ---- Words of a network */
+#define EMT_NETWORK_STEP_LENGTH 0
+#define EMT_NETWORK_STEPS 1
+#define EMT_NETWORK_LIMIT 2
+#define EMT_NETWORK_ROWS 3                /* how many rows; words 4 to 7 are 0 */
+#define EMT_NETWORK_ROW(r) (8 + 8 * (r))  /* r from 0: kind, then the fields as in the text */
+enum { EMT_R = 1, EMT_L = 2, EMT_C = 3, EMT_LINE = 4, EMT_SW = 5, EMT_VS = 6, EMT_IS = 7 };
+
+/* ---- Words of the records. Rows count from 0 in the order of the text, sources among them. */
+#define EMT_COUNT(area) ((area) - 1)         /* steps that the area has taken; areas from 1 */
+#define EMT_VOLTAGE(node) (32 + (node) - 1)  /* nodes from 1 */
+#define EMT_CURRENT(row) (64 + (row))        /* leaves the from node */
+#define EMT_TO_CURRENT(row) (144 + (row))    /* of a line: leaves the to node */
+#define EMT_HISTORY_OF(row) (224 + (row))    /* of L and C */
+
+/* ---- Answers. Reading: 9, 7, then 1 to 6; resetting: 9, 8; advancing: 9, 8, then 10 to 17; listing: 9, 8, 10. */
+enum {
+    EMT_ACCEPTED = 0,
+    EMT_FORM = 1,        /* a line's word, fields or spelling */
+    EMT_NODE = 2,        /* node over 32, both ends equal, source or line end on ground */
+    EMT_VALUE = 3,       /* a field, or the conductance it gives, out of range */
+    EMT_TRAVEL = 4,      /* travel time no multiple of the step length */
+    EMT_DOUBLE = 5,      /* a second VS on a node */
+    EMT_FULL = 6,        /* too many branches, sources or slots of lines */
+    EMT_SIZE = 7,        /* text too long */
+    EMT_NETWORK = 8,     /* lent network is not one that emt_read writes */
+    EMT_STORE = 9,       /* a lent length is wrong */
+    EMT_STATE = 10,      /* lent records or line stores are not well formed; listing: areas at different steps */
+    EMT_AREA = 11,       /* no such area */
+    EMT_DONE = 12,       /* the area has taken all steps */
+    EMT_WAIT = 13,       /* a far area must advance first; place: the line */
+    EMT_FLOATING = 14,   /* place: the node without a path */
+    EMT_RANGE = 15,      /* place: the node beyond the voltage range */
+    EMT_UNBALANCED = 16, /* place: the node where the limit is passed */
+    EMT_HISTORY = 17,    /* place: the branch whose next history or sent value is too large */
+    EMT_MORE = 100,      /* emt_list: the buffer is full, more is to be listed */
+    EMT_STOPPED = 101    /* emt_list: an area refused its step; the last line listed says which and why */
+};
+
+/* Reads a study text into a network. Answers 0, or 1 to 7 or 9; *line is the faulty line from 1 (0 with 0, 7 and 9). */
+uint64_t emt_read(const uint8_t *text, size_t text_len, int64_t *network, size_t network_len, uint64_t *line);
+
+/* Puts a network at rest: records and both line stores all zero. Answers 0, 8 or 9. */
+uint64_t emt_reset(const int64_t *network, size_t network_len, int64_t *records, size_t records_len, int64_t *froms,
+                   size_t froms_len, int64_t *tos, size_t tos_len);
+
+/* Advances one area (from 1) by one step. Answers 0 and in *place the area's new count, or 8 to 17 and in *place the node, branch or 0.
+ * Areas may advance in any order: what each has after so many steps does not depend on it. */
+uint64_t emt_advance(const int64_t *network, size_t network_len, int64_t *records, size_t records_len, int64_t *froms,
+                     size_t froms_len, int64_t *tos, size_t tos_len, uint64_t area, uint64_t *place);
+
+/* Advances all areas in rising order, full step after full step, and lists each into out: the lines of emtrun. *written bytes
+ * of out are written. Answers 0 when done, EMT_MORE, EMT_STOPPED, or 8 to 10. */
+uint64_t emt_list(const int64_t *network, size_t network_len, int64_t *records, size_t records_len, int64_t *froms,
+                  size_t froms_len, int64_t *tos, size_t tos_len, uint8_t *out, size_t out_len, uint64_t *written);
+
+#ifdef __cplusplus
+}
+#endif
+#endif
