@@ -64,4 +64,5 @@ pub record Driving (net : Words) (area : List ℕ) (i : ℕ) (still inject : Wor
 
 -- the injections by node
 pub record Injects (N : Net) (k : ℕ) (w : Words) : Type 0 where
+  pub long : length w ≡ suc Limits.nodeEnd
   pub at : (n : ℕ) → n ≤ Limits.nodeEnd → word w n ≡ injected (N .rows) k n

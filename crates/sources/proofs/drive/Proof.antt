@@ -10,7 +10,7 @@ use Rattle.paper.specs.Areas.{Net}
 use Rattle.facts.specs.Nets.{netIn, net-sound}
 use Rattle.sources.specs.Values.{holds, none, givenRow}
 use Rattle.sources.specs.DriveLaws.{holds-source, injects-source}
-use Rattle.sources.specs.ByNode.{given, given-none, given-next, given-room}
+use Rattle.sources.specs.ByNode.{given, given-none, given-next, given-room, given-length}
 use Rattle.sources.specs.Still.{injected-is, still-is}
 use Rattle.sources.proofs.drive.Statement.{statement}
 use Rattle.sources.proofs.drive.Tie as tie
@@ -72,7 +72,7 @@ returns c =
     let k = s .args .k in
     let e : l .loop .i ≡ length (N .rows) = omega (arith, s .pre .1 .0 .0) in (
       l .loop .inv .1 ∙ ap (given N k (holds N (s .args .a))) e ∙ still-is N k (s .args .a) (net-sound (s .args .net .now) (s .pre .0 .passes)) (s .pre .1 .0 .1),
-      record { at = λ n h. ap (λ (w : Words). word w n) (l .loop .inv .2 ∙ ap (given N k isIS) e) ∙ injected-is N k n h },
+      record { long = ap length (l .loop .inv .2) ∙ given-length N k isIS (l .loop .i); at = λ n h. ap (λ (w : Words). word w n) (l .loop .inv .2 ∙ ap (given N k isIS) e) ∙ injected-is N k n h },
     )
 
 pub drive-spec : {M : Type 1} → statement M
