@@ -1,0 +1,69 @@
+// A study on standard input, advanced area by area by emt_advance and, on memory of its own, by plain C (bench/lent.c); both must leave the same words.
+// callgrind counts the two (bench/emtrun.sh). With the argument `stack` it prints instead how many bytes of stack emt_advance has touched.
+#include <emt.h>
+#include <pthread.h>
+#include <stdio.h>
+#include <stdlib.h>
+#include <string.h>
+
+uint64_t plain_advance(const int64_t *network, size_t network_len, int64_t *records, size_t records_len, int64_t *froms,
+                       size_t froms_len, int64_t *tos, size_t tos_len, uint64_t area, uint64_t *place);
+
+struct lent {
+    int64_t records[EMT_RECORD_WORDS], froms[EMT_STORE_WORDS], tos[EMT_STORE_WORDS];
+};
+static int64_t network[EMT_NETWORK_WORDS];
+static struct lent ours, theirs;
+
+static int step(uint64_t area) {
+    uint64_t at, there;
+    uint64_t a = emt_advance(network, EMT_NETWORK_WORDS, ours.records, EMT_RECORD_WORDS, ours.froms, EMT_STORE_WORDS, ours.tos, EMT_STORE_WORDS, area, &at);
+    uint64_t b = plain_advance(network, EMT_NETWORK_WORDS, theirs.records, EMT_RECORD_WORDS, theirs.froms, EMT_STORE_WORDS, theirs.tos,
+                               EMT_STORE_WORDS, area, &there);
+    if (a != b || at != there) exit(1);
+    return a == 0;
+}
+
+// Each round takes one step of every area: 11 comes after the last one, any other refusal ends the run.
+static void run(void) {
+    for (int k = 0; k < 100; k++)
+        for (uint64_t area = 1; area <= EMT_NODES && step(area); area++) {}
+    if (memcmp(&ours, &theirs, sizeof ours)) exit(1);
+}
+
+static void *advance_once(void *wanted) {
+    uint64_t at;
+    if (wanted) emt_advance(network, EMT_NETWORK_WORDS, ours.records, EMT_RECORD_WORDS, ours.froms, EMT_STORE_WORDS, ours.tos, EMT_STORE_WORDS, 1, &at);
+    return wanted;
+}
+
+// A thread on a painted stack: the lowest byte that has lost its paint tells how deep it went.
+static size_t touched(void *wanted) {
+    enum { BYTES = 1 << 20, PAINT = 0xA5 };
+    pthread_attr_t attributes;
+    pthread_t thread;
+    unsigned char *stack = aligned_alloc(4096, BYTES);
+    memset(stack, PAINT, BYTES);
+    pthread_attr_init(&attributes);
+    if (pthread_attr_setstack(&attributes, stack, BYTES) || pthread_create(&thread, &attributes, advance_once, wanted)) exit(1);
+    pthread_join(thread, NULL);
+    size_t left = 0;
+    while (left < BYTES && stack[left] == PAINT) left++;
+    free(stack);
+    return BYTES - left;
+}
+
+int main(int count, char **words) {
+    static uint8_t text[EMT_TEXT_BYTES];
+    uint64_t line;
+    size_t length = fread(text, 1, sizeof text, stdin);
+    if (emt_read(text, length, network, EMT_NETWORK_WORDS, &line)) return 1;
+    emt_reset(network, EMT_NETWORK_WORDS, ours.records, EMT_RECORD_WORDS, ours.froms, EMT_STORE_WORDS, ours.tos, EMT_STORE_WORDS);
+    if (count > 1 && !strcmp(words[1], "stack")) {
+        size_t without = touched(NULL), with = touched(network);
+        printf("%zu\n", with - without);
+        return 0;
+    }
+    run();
+    return 0;
+}
