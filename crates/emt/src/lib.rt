@@ -1,10 +1,60 @@
 // What a customer links: the calls over lent memory, for Rattle and for C. None has a `requires`; each refuses instead.
 ghost use mathlib.Core.Path.{_≡_};
-ghost use Rattle.paper.specs.Answers.{resettingNumber};
+ghost use Rattle.paper.specs.Answers.{readingNumber, readingLine, resettingNumber};
 ghost use Rattle.paper.specs.Advance.{memory};
-ghost use Rattle.paper.specs.One.{Resets};
-ghost use Rattle.emt.specs.Numbered.{ResetsBy};
+ghost use Rattle.paper.specs.One.{Reads, Resets};
+ghost use Rattle.emt.specs.Numbered.{ReadsBy, ResetsBy};
+use paper::Reading;
 use paper::Resetting;
+
+// "Reading: 9, 7, then the first faulty line, in it 1 to 6 in turn"; "An accepted reading writes all 1,024 words, unused ones 0, and answers 0".
+pub fn read(text: &[u8], network: &mut [i64]) -> Reading
+    ensures { λ r. ⌜ Reads (now (text .entry)) (now (network .entry)) r (now (network .exit)) ⌝ }
+{
+    reading::read(text, network)
+}
+
+fn reading_number(answer: Reading) -> u64
+    ensures { λ r. ⌜ r ≡ readingNumber answer ⌝ }
+{
+    match answer {
+        Reading::Read => 0,
+        Reading::Form(_) => 1,
+        Reading::Node(_) => 2,
+        Reading::Value(_) => 3,
+        Reading::Travel(_) => 4,
+        Reading::Double(_) => 5,
+        Reading::Full(_) => 6,
+        Reading::Size => 7,
+        Reading::Store => 9,
+    }
+}
+
+fn reading_line(answer: Reading) -> u64
+    ensures { λ r. ⌜ r ≡ readingLine answer ⌝ }
+{
+    match answer {
+        Reading::Read => 0,
+        Reading::Form(line) => line,
+        Reading::Node(line) => line,
+        Reading::Value(line) => line,
+        Reading::Travel(line) => line,
+        Reading::Double(line) => line,
+        Reading::Full(line) => line,
+        Reading::Size => 0,
+        Reading::Store => 0,
+    }
+}
+
+// "the answer carries the line number (0 for 7 and 9)": it is written whatever the answer is.
+#[no_mangle]
+pub extern "C" fn emt_read(text: &[u8], network: &mut [i64], line: &mut u64) -> u64
+    ensures { λ r. ⌜ ReadsBy (now (text .entry)) (now (network .entry)) r (now (line .exit)) (now (network .exit)) ⌝ }
+{
+    let answer = reading::read(text, network);
+    *line = reading_line(answer);
+    reading_number(answer)
+}
 
 // "Resetting gives 9 or 8, or writes the records and both line stores all zero and answers 0."
 pub fn reset(network: &[i64], records: &mut [i64], froms: &mut [i64], tos: &mut [i64]) -> Resetting
