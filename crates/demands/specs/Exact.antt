@@ -16,9 +16,10 @@ use Rattle.whole.specs.Places.{place, Least, place-least, least-place}
 use Rattle.paper.specs.Answers.{advanceNumber}
 use Rattle.paper.specs.Rows.{isLine, from, to, steps}
 use Rattle.paper.specs.Areas.{Net, areaOf, areaCount, branchNumber}
-use Rattle.paper.specs.Records.{countOf}
+use Rattle.paper.specs.Network.{isNetwork}
+use Rattle.paper.specs.Records.{countOf, wellFormed}
 use Rattle.paper.specs.Solve.{stop, move, solve}
-use Rattle.paper.specs.Advance.{Memory, Advanced, advanced, waitsFor, firstLate, takeStep, ready, onNext, onNet, advanceOf}
+use Rattle.paper.specs.Advance.{Memory, Advanced, advanced, waitsFor, firstLate, takeStep, ready, onNext, onNet, fits, advanceOf}
 use Rattle.facts.specs.Nets.{rowAt, netIn}
 use Rattle.local.specs.Waits.{Allowed, Behind, late-place, waits-line, waits-behind, behind-waits, free-allowed, allowed-free}
 use Rattle.local.specs.Outcome.{stepOf, legsNow, voltsOf, lateNow, isArea, isDone, StepRefusal, floating14, range15, unbalanced16, history17, Outcome, no-area, done, waits, stops, takes, outcome}
@@ -55,9 +56,9 @@ module _ (net : Words) (a : ℕ) (m : Memory) where
 
   -- the answer of a call that is not judged is 9, 8 or 10; of one that is, what it comes to
   pub data Comes : Type 0 where
-    refused9 : advanceOf net a m .answer ≡ Store → Comes
-    refused8 : advanceOf net a m .answer ≡ Network → Comes
-    refused10 : advanceOf net a m .answer ≡ State → Comes
+    refused9 : fits net m ≡ false → advanceOf net a m .answer ≡ Store → Comes
+    refused8 : fits net m ≡ true → isNetwork net ≡ false → advanceOf net a m .answer ≡ Network → Comes
+    refused10 : fits net m ≡ true → isNetwork net ≡ true → wellFormed N (m .records) (m .froms) (m .tos) ≡ false → advanceOf net a m .answer ≡ State → Comes
     refused11 : Judged net m → (IsArea N a → ⊥) → advanceOf net a m .answer ≡ Area → Comes
     refused12 : Judged net m → IsArea N a → steps (N .head) ≤ countOf (m .records) a → advanceOf net a m .answer ≡ Done → Comes
     refused13 : Next net a m → (r : ℕ) → lateNow N a m ≡ suc r → advanceOf net a m .answer ≡ Wait (branchNumber N (suc r)) → Comes
@@ -76,9 +77,9 @@ module _ (net : Words) (a : ℕ) (m : Memory) where
       by j (takes e d l v x) = accepted0 (record { judged = j; area = is-area e; undone = leb-false _ _ d }) l v (answer-is _ (call-of net a m j ∙ x))
 
       go : Call net a m → Comes
-      go (unfit q) = refused9 (answer-is _ q)
-      go (unread q) = refused8 (answer-is _ q)
-      go (unformed q) = refused10 (answer-is _ q)
+      go (unfit f q) = refused9 f (answer-is _ q)
+      go (unread f n q) = refused8 f n (answer-is _ q)
+      go (unformed f n w q) = refused10 f n w (answer-is _ q)
       go (judged j) = by j (outcome N a m (j .formed))
 
   -- by its number an answer is no other one
@@ -126,9 +127,9 @@ module _ (net : Words) (a : ℕ) (m : Memory) where
   area-exactly = (forth comes, λ h. answers11 (h .0) (h .1))
     where
       forth : Comes → advanceOf net a m .answer ≡ Area → Judged net m × (IsArea N a → ⊥)
-      forth (refused9 q) e = absurd (omega (arith, number q e))
-      forth (refused8 q) e = absurd (omega (arith, number q e))
-      forth (refused10 q) e = absurd (omega (arith, number q e))
+      forth (refused9 f q) e = absurd (omega (arith, number q e))
+      forth (refused8 f n q) e = absurd (omega (arith, number q e))
+      forth (refused10 f n w q) e = absurd (omega (arith, number q e))
       forth (refused11 j h q) e = (j, h)
       forth (refused12 j h d q) e = absurd (omega (arith, number q e))
       forth (refused13 j r l q) e = absurd (omega (arith, number q e))
@@ -140,9 +141,9 @@ module _ (net : Words) (a : ℕ) (m : Memory) where
   done-exactly = (forth comes, λ h. answers12 (h .0) (h .1) (h .2))
     where
       forth : Comes → advanceOf net a m .answer ≡ Done → Judged net m × IsArea N a × (steps (N .head) ≤ countOf (m .records) a)
-      forth (refused9 q) e = absurd (omega (arith, number q e))
-      forth (refused8 q) e = absurd (omega (arith, number q e))
-      forth (refused10 q) e = absurd (omega (arith, number q e))
+      forth (refused9 f q) e = absurd (omega (arith, number q e))
+      forth (refused8 f n q) e = absurd (omega (arith, number q e))
+      forth (refused10 f n w q) e = absurd (omega (arith, number q e))
       forth (refused11 j h q) e = absurd (omega (arith, number q e))
       forth (refused12 j h d q) e = (j, h, d)
       forth (refused13 j r l q) e = absurd (omega (arith, number q e))
@@ -179,9 +180,9 @@ module _ (net : Words) (a : ℕ) (m : Memory) where
   wait-exactly b = (forth comes, λ h. answers13 (h .0) (h .1 .row) (row-late b (h .1)) ∙ ap Wait (sym (h .1 .number)))
     where
       forth : Comes → advanceOf net a m .answer ≡ Wait b → Next net a m × Late net a m b
-      forth (refused9 q) e = absurd (omega (arith, number q e))
-      forth (refused8 q) e = absurd (omega (arith, number q e))
-      forth (refused10 q) e = absurd (omega (arith, number q e))
+      forth (refused9 f q) e = absurd (omega (arith, number q e))
+      forth (refused8 f n q) e = absurd (omega (arith, number q e))
+      forth (refused10 f n w q) e = absurd (omega (arith, number q e))
       forth (refused11 j h q) e = absurd (omega (arith, number q e))
       forth (refused12 j h d q) e = absurd (omega (arith, number q e))
       forth (refused13 j r l q) e = let p : _≡_ {A = Advance} (Wait b) (Wait (branchNumber N (suc r))) = sym e ∙ q in let x : b ≡ branchNumber N (suc r) = cc in (j, late-row r b l x)

@@ -85,7 +85,7 @@ none-passes v r l e f = go (isL r) (isC r) (isLine r) e f
     go false false false p q = refl
 
 -- an L or C is a branch
-keeper : (r : Row) → isL r || isC r ≡ true → isBranch r ≡ true
+pub keeper : (r : Row) → isL r || isC r ≡ true → isBranch r ≡ true
 keeper r e = go (eqb (kind r) 2) (eqb (kind r) 3) refl refl e
   where
     go : (x y : Bool) → eqb (kind r) 2 ≡ x → eqb (kind r) 3 ≡ y → x || y ≡ true → isBranch r ≡ true

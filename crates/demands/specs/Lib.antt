@@ -6,4 +6,5 @@ pub mod Step
 pub mod Exact
 pub mod Passing
 pub mod Histories
+pub mod Judging
 pub mod Refusals

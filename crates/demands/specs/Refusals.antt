@@ -82,9 +82,9 @@ module _ (net : Words) (a : ℕ) (m : Memory) where
   stopped-by x s e = go (comes net a m)
     where
       go : Comes net a m → Stopped x
-      go (refused9 q) = absurd (omega (arith, number net a m q e, step-number net a m s))
-      go (refused8 q) = absurd (omega (arith, number net a m q e, step-number net a m s))
-      go (refused10 q) = absurd (omega (arith, number net a m q e, step-number net a m s))
+      go (refused9 f q) = absurd (omega (arith, number net a m q e, step-number net a m s))
+      go (refused8 f n q) = absurd (omega (arith, number net a m q e, step-number net a m s))
+      go (refused10 f n w q) = absurd (omega (arith, number net a m q e, step-number net a m s))
       go (refused11 j h q) = absurd (omega (arith, number net a m q e, step-number net a m s))
       go (refused12 j h d q) = absurd (omega (arith, number net a m q e, step-number net a m s))
       go (refused13 j r l q) = absurd (omega (arith, number net a m q e, step-number net a m s))
@@ -156,6 +156,24 @@ module _ (net : Words) (a : ℕ) (m : Memory) where
   wrong : {A : Type 0} {x y : Advance} → stop x ≡ stop y → advanceNumber x ≢ advanceNumber y → A
   wrong {x = x} {y = y} e d = let q : x ≡ y = cc in absurd (d (ap advanceNumber q))
 
+  -- 14 FLOATING: "a free node has no path"
+  pub floating-exactly : (n : ℕ) → (advanceOf net a m .answer ≡ Floating n) ↔ (Ready net a m × Floats N a k n)
+  floating-exactly n = (λ e. forth (stopped-by (Floating n) floating14 e) (solving N a k bs), λ h. stops-with (h .0) (Floating n) (back n (h .0 .next) (h .1)))
+    where
+      forth : Stopped (Floating n) → Solving N a k bs → Ready net a m × Floats N a k n
+      forth t (floats i p e) =
+          let q : stop (Floating (suc i)) ≡ stop (Floating n) = sym e ∙ t .stopped in
+          let same : suc i ≡ n = cc in
+          (t .ready, subst (Floats N a k) same (search-floats N (s (t .ready .next)) a k (m .records) (heard N a k (m .froms) (m .tos)) i p))
+      forth t (leaves i p o e) = wrong (sym e ∙ t .stopped) (λ q. omega arith)
+      forth t (tips i p o h e) = wrong (sym e ∙ t .stopped) (λ q. omega arith)
+      forth t (exceeds i p o h b e) = wrong (sym e ∙ t .stopped) (λ q. omega arith)
+      forth t (solves p o h b e) = absurd (stop-move (sym (t .stopped) ∙ e))
+
+      back : (n : ℕ) → Next net a m → Floats N a k n → solve N a k bs ≡ stop (Floating n)
+      back zero j f = absurd (omega (arith, f .node .low))
+      back (suc n) j f = solve14 N a k bs n (floats-search N (s j) a k (m .records) (heard N a k (m .froms) (m .tos)) (suc n) f)
+
   -- 15 RANGE: "a proposed voltage out of range"
   pub range-exactly : (n : ℕ) → (advanceOf net a m .answer ≡ Range n) ↔ (Ready net a m × AllPaths N a k × OutOfRange N a k m n)
   range-exactly n = (λ e. forth (stopped-by (Range n) range15 e) (solving N a k bs), λ h. stops-with (h .0) (Range n) (range-stops (h .0 .next) (h .1) n (h .2)))
@@ -211,9 +229,9 @@ module _ (net : Words) (a : ℕ) (m : Memory) where
       passed r v (solves p o h l e) = (r, refl, paths (r .next) p, ranged (r .next) o, balanced (r .next) h, within (r .next) l)
 
       forth : advanceOf net a m .answer ≡ Took x → Comes net a m → Ready net a m × (x ≡ k) × AllPaths N a k × AllInRange N a k m × AllBalanced N a k m × AllWithin N a k m
-      forth e (refused9 q) = absurd (omega (arith, number net a m q e))
-      forth e (refused8 q) = absurd (omega (arith, number net a m q e))
-      forth e (refused10 q) = absurd (omega (arith, number net a m q e))
+      forth e (refused9 f q) = absurd (omega (arith, number net a m q e))
+      forth e (refused8 f n q) = absurd (omega (arith, number net a m q e))
+      forth e (refused10 f n w q) = absurd (omega (arith, number net a m q e))
       forth e (refused11 j h q) = absurd (omega (arith, number net a m q e))
       forth e (refused12 j h d q) = absurd (omega (arith, number net a m q e))
       forth e (refused13 j r l q) = absurd (omega (arith, number net a m q e))

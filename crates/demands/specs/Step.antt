@@ -82,9 +82,9 @@ module _ (net : Words) (a : ℕ) (m : Memory) where
 
   -- 9, 8, 10, or judged
   pub data Call : Type 0 where
-    unfit : advanceOf net a m ≡ advanced Store m → Call
-    unread : advanceOf net a m ≡ advanced Network m → Call
-    unformed : advanceOf net a m ≡ advanced State m → Call
+    unfit : fits net m ≡ false → advanceOf net a m ≡ advanced Store m → Call
+    unread : fits net m ≡ true → isNetwork net ≡ false → advanceOf net a m ≡ advanced Network m → Call
+    unformed : fits net m ≡ true → isNetwork net ≡ true → wellFormed N (m .records) (m .froms) (m .tos) ≡ false → advanceOf net a m ≡ advanced State m → Call
     judged : Judged net m → Call
 
   pub call : Call
@@ -93,15 +93,15 @@ module _ (net : Words) (a : ℕ) (m : Memory) where
     where
       by-formed : (b : Bool) → wellFormed N (m .records) (m .froms) (m .tos) ≡ b → fits net m ≡ true → isNetwork net ≡ true → Call
       by-formed true e f n = judged (record { lengths = f; network = n; formed = e })
-      by-formed false e f n = unformed (rw (f, n, e))
+      by-formed false e f n = unformed f n e (rw (f, n, e))
 
       by-network : (b : Bool) → isNetwork net ≡ b → fits net m ≡ true → Call
       by-network true e f = by-formed (wellFormed N (m .records) (m .froms) (m .tos)) refl f e
-      by-network false e f = unread (rw (f, e))
+      by-network false e f = unread f e (rw (f, e))
 
       by-fits : (b : Bool) → fits net m ≡ b → Call
       by-fits true e = by-network (isNetwork net) refl e
-      by-fits false e = unfit (rw e)
+      by-fits false e = unfit e (rw e)
 
   took-answer : (k : ℕ) → advanceOf net a m .answer ≡ Took k → (x : Advance) → advanceOf net a m ≡ advanced x m → x ≡ Took k
   took-answer k e x q = ap (λ (r : Advanced). r .answer) (sym q) ∙ e
@@ -111,9 +111,9 @@ module _ (net : Words) (a : ℕ) (m : Memory) where
   took-judged k e = go call
     where
       go : Call → Judged net m
-      go (unfit q) = let y = took-answer k e Store q in let z : _≡_ {A = ℕ} 0 1 = cc in absurd (omega arith)
-      go (unread q) = let y = took-answer k e Network q in let z : _≡_ {A = ℕ} 0 1 = cc in absurd (omega arith)
-      go (unformed q) = let y = took-answer k e State q in let z : _≡_ {A = ℕ} 0 1 = cc in absurd (omega arith)
+      go (unfit f q) = let y = took-answer k e Store q in let z : _≡_ {A = ℕ} 0 1 = cc in absurd (omega arith)
+      go (unread f n q) = let y = took-answer k e Network q in let z : _≡_ {A = ℕ} 0 1 = cc in absurd (omega arith)
+      go (unformed f n w q) = let y = took-answer k e State q in let z : _≡_ {A = ℕ} 0 1 = cc in absurd (omega arith)
       go (judged j) = j
 
 -- ---- a step that is solved

@@ -1,0 +1,4 @@
+pub mod Volts
+pub mod Result
+pub mod Meets
+pub mod Wrong
