@@ -3,6 +3,7 @@ pub mod Volts
 pub mod Branches
 pub mod Balance
 pub mod Step
+pub mod States
 pub mod Exact
 pub mod Passing
 pub mod Histories

@@ -25,7 +25,7 @@ use Rattle.paper.specs.Records.{countOf, wellFormed}
 use Rattle.paper.specs.Legs.{Heard, heard}
 use Rattle.paper.specs.Advance.{Memory, memory, Advanced, advanced, written, firstLate, onNet, fits, advanceOf}
 use Rattle.paper.specs.Kept.{advance-refused}
-use Rattle.facts.specs.Nets.{NetSound, net-sound, network-length, rowAt, netIn, area-of}
+use Rattle.facts.specs.Nets.{NetSound, net-sound, rowAt, netIn, area-of}
 use Rattle.order.specs.Calls.{Moves}
 use Rattle.order.specs.Local.{Local}
 use Rattle.local.specs.Sound.{Sound, sound}
@@ -38,6 +38,7 @@ use Rattle.local.specs.Touch.{touch-same}
 use Rattle.local.specs.Depends.{SameOut, SameLengths, same-out, same-count}
 use Rattle.local.specs.Quiet.{quiet}
 use Rattle.stays.specs.Stays.{Long, stays, counted, uncounted}
+use Rattle.demands.specs.States.{long-fits}
 use Rattle.runs.specs.Runs.{firm}
 
 pub data Cell : Type 0 where
@@ -114,14 +115,10 @@ module _ (net : Words) (network : isNetwork net ≡ true) where
     pub long : Long m
     pub good : wellFormed N (m .records) (m .froms) (m .tos) ≡ true
 
-  pub fits-long : (m : Memory) → Long m → fits net m ≡ true
-  unfolding fits
-  fits-long m l = both (both (both (eq-eqb _ _ (network-length net network)) (eq-eqb _ _ (l .records))) (eq-eqb _ _ (l .froms))) (eq-eqb _ _ (l .tos))
-
   -- no answer 8, 9 or 10
   pub called : (a : ℕ) (m : Memory) → Inv m → advanceOf net a m ≡ onNet N a m
   unfolding advanceOf
-  called a m i = rw (fits-long m (i .long), network)
+  called a m i = rw (long-fits net m network (i .long), network)
 
   abbrev pub moves : Moves
   moves = record { S = Memory; Ans = Advance; call = λ a m. advanceOf net a m .answer; after = λ a m. advanceOf net a m .after; acc = accepted; firm = firm }

@@ -7,22 +7,20 @@ use mathlib.Core.Path.{_≡_, refl, sym, ap, _∙_, subst}
 use mathlib.Core.Logic.{_≢_}
 use mathlib.Core.Bool.{Bool, true, false, cond, not, _&&_, and-false, true≢false}
 use mathlib.Core.List.{List, [], _∷_}
-use lib.ListN.{length, replicate, length-replicate}
+use lib.ListN.{length}
 use lib.Dec.{leb, eqb}
 use borrow.Author.Tests.{leb-true, le-leb, eqb-true, eqb-false, eq-eqb}
 use Rattle.paper.specs.declared.Advance.{Advance}
 use Rattle.paper.specs.declared.Advance.the-variants.{Took, Area, Done, Wait}
 use Rattle.whole.specs.Lists.{Words, z, word, nat}
 use Rattle.whole.specs.Folds.{and-left, and-right, both}
-use Rattle.paper.specs.Limits as Limits
 use Rattle.paper.specs.Answers.{accepted, advanceNumber}
 use Rattle.paper.specs.Rows.{isLine, from, to}
 use Rattle.paper.specs.Network.{isNetwork}
 use Rattle.paper.specs.Areas.{Net, areaOf, areaCount}
 use Rattle.paper.specs.Records.{countAt, countOf}
 use Rattle.paper.specs.Advance.{Memory, Advanced, onNet, fits, advanceOf}
-use Rattle.paper.specs.declared.Resetting.the-variants.{Reset}
-use Rattle.paper.specs.Resetting.{fresh, Reset-out, resetOut, resetOf}
+use Rattle.paper.specs.Resetting.{fresh, Reset-out}
 use Rattle.facts.specs.Nets.{netIn, rowAt, area-of, net-sound}
 use Rattle.order.specs.Same.{same}
 use Rattle.order.specs.Calls as C
@@ -34,8 +32,9 @@ use Rattle.local.specs.Sound.{sound}
 use Rattle.local.specs.Waits.{Free, late-not}
 use Rattle.local.specs.Outcome.{stepOf, isArea, StepRefusal, floating14, range15, unbalanced16, history17, Outcome, no-area, done, waits, stops, takes, outcome}
 use Rattle.local.specs.Outcome as Outcome
-use Rattle.stays.specs.Stays.{Long, fresh-well}
+use Rattle.stays.specs.Stays.{fresh-well}
 use Rattle.demands.specs.Said.{IsArea}
+use Rattle.demands.specs.States.{fresh-long, reset-is}
 use Rattle.runs.specs.Runs.{Lent, reset, after, accepts, taken, firm}
 use Rattle.runs.specs.Moves.{Inv, called, keep, moves, local, own-count, other-count, moved, took, free-firm}
 
@@ -48,19 +47,11 @@ module _ (net : Words) (lent : Memory) (ok : Lent net lent) where
   start = reset net lent
 
   -- "writes the records and both line stores all zero"
-  reset-is : resetOf net lent ≡ resetOut Reset fresh
-  unfolding resetOf
-  reset-is = rw (ok .lengths, ok .network)
-
   pub starts : start ≡ fresh
-  starts = ap (λ (r : Reset-out). r .after) reset-is
-
-  long-fresh : Long fresh
-  unfolding fresh
-  long-fresh = record { records = length-replicate Limits.recordWords z; froms = length-replicate Limits.storeWords z; tos = length-replicate Limits.storeWords z }
+  starts = ap (λ (r : Reset-out). r .after) (reset-is net lent (ok .lengths) (ok .network))
 
   pub start-inv : Inv net (ok .network) start
-  start-inv = rw starts (record { long = long-fresh; good = fresh-well N })
+  start-inv = rw starts (record { long = fresh-long; good = fresh-well N })
 
   inv-after : (w : List ℕ) (m : Memory) → Inv net (ok .network) m → Inv net (ok .network) (after net w m)
   unfolding after
