@@ -1,0 +1,43 @@
+#!/usr/bin/env bash
+# The proved calls that read a text and reset a network, compiled, against the second program (second/README.md): its fixed list of texts, one-byte edits, 20,000 random texts, 2,000
+# studies reset over rubbish and over damaged networks. A seed a day, printed; `tests/reading.sh SEED` repeats one.
+# Closing line: N passed, M failed.
+set -u
+cd "$(dirname "$0")/.." || exit 1
+
+seed=${1:-$(date +%Y%m%d)}
+passed=0
+failed=0
+work=$(mktemp -d)
+trap 'rm -rf "$work"' EXIT
+
+stop() {
+    echo "$1"
+    echo "$passed passed, $((failed + 1)) failed"
+    exit 1
+}
+
+# Show a comparison and add its closing line; one without has failed.
+add() {
+    local line
+    "$@" >"$work/told" 2>&1
+    grep -vE '^[0-9]+ passed, [0-9]+ failed$' "$work/told"
+    line=$(grep -E '^[0-9]+ passed, [0-9]+ failed$' "$work/told" | tail -n 1)
+    [ -n "$line" ] || stop "no closing line: $*"
+    passed=$((passed + ${line%% *}))
+    line=${line#*, }
+    failed=$((failed + ${line%% *}))
+}
+
+for tool in rt cargo; do
+    command -v $tool >/dev/null 2>&1 || stop "tests/reading.sh needs '$tool'"
+done
+rt staticlib emt >"$work/rt" 2>&1 || { tail -n 5 "$work/rt"; stop "libemt.a is not made"; }
+export EMT_LIB_DIR=$PWD/target/staticlib CARGO_TARGET_DIR=$PWD/second/target/calls
+cargo build --release --offline -j1 --features reset --manifest-path second/Cargo.toml >"$work/cargo" 2>&1 || { tail -n 5 "$work/cargo"; stop "second/ does not build"; }
+compare=$CARGO_TARGET_DIR/release/compare
+
+add "$compare" calls --count 2000 --texts 20000 --seed "$seed"
+
+echo "$passed passed, $failed failed"
+[ "$failed" -eq 0 ]
