@@ -79,7 +79,8 @@ pub fn assemble(
     requires { ⌜ Sized (now near) (now far) (now g) (now h) rows × Volts (now still) ⌝ ∗ ⌜ Injects (now inject) ⌝ ∗ ⌜ Free (now free) n ⌝ ∗ ⌜ (length (now joins) ≡ 1024) × Square (now a) ⌝ }
     ensures { λ r. ⌜ Assembled n (system (legsIn (now (near .entry)) (now (far .entry)) (now (g .entry)) (now (h .entry)) (2 * rows)) (take n (now (free .entry))) (now (still .entry)) (λ p. word (now (inject .entry)) p)) (now (a .exit)) r (now (joins .exit)) ⌝ }
 {
-    let place = gather::places(free, n);
+    let mut place = [32; 33];
+    gather::places(free, n, &mut place);
     gather::clear(joins, n);
     let mut pivots = [0; 33];
     let mut rights = [0; 33];

@@ -10,22 +10,20 @@ ghost use mir.Val.{SFits};
 ghost use Rattle.whole.specs.Lists.{word};
 ghost use Rattle.wires.specs.Wires.{legsIn};
 ghost use Rattle.wires.specs.Free.{Free};
-ghost use Rattle.gather.specs.Placed.{Placed};
+ghost use Rattle.gather.specs.Placed.{Placed, PlacedTo};
 ghost use Rattle.gather.specs.Joins.{Clear, joined, cellOf, Met, Gathered};
 
-// by node, its place among the free nodes; 32 for a node that is none of them
-pub fn places(free: &[usize; 32], n: usize) -> [usize; 33]
-    requires { ⌜ Free (now free) n ⌝ }
-    ensures { λ r. ⌜ Placed (now (free .entry)) r n ⌝ }
+// by node, its place among the free nodes; 32 stays for a node that is none of them
+pub fn places(free: &[usize; 32], n: usize, place: &mut [usize; 33])
+    requires { ⌜ Free (now free) n ⌝ ∗ ⌜ PlacedTo (now free) (now place) 0 ⌝ }
+    ensures { λ _. ⌜ Placed (now (free .entry)) (now (place .exit)) n ⌝ }
 {
-    let mut place = [32; 33];
     let mut i = 0;
     while i < n {
         let k = free[i];
         place[k] = i;
         i += 1;
     }
-    place
 }
 
 // the first n lines of the table of joining conductances

@@ -44,7 +44,8 @@ fn eliminate(a: &mut [[f64; 32]; 32], rows: [Equation; 32], n: usize) -> [Equati
 {
     let mut out = rows;
     let mut p = 0;
-    while p < n {
+    // the last row has no later one
+    while p + 1 < n {
         let next = less_all(a, out, n, p);
         out = next;
         p += 1;
