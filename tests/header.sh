@@ -1,0 +1,58 @@
+#!/usr/bin/env bash
+# Every number of include/emt.h is the definitions' own: limits and lengths (crates/paper/specs/Limits), where the records have their words (Records), the
+# numbers of the answers (Answers, Pieces). Closing line: N passed, M failed.
+set -u
+cd "$(dirname "$0")/.." || exit 1
+
+passed=0
+failed=0
+specs=crates/paper/specs
+work=$(mktemp -d)
+trap 'rm -rf "$work"' EXIT
+
+# expect NAME NUMBER: an expression of the header, and what the definitions say it is
+expect() { printf '%s\t%s\n' "$1" "$2" >>"$work/expected"; }
+
+limits="VOLTAGE_MOST voltageEnd CONDUCTANCE_MOST conductanceEnd HISTORY_MOST historyEnd CURRENT_MOST currentEnd INJECTION_MOST injectionEnd NODES nodeEnd
+    BRANCHES branchEnd SOURCES sourceEnd ROWS rowEnd STEP_LENGTH_MOST stepLengthEnd STEPS_MOST stepsEnd LIMIT_MOST limitEnd TEXT_BYTES textEnd MILLIOHM_LEAST ohmsLow
+    MILLIOHM_MOST ohmsEnd NANOHENRY_MOST henryEnd PICOFARAD_MOST faradEnd TRAVEL_MOST travelEnd OPEN_MOST openEnd RISE_MOST riseEnd NETWORK_WORDS networkWords
+    RECORD_WORDS recordWords STORE_WORDS storeWords STORE_WORDS slotEnd LIST_BYTES stepBytes"
+set -- $limits
+while [ $# -gt 1 ]; do
+    number=$(sed -n "s/^$2 = //p" $specs/Limits.antt)
+    expect "EMT_$1" "$((${number//^/**}))"
+    shift 2
+done
+
+# a word's place, asked for area, node and row 7
+set -- COUNT countAt VOLTAGE voltAt CURRENT currentAt TO_CURRENT toCurrentAt HISTORY_OF historyAt
+while [ $# -gt 1 ]; do
+    place=$(sed -n "s/^$2 [anr] = //p" $specs/Records.antt)
+    expect "EMT_$1(7)" "$((${place//[anr]/7}))"
+    shift 2
+done
+
+# refusals by name; what is accepted is 0
+while read -r name number; do
+    expect "EMT_${name^^}" "$number"
+done < <(sed -nE 's/^(reading|resetting|advance|listing)Number \(?([A-Z]\.)?([A-Za-z]+)( [a-z]\))? = ([1-9][0-9]*)$/\3 \5/p' $specs/Answers.antt $specs/Pieces.antt | sort -u)
+
+{
+    echo '#include <emt.h>'
+    echo '#include <stdio.h>'
+    echo 'int main(void) {'
+    while IFS=$'\t' read -r name number; do
+        echo "    if ((long long)($name) == ${number}LL) puts(\"ok\"); else printf(\"%s is %lld, not $number\\n\", \"$name\", (long long)($name));"
+    done <"$work/expected"
+    echo '}'
+} >"$work/header.c"
+if cc -std=c11 -Wall -Wextra -Werror -Iinclude -o "$work/header" "$work/header.c"; then
+    passed=$("$work/header" | grep -c '^ok$')
+    "$work/header" | grep -v '^ok$'
+    failed=$(("$(wc -l <"$work/expected")" - passed))
+else
+    failed=1
+fi
+
+echo "$passed passed, $failed failed"
+[ "$failed" -eq 0 ]
