@@ -9,7 +9,7 @@ ghost use Rattle.paper.specs.Areas.{branchNumber};
 ghost use Rattle.facts.specs.Nets.{netIn, rowAt};
 
 // 1 where row i is a branch, 0 where it is a source.
-fn counts_one(net: &[i64], i: usize) -> usize
+pub fn counts_one(net: &[i64], i: usize) -> usize
     requires { ⌜ (isNetwork (now net) ≡ true) × (i < length (netIn (now net) .rows)) ⌝ }
     ensures { λ r. ⌜ r ≡ cond (isBranch (rowAt (netIn (now (net .entry))) i)) 1 0 ⌝ }
 {

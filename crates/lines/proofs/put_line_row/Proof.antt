@@ -1,0 +1,19 @@
+-- `lines::put_line_row` meets its contract: two parts, one after the other. Assumes nothing.
+use mathlib.Core.List.{[], _∷_}
+use borrow.Author.Needs.{needs}
+use mir.Facts.{toZ-ofZ}
+use Rattle.lines.specs.Parts.{line-next, room-first, room-second, both-put}
+use Rattle.lines.proofs.put_line_row.Statement.{statement}
+use Rattle.lines.proofs.put_line_row.Tie as tie
+
+first : tie.Need-put-head-requires
+first c κs = let s = c .before .before in (room-first (line-next (s .args .letter) (s .args .step) (s .args .number) ((s .args .x) ∷ (s .args .y) ∷ [])) (s .args .at) _ (s .pre))
+
+second : tie.Need-put-last-fields-requires
+second c κs = let s = c .before .before .before .before .before .before in rw (toZ-ofZ (s .fits .x), toZ-ofZ (s .fits .y)) (room-second (line-next (s .args .letter) (s .args .step) (s .args .number) ((s .args .x) ∷ (s .args .y) ∷ [])) (s .pre) ((c .before .before .before .put-head .ensures)))
+
+returns : tie.Need-returns
+returns c = let s = c .before .before .before .before .before .before .before .before .before in both-put (line-next (s .args .letter) (s .args .step) (s .args .number) ((s .args .x) ∷ (s .args .y) ∷ [])) ((c .before .before .before .before .before .before .put-head .ensures)) (rw (toZ-ofZ (s .fits .x), toZ-ofZ (s .fits .y)) at (c .before .before .put-last-fields .ensures))
+
+pub put-line-row-spec : {M : Type 1} → statement M
+put-line-row-spec = tie.close (tie.spec first second (λ c. search needs) returns)

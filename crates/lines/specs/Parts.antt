@@ -1,0 +1,75 @@
+-- The lines of a listing in parts: a word, the fields one after another, the end of the line. Assumes nothing.
+use Prim.Native.Nat.{ℕ, _+_, _≤_}
+use mathlib.Core.Path.{_≡_, refl, sym, ap, _∙_}
+use mathlib.Core.List.{List, [], _∷_, _++_, append-assoc}
+use native.Mathlib.Omega.{arith}
+use lib.ListN.{length, length-append}
+use lib.IntN.{ℤ, pos}
+use Rattle.paper.specs.Text.{LF, TAB}
+use Rattle.paper.specs.Listing.{shownNat, shown, shownAll, lineOf}
+use Rattle.digits.specs.Puts.{Puts, puts-then, puts-as, puts-room}
+
+-- a tab and a number
+unfoldable pub field : ℤ → List ℕ
+field x = TAB ∷ shown x
+
+unfoldable pub countsOf : ℕ → ℕ → List ℕ
+countsOf a b = field (pos a) ++ field (pos b)
+
+-- a letter and two numbers: what every line of a step begins with
+unfoldable pub headOf : ℕ → ℕ → ℕ → List ℕ
+headOf letter k n = (letter ∷ []) ++ countsOf k n
+
+-- a text made of two
+pub record Parts (whole bs cs : List ℕ) : Type 0 where
+  pub is : whole ≡ bs ++ cs
+
+pub field-count : (n : ℕ) → Parts (field (pos n)) (TAB ∷ []) (shownNat n)
+unfolding field shown
+field-count n = record { is = refl }
+
+pub field-is : (x : ℤ) → Parts (field x) (TAB ∷ []) (shown x)
+unfolding field
+field-is x = record { is = refl }
+
+pub counts-are : (a b : ℕ) → Parts (countsOf a b) (field (pos a)) (field (pos b))
+unfolding countsOf
+counts-are a b = record { is = refl }
+
+pub head-is : (letter k n : ℕ) → Parts (headOf letter k n) (letter ∷ []) (countsOf k n)
+unfolding headOf
+head-is letter k n = record { is = refl }
+
+pub fields-next : (x : ℤ) (xs : List ℤ) → Parts (shownAll (x ∷ xs)) (field x) (shownAll xs)
+unfolding shownAll field
+fields-next x xs = record { is = refl }
+
+pub fields-last : (x : ℤ) → Parts (shownAll (x ∷ [])) (field x) (LF ∷ [])
+unfolding shownAll field
+fields-last x = record { is = refl }
+
+pub counts-next : (a b : ℕ) (xs : List ℤ) → Parts (shownAll (pos a ∷ pos b ∷ xs)) (countsOf a b) (shownAll xs)
+unfolding shownAll field countsOf
+counts-next a b xs = record { is = simp append-assoc }
+
+pub line-next : (letter k n : ℕ) (xs : List ℤ) → Parts (lineOf (letter ∷ []) (pos k ∷ pos n ∷ xs)) (headOf letter k n) (shownAll xs)
+unfolding headOf shownAll field countsOf
+line-next letter k n xs = record { is = simp append-assoc }
+
+pub line-word : (w : List ℕ) (xs : List ℤ) → Parts (lineOf w xs) w (shownAll xs)
+line-word w xs = record { is = refl }
+
+-- ---- two parts put one after the other
+
+module _ {whole bs cs : List ℕ} (e : Parts whole bs cs) where
+  long : length whole ≡ length bs + length cs
+  long = ap length (e .is) ∙ length-append bs cs
+
+  pub room-first : (at t : ℕ) → at + length whole ≤ t → at + length bs ≤ t
+  room-first at t h = omega (arith, long)
+
+  pub room-second : {l m : List ℕ} {at i : ℕ} → at + length whole ≤ length l → Puts l at bs i m → i + length cs ≤ length m
+  room-second h p = puts-room (length cs) p (omega (arith, long))
+
+  pub both-put : {l m o : List ℕ} {at i q : ℕ} → Puts l at bs i m → Puts m i cs q o → Puts l at whole q o
+  both-put p r = puts-as (sym (e .is)) (puts-then p r)
