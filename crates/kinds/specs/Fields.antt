@@ -79,3 +79,9 @@ pub in-range : (l h : ℕ) (x : ℤ) → between (pos l) (pos h) x ≡ true → 
 unfolding between
 in-range l h (pos n) e = (refl, (leb-true l n (and-left (leb l n) (leb n h) e), leb-true n h (and-right (leb l n) (leb n h) e)))
 in-range l h (negsuc n) e = let c : _≡_ {A = ℕ} 0 1 = cc in absurd (omega arith)
+
+-- a kind that is none of the others
+pub the-last : (P : ℕ → Type 0) → P 7 → (k : ℕ) → k < 8 → (k ≡ 0 → ⊥) → (k ≡ 1 → ⊥) → (k ≡ 2 → ⊥) → (k ≡ 3 → ⊥) → (k ≡ 4 → ⊥) → (k ≡ 5 → ⊥) → (k ≡ 6 → ⊥) → P k
+the-last P x = each (λ k. (k ≡ 0 → ⊥) → (k ≡ 1 → ⊥) → (k ≡ 2 → ⊥) → (k ≡ 3 → ⊥) → (k ≡ 4 → ⊥) → (k ≡ 5 → ⊥) → (k ≡ 6 → ⊥) → P k)
+    (λ a b c d e f g. absurd (a refl)) (λ a b c d e f g. absurd (b refl)) (λ a b c d e f g. absurd (c refl)) (λ a b c d e f g. absurd (d refl))
+    (λ a b c d e f g. absurd (e refl)) (λ a b c d e f g. absurd (f refl)) (λ a b c d e f g. absurd (g refl)) (λ a b c d e f g. x)

@@ -22,16 +22,20 @@ low k i = getD (fieldsOf k) i (record { names = false; low = z; high = z }) .low
 unfoldable pub high : ℕ → ℕ → ℤ
 high k i = getD (fieldsOf k) i (record { names = false; low = z; high = z }) .high
 
--- the table that gives f by kind and field
-unfoldable pub byField : (ℕ → ℕ → ℤ) → List (List ℤ)
-byField f = table 8 (λ k. table 5 (f k))
+-- the ends of a kind's fields, as code holds them
+unfoldable pub lowsOf : ℕ → List ℤ
+lowsOf k = table 5 (low k)
 
-pub by-field : (f : ℕ → ℕ → ℤ) (k i : ℕ) → k < 8 → i < 5 → getD (getD (byField f) k []) i z ≡ f k i
-unfolding byField
-by-field f k i h j = ap (λ (l : List ℤ). getD l i z) (table-at 8 (λ k. table 5 (f k)) [] k h) ∙ table-at 5 (f k) z i j
+unfoldable pub highsOf : ℕ → List ℤ
+highsOf k = table 5 (high k)
 
-pub by-kind : (f : ℕ → ℕ) (k : ℕ) → k < 8 → getD (table 8 f) k 0 ≡ f k
-by-kind f k h = table-at 8 f 0 k h
+pub low-at : (k i : ℕ) → i < 5 → getD (lowsOf k) i z ≡ low k i
+unfolding lowsOf
+low-at k i h = table-at 5 (low k) z i h
+
+pub high-at : (k i : ℕ) → i < 5 → getD (highsOf k) i z ≡ high k i
+unfolding highsOf
+high-at k i h = table-at 5 (high k) z i h
 
 -- n fields from the place i on, one of them out of its range
 unfoldable pub anyOutside : ℕ → ℕ → ℕ → Words → Bool
@@ -57,13 +61,3 @@ outside-here k i e w h b = rw (outside-more k i e w h, b)
 
 pub outside-next : (k i e : ℕ) (w : Words) → i < e → between (low k i) (high k i) (word w (1 + i)) ≡ true → outsideFrom k i e w ≡ outsideFrom k (i + 1) e w
 outside-next k i e w h b = rw (outside-more k i e w h, b)
-
--- ---- the two halves of a range's test
-
-pub within-yes : (l h : ℤ) {l′ h′ : ℤ} (x : ℤ) → l′ ≡ l → h′ ≡ h → leZ l′ x ≡ true → leZ x h′ ≡ between l h x
-unfolding between
-within-yes l h x p q e = rw (← p, ← q, e)
-
-pub within-no : (l h : ℤ) {l′ : ℤ} (x : ℤ) → l′ ≡ l → leZ l′ x ≡ false → false ≡ between l h x
-unfolding between
-within-no l h x p e = rw (← p, e)

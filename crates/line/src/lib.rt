@@ -54,7 +54,8 @@ fn field_at(text: &[u8], kind: usize, i: usize, walk: Walk) -> Walk
     }
     let start = at + 1;
     let end = end_of(text, start);
-    let n = words::read_number(&text[start..end], kinds::low_of(kind, i) < 0);
+    let low = kinds::lows(kind);
+    let n = words::read_number(&text[start..end], low[i] < 0);
     let value = n.value;
     row[1 + i] = value;
     Walk {

@@ -9,7 +9,7 @@ use borrow.Author.Tests.{eq-eqb, ne-eqb}
 use lib.Dec.{eqb}
 use lib.ListN.{getD, length, drop, drop-of-length-le}
 use lib.Seq.{drop-cons}
-use Rattle.whole.specs.Tables.{table, entries, table-at}
+use Rattle.whole.specs.Tables.{table, table-at}
 use Rattle.whole.specs.Lists.{sameBytes}
 use Rattle.paper.specs.Rows.{Kind, bytes, kinds, noKind}
 use Rattle.paper.specs.Text.{placeOf}
@@ -19,16 +19,14 @@ use Rattle.kinds.specs.Fields.{each}
 unfoldable pub spelling : ℕ → List ℕ
 spelling k = getD kinds k (record { spelt = []; fields = [] }) .spelt
 
--- ---- the tables of letters
+-- ---- its letters, as code holds them
 
-unfoldable pub letters : List (List ℕ)
-letters = table 8 (λ k. table 5 (λ i. getD (spelling k) i 0))
+unfoldable pub lettersOf : ℕ → List ℕ
+lettersOf k = table 5 (λ i. getD (spelling k) i 0)
 
-pub letter-at : (k i : ℕ) → k < 8 → i < 5 → getD (getD letters k []) i 0 ≡ getD (spelling k) i 0
-unfolding letters
-letter-at k i h j =
-    ap (λ (l : List ℕ). getD l i 0) (table-at 8 (λ k. table 5 (λ i. getD (spelling k) i 0)) [] k h)
-    ∙ table-at 5 (λ i. getD (spelling k) i 0) 0 i j
+pub letter-at : (k i : ℕ) → i < 5 → getD (lettersOf k) i 0 ≡ getD (spelling k) i 0
+unfolding lettersOf
+letter-at k i h = table-at 5 (λ i. getD (spelling k) i 0) 0 i h
 
 pub spelling-short : (k : ℕ) → k < 8 → length (spelling k) ≤ 5
 unfolding spelling kinds bytes

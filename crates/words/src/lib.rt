@@ -10,7 +10,7 @@ ghost use Rattle.paper.specs.Rows.{kinds};
 ghost use Rattle.paper.specs.Text.{digit, placeOf};
 ghost use Rattle.whole.specs.Lists.{sameBytes};
 ghost use Rattle.words.specs.Numbers.{held, digitsOf, plainOf, readNumber};
-ghost use Rattle.words.specs.Words.{spelling, Only};
+ghost use Rattle.words.specs.Words.{spelling, lettersOf, Only};
 
 // ---- numbers, held at 10^16, past every end of a field
 
@@ -114,31 +114,34 @@ pub fn read_number(s: &[u8], signed: bool) -> Number
 
 // ---- words
 
-const LENGTHS: [usize; 8] = [5, 1, 1, 1, 4, 2, 2, 2];
-
-const WORDS: [[u8; 5]; 8] = [
-    [b's', b't', b'u', b'd', b'y'],
-    [b'R', 0, 0, 0, 0],
-    [b'L', 0, 0, 0, 0],
-    [b'C', 0, 0, 0, 0],
-    [b'L', b'I', b'N', b'E', 0],
-    [b'S', b'W', 0, 0, 0],
-    [b'V', b'S', 0, 0, 0],
-    [b'I', b'S', 0, 0, 0],
-];
-
 fn length_of(kind: usize) -> usize
     requires { ⌜ kind < 8 ⌝ }
     ensures { λ r. ⌜ r ≡ length (spelling kind) ⌝ }
 {
-    LENGTHS[kind]
+    match kind {
+        0 => 5,
+        4 => 4,
+        5 => 2,
+        6 => 2,
+        7 => 2,
+        _ => 1,
+    }
 }
 
-fn letter(kind: usize, i: usize) -> u8
-    requires { ⌜ (kind < 8) × (i < 5) ⌝ }
-    ensures { λ r. ⌜ r ≡ getD (spelling kind) i 0 ⌝ }
+fn letters_of(kind: usize) -> [u8; 5]
+    requires { ⌜ kind < 8 ⌝ }
+    ensures { λ r. ⌜ r ≡ lettersOf kind ⌝ }
 {
-    WORDS[kind][i]
+    match kind {
+        0 => [b's', b't', b'u', b'd', b'y'],
+        1 => [b'R', 0, 0, 0, 0],
+        2 => [b'L', 0, 0, 0, 0],
+        3 => [b'C', 0, 0, 0, 0],
+        4 => [b'L', b'I', b'N', b'E', 0],
+        5 => [b'S', b'W', 0, 0, 0],
+        6 => [b'V', b'S', 0, 0, 0],
+        _ => [b'I', b'S', 0, 0, 0],
+    }
 }
 
 fn is_word(word: &[u8], kind: usize) -> bool
@@ -148,9 +151,10 @@ fn is_word(word: &[u8], kind: usize) -> bool
     if word.len() != length_of(kind) {
         return false;
     }
+    let letters = letters_of(kind);
     let mut i = 0;
     while i < word.len() {
-        if word[i] != letter(kind, i) {
+        if word[i] != letters[i] {
             return false;
         }
         i += 1;

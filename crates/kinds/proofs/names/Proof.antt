@@ -1,20 +1,32 @@
-use Rattle.paper.specs.Rows.{bytes, kinds, fieldsOf}
+use Prim.Native.Nat.{ℕ}
+use mathlib.Core.Path.{_≡_, refl}
+use lib.ListN.{length}
 use Rattle.whole.specs.Lists.{count}
-use Rattle.whole.specs.Tables.{table, entries}
-use Rattle.kinds.specs.Table.{by-kind, namesOf}
-use borrow.Author.Needs.{needs}
+use Rattle.paper.specs.Rows.{bytes, kinds, fieldsOf}
+use Rattle.kinds.specs.Table.{namesOf}
+use Rattle.kinds.specs.Fields.{each}
 use Rattle.kinds.proofs.names.Statement.{statement}
 use Rattle.kinds.proofs.names.Tie as tie
 
-mul-result : tie.Need-mul-result
-mul-result c = search needs
-
-array-read-result : tie.Need-array-read-result
-array-read-result c = search needs
-
 returns : tie.Need-returns
-unfolding table entries bytes kinds fieldsOf count namesOf
-returns c = by-kind namesOf (c .args .kind) (search needs)
+unfolding namesOf count fieldsOf kinds bytes
+returns c = let e : c .before .args .kind ≡ 0 = c .match .keys1 in rw e
+
+returns-2 : tie.Need-returns-2
+unfolding namesOf count fieldsOf kinds bytes
+returns-2 c = let e : c .before .args .kind ≡ 6 = c .match .keys2 in rw e
+
+returns-3 : tie.Need-returns-3
+unfolding namesOf count fieldsOf kinds bytes
+returns-3 c = let e : c .before .args .kind ≡ 7 = c .match .keys3 in rw e
+
+returns-4 : tie.Need-returns-4
+unfolding namesOf count fieldsOf kinds bytes
+returns-4 c =
+    let r = c .match .rest in
+    each (λ (k : ℕ). (k ≡ 0 → ⊥) → (k ≡ 6 → ⊥) → (k ≡ 7 → ⊥) → _≡_ {A = ℕ} 2 (namesOf k))
+    (λ a b c. absurd (a refl)) (λ a b c. refl) (λ a b c. refl) (λ a b c. refl) (λ a b c. refl) (λ a b c. refl) (λ a b c. absurd (b refl)) (λ a b c. absurd (c refl))
+    (c .before .args .kind) (c .before .pre) (r .0 .0 .1) (r .0 .1) (r .1)
 
 pub names-spec : {M : Type 1} → statement M
-names-spec = tie.close (tie.spec mul-result array-read-result returns)
+names-spec = tie.close (tie.spec returns returns-2 returns-3 returns-4)

@@ -3,9 +3,11 @@ use mathlib.Core.Path.{_≡_, refl, sym, _∙_, ap}
 use Prim.Native.Nat.{ℕ, _+_, _<_}
 use mathlib.Core.Bool.{Bool}
 use mathlib.Core.List.{List}
-use lib.IntN.{ℤ}
-use lib.ListN.{length, set}
+use lib.IntN.{ℤ, pos}
+use lib.ListN.{getD, length, set}
 use mir.Facts.{toZ-ofZ}
+use Rattle.whole.specs.Int.{read64}
+use Rattle.kinds.specs.Table.{low, low-at}
 use Rattle.line.specs.declared.Walk.{Walk}
 use native.Mathlib.Omega.{arith}
 use Rattle.line.specs.Walks.{field-none, field-read, tab-in, word-in}
@@ -37,6 +39,9 @@ add-start c = search needs
 end-of-requires : tie.Need-end-of-requires
 end-of-requires c κs = omega (arith, inside c)
 
+lows-requires : tie.Need-lows-requires
+lows-requires c κs = search needs
+
 sub-read-number : tie.Need-sub-read-number
 sub-read-number c = search needs
 
@@ -45,11 +50,15 @@ part-read-number-start c = search needs
 
 part-read-number-end : tie.Need-part-read-number-end
 part-read-number-end c =
-    let a = c .before .before .before .before .before .before .args in
-    omega (arith, word-in (a .text .now) (a .walk .at + 1) (omega (arith, inside (c .before))), c .end-of .ensures)
+    let e : tie.After-end-of = c .before in
+    let a = e .before .before .before .before .before .before .args in
+    omega (arith, word-in (a .text .now) (a .walk .at + 1) (omega (arith, inside (e .before))), e .end-of .ensures)
 
-low-of-requires : tie.Need-low-of-requires
-low-of-requires c κs = search needs
+mul-read-number : tie.Need-mul-read-number
+mul-read-number c = search needs
+
+array-copy-out-read-number : tie.Need-array-copy-out-read-number
+array-copy-out-read-number c = search needs
 
 read-number-requires : tie.Need-read-number-requires
 read-number-requires c κs = search needs
@@ -65,12 +74,15 @@ array-set-from-row c = search needs
 
 returns-2 : tie.Need-returns-2
 returns-2 c =
-    let e : tie.After-end-of = c .before .before .before .before in
-    let l : tie.After-low-of = c .before .before in
+    let n : tie.After-read-number = c .before in
+    let w : tie.After-lows = n .before .before .before in
+    let e : tie.After-end-of = w .before in
     let i : tie.Else1 = e .before in
     let a = i .before .before .before .before .before .args in
-    ap (λ (v : ℤ). row-of (c .before .read-number .result .ok) (e .end-of .result) (set (a .walk .row) (1 + a .i) v)) (toZ-ofZ (search needs))
-    ∙ field-read (a .text .now) (a .kind) (a .i) (a .walk) (i .before .before .is-at .ensures) (i .if1 .left) (e .end-of .ensures) (toZ-ofZ (record { sfits = l .low-of .ok }) ∙ l .low-of .ensures) (c .before .read-number .ensures)
+    let x : ℤ = getD (w .lows .result) (a .i) (pos 0) in
+    let l : x ≡ low (a .kind) (a .i) = ap (λ (r : List ℤ). getD r (a .i) (pos 0)) (w .lows .ensures) ∙ low-at (a .kind) (a .i) (i .before .before .before .before .before .pre .1 .0) in
+    ap (λ (v : ℤ). row-of (n .read-number .result .ok) (e .end-of .result) (set (a .walk .row) (1 + a .i) v)) (toZ-ofZ (search needs))
+    ∙ field-read (a .text .now) (a .kind) (a .i) (a .walk) (i .before .before .is-at .ensures) (i .if1 .left) (e .end-of .ensures) (read64 x (n .before .read-number-arg2 .given) ∙ l) (n .read-number .ensures)
 
 pub field-at-spec : {M : Type 1} → statement M
-field-at-spec = tie.close (tie.spec is-at-requires returns add-start end-of-requires sub-read-number part-read-number-start part-read-number-end low-of-requires read-number-requires add-row mul-row array-set-from-row returns-2)
+field-at-spec = tie.close (tie.spec is-at-requires returns add-start end-of-requires lows-requires sub-read-number part-read-number-start part-read-number-end mul-read-number array-copy-out-read-number read-number-requires add-row mul-row array-set-from-row returns-2)

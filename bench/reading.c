@@ -1,0 +1,102 @@
+// emt_read and the plain C reader on the same texts: the answers and all words compared, each text and many damaged copies of it; then each text read a hundred
+// times for the count. The word after the program's name is the text's: full, long or wide.
+#include <stdio.h>
+#include <stdlib.h>
+#include <string.h>
+
+#include "emt.h"
+
+uint64_t plain_read(const uint8_t *text, size_t length, int64_t *network, size_t words, uint64_t *line);
+
+static uint8_t text[EMT_TEXT_BYTES + 2];
+static size_t length;
+static int64_t ours[EMT_NETWORK_WORDS], theirs[EMT_NETWORK_WORDS];
+
+static void put(const char *s) { length += (size_t)sprintf((char *)text + length, "%s", s); }
+
+// All kinds, 64 branches and 16 sources, most numbers long.
+static void full(void) {
+    put("study\t1000\t1000000\t1000000000000000\n");
+    for (int i = 0; i < 64; i++) {
+        char s[96];
+        int from = 1 + i % 31, to = from + 1;
+        switch (i % 5) {
+        case 0: sprintf(s, "R\t%d\t%d\t%d\n", from, to, 100000000 + i); break;
+        case 1: sprintf(s, "L\t%d\t%d\t%d\n", from, to, 100000000 + i); break;
+        case 2: sprintf(s, "C\t%d\t%d\t%d\n", from, 0, 100000 + i); break;
+        case 3: sprintf(s, "LINE\t%d\t%d\t%d\t%d\n", from, to, 400000, 150000); break;
+        default: sprintf(s, "SW\t%d\t%d\t%d\t%d\t%d\n", from, to, 100000, 1000 + i, 999999); break;
+        }
+        put(s);
+    }
+    for (int i = 1; i <= 16; i++) {
+        char s[96];
+        sprintf(s, "%s\t%d\t%d\t%d\t%d\n", i & 1 ? "VS" : "IS", i, i & 2 ? -19999999 : 19999999, 100000, 999);
+        put(s);
+    }
+}
+
+// The same, and a last line whose number takes it to the longest text.
+static void wide(void) {
+    full();
+    put("R\t1\t2\t");
+    while (length < EMT_TEXT_BYTES - 1) text[length++] = '7';
+    text[length++] = '\n';
+}
+
+// 60,000 digits in the second line.
+static void longest(void) {
+    put("study\t1000\t10\t0\nR\t");
+    memset(text + length, '9', 60000);
+    length += 60000;
+    put("\t2\t1000\n");
+}
+
+static void compare(const uint8_t *t, size_t n, size_t words) {
+    uint64_t line, other;
+    for (int i = 0; i < EMT_NETWORK_WORDS; i++) ours[i] = theirs[i] = 7 - i;
+    uint64_t a = emt_read(t, n, ours, words, &line), b = plain_read(t, n, theirs, words, &other);
+    if (a != b || line != other || memcmp(ours, theirs, sizeof ours)) {
+        printf("differ: %zu bytes, %llu %llu and %llu %llu\n%.*s", n, (unsigned long long)a, (unsigned long long)line, (unsigned long long)b, (unsigned long long)other, (int)(n < 3000 ? n : 3000), t);
+        exit(1);
+    }
+}
+
+static uint64_t seed = 88172645463325252u;
+static uint64_t chance(uint64_t below) {
+    seed ^= seed << 13, seed ^= seed >> 7, seed ^= seed << 17;
+    return seed % below;
+}
+
+int main(int count, char **words) {
+    const char *name = count > 1 ? words[1] : "full";
+    strcmp(name, "full") ? strcmp(name, "wide") ? longest() : wide() : full();
+    if (count > 2) {
+        static const char bytes[] = "0123456789\t\n-RLCSVIWENstudy 9990001";
+        static uint8_t copy[sizeof text];
+        int tries = atoi(words[2]);
+        compare(text, length, EMT_NETWORK_WORDS);
+        compare(text, length, 1023);
+        for (int i = 0; i < tries; i++) {
+            size_t n = length;
+            memcpy(copy, text, length);
+            for (uint64_t k = 1 + chance(3); k; k--) {
+                size_t at = chance(n < 4000 ? n : 4000);
+                switch (chance(4)) {
+                case 0: copy[at] = (uint8_t)bytes[chance(sizeof bytes - 1)]; break;
+                case 1: memmove(copy + at, copy + at + 1, --n - at); break;
+                case 2: if (n < EMT_TEXT_BYTES) memmove(copy + at + 1, copy + at, n++ - at), copy[at] = (uint8_t)bytes[chance(sizeof bytes - 1)]; break;
+                default: if (chance(8) == 0) n = at + 1;
+                }
+            }
+            compare(copy, n, EMT_NETWORK_WORDS);
+        }
+        printf("%s: %d damaged copies agree\n", name, tries);
+        return 0;
+    }
+    uint64_t line, a = 0, b = 0;
+    for (int i = 0; i < 100; i++) a += emt_read(text, length, ours, EMT_NETWORK_WORDS, &line);
+    for (int i = 0; i < 100; i++) b += plain_read(text, length, theirs, EMT_NETWORK_WORDS, &line);
+    printf("%zu %llu %llu\n", length, (unsigned long long)a, (unsigned long long)b);
+    return a != b;
+}
