@@ -1,0 +1,1 @@
+// Theorems over the listing by pieces: they stand in specs/.
