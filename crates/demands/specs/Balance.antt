@@ -3,13 +3,12 @@ use Prim.Native.Nat.{ℕ, zero, suc, _+_, _≤_, _<_}
 use native.Mathlib.Decide.{ℕ-discrete}
 use native.Mathlib.Omega.{arith}
 use mathlib.Core.Path.{_≡_, refl, sym, ap, _∙_}
-use mathlib.Core.Logic.{_≢_}
-use mathlib.Core.Bool.{Bool, true, false, cond, not, _&&_}
+use mathlib.Core.Bool.{Bool, true, false, cond}
 use mathlib.Core.List.{List, [], _∷_, map}
 use lib.ListN.{length, getD}
 use lib.Dec.{eqb}
 use lib.IntN.{ℤ, pos, negℤ, _+ℤ_, _-ℤ_, _*ℤ_, +ℤ-assoc}
-use borrow.Author.Tests.{eqb-true, eq-eqb, ne-eqb}
+use borrow.Author.Tests.{ne-eqb}
 use Rattle.whole.specs.Lists.{Words, z, word, numbers, total}
 use Rattle.whole.specs.Folds.{both}
 use Rattle.whole.specs.Int.{ring-laws}
@@ -18,12 +17,12 @@ use Rattle.paper.specs.Conductance.{conductance}
 use Rattle.paper.specs.Areas.{Net, areaOf, areaCount, rowArea, step}
 use Rattle.paper.specs.Sources.{injected}
 use Rattle.paper.specs.Records.{historyAt, wellFormed}
-use Rattle.paper.specs.Legs.{Leg, leg, idle, End, ownEnd, otherEnd, Branch, branch, Heard, here, heard, conducts, lineEnd, lineLegs, plainLegs, legsBy, legsOf, bothLegs, through, current}
+use Rattle.paper.specs.Legs.{Leg, leg, idle, End, ownEnd, otherEnd, Branch, Heard, heard, conducts, plainLegs, legsBy, legsOf, bothLegs, through, current}
 use Rattle.paper.specs.Solve.{imbalance}
 use Rattle.paper.specs.Solve as Solve
 use Rattle.paper.specs.Advance.{Memory, written}
 use Rattle.facts.specs.Nets.{NetSound, rowAt, row-area-from, row-area-to}
-use Rattle.local.specs.Own.{deaf, byKind}
+use Rattle.local.specs.Own.{deaf}
 use Rattle.local.specs.Nodes.{NodeOf}
 use Rattle.local.specs.Written.{current-put, to-put}
 use Rattle.local.specs.Outcome.{stepOf, legsNow, voltsOf}

@@ -1,11 +1,10 @@
 -- "Branch equations": the memory that a step proposes obeys them, accepted or not. Assumes nothing.
 use Prim.Native.Nat.{ℕ, zero, suc, _+_, _-_, _≤_, _<_}
-use native.Mathlib.Decide.{ℕ-discrete}
 use native.Mathlib.Omega.{arith}
 use mathlib.Core.Path.{_≡_, refl, sym, ap, _∙_, subst}
-use mathlib.Core.Logic.{_≢_, _⊎_, inl, inr}
-use mathlib.Core.Bool.{Bool, true, false, cond, not, _&&_, _||_, or-true, and-false, true≢false}
-use mathlib.Core.List.{List, []}
+use mathlib.Core.Logic.{_⊎_, inl, inr}
+use mathlib.Core.Bool.{Bool, true, false, cond, not, _&&_, _||_, or-true, and-false}
+use mathlib.Core.List.{List}
 use lib.ListN.{length, getD}
 use lib.Dec.{eqb, leb, ltb}
 use lib.IntN.{ℤ, pos, negsuc, negℤ, natAbs, _+ℤ_, _-ℤ_, _*ℤ_, +ℤ-comm, +ℤ-idr, zero-*ℤ, negℤ-+ℤ}
@@ -13,22 +12,22 @@ use borrow.Author.Tests.{eq-eqb, eqb-true, ne-eqb, le-leb, lt-leb, lt-ltb, le-lt
 use Rattle.whole.specs.Lists.{Words, z, word, numbers}
 use Rattle.whole.specs.Folds.{both, getD-map, getD-numbers, length-numbers}
 use Rattle.paper.specs.Limits as Limits
-use Rattle.paper.specs.Rows.{Row, kind, isBranch, isR, isL, isC, isLine, isSwitch, from, to, closes, opens}
+use Rattle.paper.specs.Rows.{Row, kind, isBranch, isL, isC, isLine, isSwitch, from, to, closes, opens}
 use Rattle.paper.specs.Conductance.{conductance}
 use Rattle.paper.specs.Areas.{Net, areaOf, areaCount, rowArea, step}
-use Rattle.paper.specs.Records.{countAt, voltAt, currentAt, toCurrentAt, historyAt, slotCount, wellFormed}
-use Rattle.paper.specs.Legs.{Leg, leg, End, ownEnd, otherEnd, Branch, branch, Heard, here, sentTo, heardBy, heard, isOpen, conducts, lineEnd, lineLegs, plainLegs, legsBy, through, current, echo, passedOn}
+use Rattle.paper.specs.Records.{historyAt, slotCount, wellFormed}
+use Rattle.paper.specs.Legs.{Leg, leg, End, ownEnd, otherEnd, Branch, branch, Heard, sentTo, heardBy, heard, isOpen, conducts, lineEnd, lineLegs, plainLegs, legsBy, through, current, echo, passedOn}
 use Rattle.paper.specs.Advance.{Memory, written}
 use Rattle.facts.specs.Nets.{NetSound, rowAt, row-area-from, row-area-to}
 use Rattle.local.specs.Sound.{Sound, sound, line-branch}
 use Rattle.local.specs.Own.{deaf}
 use Rattle.local.specs.Nodes.{NodeOf}
-use Rattle.local.specs.Written.{new, volt-put, current-put, to-put, history-put}
-use Rattle.local.specs.Slots.{slotOf, delayAt, sent, sent-put}
+use Rattle.local.specs.Written.{volt-put, current-put, to-put, history-put}
+use Rattle.local.specs.Slots.{delayAt, sent, sent-put}
 use Rattle.local.specs.Outcome.{stepOf, legsNow, voltsOf}
-use Rattle.stays.specs.Formed.{Formed, formed, endAt, end-history}
+use Rattle.stays.specs.Formed.{formed, end-history}
 use Rattle.stays.specs.Stays.{Long}
-use Rattle.demands.specs.Said.{voltage, fromCurrent, toCurrent, history, fromSent, toSent, g, gu, gv, Obeys, EndObeys}
+use Rattle.demands.specs.Said.{voltage, fromCurrent, toCurrent, history, fromSent, toSent, gu, gv, Obeys, EndObeys}
 use Rattle.demands.specs.Volts.{ground-volt}
 
 -- ---- a kind is one number

@@ -1,28 +1,28 @@
 -- T-exact, 11 to 13: each comes exactly when the paper says, and 13 names the first such branch in table order. Assumes nothing.
-use Prim.Native.Nat.{ℕ, zero, suc, _+_, _≤_, _<_}
+use Prim.Native.Nat.{ℕ, suc, _≤_, _<_}
 use native.Mathlib.Omega.{arith}
-use mathlib.Core.Path.{_≡_, refl, sym, ap, _∙_, subst}
-use mathlib.Core.Logic.{_≢_, _⊎_, inl, inr, _↔_}
-use mathlib.Core.Bool.{Bool, true, false, cond, not, _&&_, true≢false}
-use mathlib.Core.List.{List, []}
-use lib.ListN.{length, getD}
+use mathlib.Core.Path.{_≡_, refl, sym, ap, _∙_}
+use mathlib.Core.Logic.{_≢_, _↔_}
+use mathlib.Core.Bool.{Bool, true, false, true≢false}
+use mathlib.Core.List.{[]}
+use lib.ListN.{length}
 use lib.Dec.{leb}
 use borrow.Author.Tests.{leb-true, leb-false, le-leb, lt-leb}
 use Rattle.paper.specs.declared.Advance.{Advance}
 use Rattle.paper.specs.declared.Advance.the-variants.{Took, Store, Network, State, Area, Done, Wait}
 use Rattle.whole.specs.Lists.{Words}
 use Rattle.whole.specs.Folds.{and-left, and-right, both}
-use Rattle.whole.specs.Places.{place, Least, place-least, least-place}
+use Rattle.whole.specs.Places.{place-least, least-place}
 use Rattle.paper.specs.Answers.{advanceNumber}
-use Rattle.paper.specs.Rows.{isLine, from, to, steps}
-use Rattle.paper.specs.Areas.{Net, areaOf, areaCount, branchNumber}
+use Rattle.paper.specs.Rows.{isLine, steps}
+use Rattle.paper.specs.Areas.{Net, areaCount, branchNumber}
 use Rattle.paper.specs.Network.{isNetwork}
 use Rattle.paper.specs.Records.{countOf, wellFormed}
 use Rattle.paper.specs.Solve.{stop, move, solve}
-use Rattle.paper.specs.Advance.{Memory, Advanced, advanced, waitsFor, firstLate, takeStep, ready, onNext, onNet, fits, advanceOf}
+use Rattle.paper.specs.Advance.{Memory, Advanced, waitsFor, takeStep, ready, onNext, onNet, fits, advanceOf}
 use Rattle.facts.specs.Nets.{rowAt, netIn}
 use Rattle.local.specs.Waits.{Allowed, Behind, late-place, waits-line, waits-behind, behind-waits, free-allowed, allowed-free}
-use Rattle.local.specs.Outcome.{stepOf, legsNow, voltsOf, lateNow, isArea, isDone, StepRefusal, floating14, range15, unbalanced16, history17, Outcome, no-area, done, waits, stops, takes, outcome}
+use Rattle.local.specs.Outcome.{stepOf, legsNow, voltsOf, lateNow, isArea, StepRefusal, floating14, range15, unbalanced16, history17, Outcome, no-area, done, waits, stops, takes, outcome}
 use Rattle.demands.specs.Said.{IsArea}
 use Rattle.demands.specs.Step.{Judged, Call, unfit, unread, unformed, judged, call, call-of}
 

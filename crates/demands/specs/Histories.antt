@@ -1,32 +1,31 @@
 -- "17 HISTORY: a next history or sent value beyond 10^17": the row that the step's search finds. Assumes nothing.
-use Prim.Native.Nat.{ℕ, zero, suc, _+_, _≤_, _<_}
+use Prim.Native.Nat.{ℕ, suc, _+_, _≤_, _<_}
 use native.Mathlib.Omega.{arith}
 use native.Mathlib.Decide.{ℕ-discrete}
-use mathlib.Core.Path.{_≡_, refl, sym, ap, _∙_, subst}
+use mathlib.Core.Path.{_≡_, refl, sym, ap, _∙_}
 use mathlib.Core.Logic.{_≢_, _⊎_, inl, inr}
 use mathlib.Core.Bool.{Bool, true, false, cond, not, _&&_, _||_, and-false, true≢false}
-use mathlib.Core.List.{List, [], _∷_}
+use mathlib.Core.List.{List, []}
 use lib.ListN.{length, getD}
 use lib.Dec.{eqb, leb}
 use lib.IntN.{ℤ, pos, negℤ, natAbs, _+ℤ_, _-ℤ_, _*ℤ_, zero-*ℤ}
-use borrow.Author.Tests.{eqb-true, eq-eqb, ne-eqb, leb-true, leb-false, le-leb, lt-leb, not-true}
+use borrow.Author.Tests.{eqb-true, ne-eqb, leb-false, lt-leb}
 use Rattle.whole.specs.Lists.{Words, z, word, upTo}
 use Rattle.whole.specs.Folds.{both}
 use Rattle.whole.specs.Int.{ring-laws, abs-neg}
-use Rattle.whole.specs.Places.{place, Least, place-none, none-place, place-least, least-place}
+use Rattle.whole.specs.Places.{place-none, none-place, place-least, least-place}
 use Rattle.paper.specs.Limits as Limits
 use Rattle.paper.specs.Rows.{Row, kind, isBranch, isL, isC, isLine, from, to}
-use Rattle.paper.specs.Conductance.{conductance}
 use Rattle.paper.specs.Areas.{Net, areaOf, areaCount, rowArea, step, branchNumber}
-use Rattle.paper.specs.Records.{historyAt, slotCount, wellFormed}
-use Rattle.paper.specs.Legs.{Leg, leg, idle, End, ownEnd, otherEnd, Branch, branch, Heard, heard, conducts, plainLegs, legsBy, legsOf, through, current, echo, passedOn}
-use Rattle.paper.specs.Solve.{beyond, firstBeyond}
-use Rattle.paper.specs.Advance.{Memory, branchIn, written}
+use Rattle.paper.specs.Records.{historyAt, wellFormed}
+use Rattle.paper.specs.Legs.{Leg, leg, idle, End, otherEnd, Branch, branch, Heard, heard, conducts, plainLegs, legsBy, through, current, echo, passedOn}
+use Rattle.paper.specs.Solve.{beyond}
+use Rattle.paper.specs.Advance.{Memory, written}
 use Rattle.facts.specs.Nets.{NetSound, rowAt}
-use Rattle.local.specs.Sound.{Sound, sound}
+use Rattle.local.specs.Sound.{Sound}
 use Rattle.local.specs.Own.{row-is, legs-length, branch-is, line-no}
 use Rattle.local.specs.Written.{history-put}
-use Rattle.local.specs.Slots.{slotOf, sent-put}
+use Rattle.local.specs.Slots.{sent-put}
 use Rattle.local.specs.Outcome.{stepOf, legsNow, voltsOf, large}
 use Rattle.stays.specs.Sizes.{beyond-place}
 use Rattle.stays.specs.Stays.{Long}

@@ -1,30 +1,27 @@
 -- 14 to 17, each by what the paper says of it: what a step's search, its doubles, its sums and what it passes on have to be for each to come.
 -- Assumes nothing.
-use Prim.Native.Nat.{ℕ, zero, suc, _+_, _≤_, _<_}
+use Prim.Native.Nat.{ℕ, zero, suc, _≤_, _<_}
 use native.Mathlib.Omega.{arith}
-use native.Mathlib.Decide.{ℕ-discrete}
-use mathlib.Core.Path.{_≡_, refl, sym, ap, _∙_, subst}
-use mathlib.Core.Logic.{_≢_, _⊎_, inl, inr}
-use mathlib.Core.Bool.{Bool, true, false, cond, not, _&&_, _||_, true≢false}
+use mathlib.Core.Path.{_≡_, refl, sym, ap, _∙_}
+use mathlib.Core.Logic.{_≢_}
+use mathlib.Core.Bool.{Bool, true, false, not}
 use mathlib.Core.List.{List, [], _∷_}
 use lib.ListN.{length, getD}
-use lib.Dec.{eqb, leb}
+use lib.Dec.{leb}
 use lib.IntN.{ℤ, natAbs}
 use lib.Ieee.{nan}
 use borrow.Author.Tests.{eqb-true, eq-eqb, leb-true, leb-false, le-leb, lt-leb, not-true, not-false}
 use Rattle.paper.specs.declared.Rounded.{Rounded}
 use Rattle.paper.specs.declared.Rounded.the-variants.{Whole, Outside}
-use Rattle.whole.specs.Lists.{Words, upTo}
-use Rattle.whole.specs.Members.{Among, among-at}
-use Rattle.whole.specs.Rising.{Rising, rising-over, Lowest, lowest-first, first-lowest}
+use Rattle.whole.specs.Lists.{upTo}
+use Rattle.whole.specs.Rising.{Rising, lowest-first, first-lowest}
 use Rattle.paper.specs.Rows.{limit}
-use Rattle.paper.specs.Spread.{mark}
 use Rattle.paper.specs.Areas.{Net, areaCount, fixed, freeOf}
 use Rattle.paper.specs.Sources.{injected}
 use Rattle.paper.specs.Records.{wellFormed}
 use Rattle.paper.specs.Legs.{Heard, bothLegs, heard}
 use Rattle.paper.specs.Doubles.{nearestOf}
-use Rattle.paper.specs.Floating.{floating, reached}
+use Rattle.paper.specs.Floating.{floating}
 use Rattle.paper.specs.Solve.{outOfRange, unbalanced, imbalance}
 use Rattle.paper.specs.Advance.{Memory}
 use Rattle.facts.specs.Nets.{NetSound}

@@ -1,9 +1,8 @@
 -- T-exact, 14 to 17, and acceptance: each comes exactly when the paper says, and names the lowest such node or the first such branch. Assumes nothing.
-use Prim.Native.Nat.{ℕ, zero, suc, _+_, _≤_, _<_}
+use Prim.Native.Nat.{ℕ, zero, suc, _<_}
 use native.Mathlib.Omega.{arith}
 use mathlib.Core.Path.{_≡_, refl, sym, ap, _∙_, subst}
 use mathlib.Core.Logic.{_≢_, _↔_}
-use mathlib.Core.Bool.{Bool, true, false}
 use mathlib.Core.List.{List}
 use lib.ListN.{length, getD}
 use Rattle.paper.specs.declared.Advance.{Advance}
@@ -14,7 +13,7 @@ use Rattle.paper.specs.Answers.{advanceNumber}
 use Rattle.paper.specs.Areas.{Net, freeOf, branchNumber}
 use Rattle.paper.specs.Legs.{Branch}
 use Rattle.paper.specs.Solve.{stop, move, solve, solvedStep, rangeStep, balanceStep, historyStep}
-use Rattle.paper.specs.Advance.{Memory, Advanced, advanceOf}
+use Rattle.paper.specs.Advance.{Memory, advanceOf}
 use Rattle.facts.specs.Nets.{NetSound, netIn, net-sound}
 use Rattle.floats.specs.Floats.{Floats, search-floats, floats-search}
 use Rattle.paper.specs.Legs.{heard}
@@ -22,7 +21,7 @@ use Rattle.local.specs.Nodes.{free-of}
 use Rattle.local.specs.Waits.{Free, not-late, late-not}
 use Rattle.local.specs.Outcome.{stepOf, legsNow, voltsOf, lateNow, lone, outside, heavy, large, StepRefusal, floating14, range15, unbalanced16, history17, Solving, floats, leaves, tips, exceeds, solves, solving}
 use Rattle.stays.specs.Stays.{stop-move}
-use Rattle.demands.specs.Step.{Judged, fits-long}
+use Rattle.demands.specs.Step.{fits-long}
 use Rattle.demands.specs.Exact.{Next, Comes, refused9, refused8, refused10, refused11, refused12, refused13, refused14-17, accepted0, comes, answers14-17, answers0, number, step-number}
 use Rattle.demands.specs.Passing.{AllPaths, OutOfRange, AllInRange, Unbalances, AllBalanced, lone-paths, paths-lone, outside-out, out-outside, inside-all, all-inside, heavy-tips, tips-heavy, even-all, all-even}
 use Rattle.demands.specs.Histories.{FirstExceeds, AllWithin, large-first, first-large, small-all, all-small}

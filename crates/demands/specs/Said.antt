@@ -3,15 +3,15 @@
 use Prim.Native.Nat.{ℕ, zero, suc, _+_, _-_, _≤_, _<_}
 use mathlib.Core.Path.{_≡_}
 use mathlib.Core.Logic.{_≢_, _⊎_}
-use mathlib.Core.Bool.{Bool, true, false, cond, _||_}
+use mathlib.Core.Bool.{true, false, cond, _||_}
 use mathlib.Core.List.{List}
 use lib.ListN.{length, getD}
 use lib.Dec.{eqb}
 use lib.IntN.{ℤ, pos, negℤ, natAbs, _+ℤ_, _-ℤ_, _*ℤ_}
 use lib.Ieee.{Float, nan}
 use Rattle.paper.specs.declared.Rounded.the-variants.{Whole}
-use Rattle.whole.specs.Lists.{Words, z, word, numbers, total}
-use Rattle.paper.specs.Rows.{Row, isBranch, isR, isL, isC, isLine, isSwitch, isVS, from, to, at, closes, opens, limit}
+use Rattle.whole.specs.Lists.{z, word, numbers, total}
+use Rattle.paper.specs.Rows.{isBranch, isR, isL, isC, isLine, isSwitch, isVS, from, to, at, closes, opens, limit}
 use Rattle.paper.specs.Conductance.{conductance}
 use Rattle.paper.specs.Areas.{Net, areaOf, areaCount, rowArea, step, fixed, freeOf}
 use Rattle.paper.specs.Sources.{source, injected}

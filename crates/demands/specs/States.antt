@@ -1,6 +1,6 @@
 -- T-fresh, T-stays and T-local, of the calls themselves. Assumes nothing.
 use Prim.Native.Nat.{ℕ}
-use mathlib.Core.Path.{_≡_, refl, sym, ap, _∙_}
+use mathlib.Core.Path.{_≡_, sym, _∙_}
 use mathlib.Core.Bool.{true}
 use lib.ListN.{length-replicate}
 use borrow.Author.Tests.{eq-eqb}
@@ -10,12 +10,12 @@ use Rattle.whole.specs.Folds.{both}
 use Rattle.paper.specs.Limits as Limits
 use Rattle.paper.specs.Network.{isNetwork}
 use Rattle.paper.specs.Advance.{Memory, fits, advanceOf}
-use Rattle.paper.specs.Resetting.{fresh, Reset-out, resetOut, resetOf}
+use Rattle.paper.specs.Resetting.{fresh, resetOut, resetOf}
 use Rattle.facts.specs.Nets.{netIn, net-sound, network-length}
 use Rattle.local.specs.Sound.{sound}
 use Rattle.local.specs.Owners.{OnlyOwn, writes-own}
 use Rattle.local.specs.Outcome.{stepOf}
-use Rattle.local.specs.Depends.{SameFor, SameOut, SameLengths, depends-on}
+use Rattle.local.specs.Depends.{SameFor, SameOut, depends-on}
 use Rattle.stays.specs.Stays.{Long, fresh-well, stays}
 use Rattle.demands.specs.Step.{Judged, fits-long, call-of}
 

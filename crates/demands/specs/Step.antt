@@ -1,42 +1,41 @@
 -- T-step: an accepted step, in the paper's words. Assumes nothing.
-use Prim.Native.Nat.{ℕ, zero, suc, _+_, _≤_, _<_}
+use Prim.Native.Nat.{ℕ, _≤_}
 use native.Mathlib.Omega.{arith}
 use mathlib.Core.Path.{_≡_, refl, sym, ap, _∙_, subst}
-use mathlib.Core.Logic.{_≢_, _⊎_, inl, inr}
-use mathlib.Core.Bool.{Bool, true, false, cond, not, _&&_, _||_, true≢false}
-use mathlib.Core.List.{List, []}
+use mathlib.Core.Logic.{inr}
+use mathlib.Core.Bool.{Bool, true, false, _&&_, _||_}
+use mathlib.Core.List.{List}
 use lib.ListN.{length, getD}
-use lib.Dec.{leb, eqb}
-use lib.IntN.{ℤ, natAbs}
+use lib.Dec.{eqb}
+use lib.IntN.{natAbs}
 use borrow.Author.Tests.{eqb-true, eq-eqb, leb-true, not-false}
 use Rattle.paper.specs.declared.Advance.{Advance}
 use Rattle.paper.specs.declared.Advance.the-variants.{Took, Store, Network, State}
 use Rattle.paper.specs.declared.Rounded.the-variants.{Whole}
 use Rattle.whole.specs.Lists.{Words, z, word, upTo}
 use Rattle.whole.specs.Folds.{and-left, and-right, both}
-use Rattle.whole.specs.Members.{Among, among-at}
+use Rattle.whole.specs.Members.{among-at}
 use Rattle.paper.specs.Answers.{accepted}
-use Rattle.paper.specs.Rows.{Row, isBranch, isL, isC, isLine, isVS, from, to, at, limit}
+use Rattle.paper.specs.Rows.{isL, isC, isLine, at, limit}
 use Rattle.paper.specs.Faults.{fixes}
 use Rattle.paper.specs.Network.{isNetwork}
-use Rattle.paper.specs.Areas.{Net, areaOf, areaCount, rowArea, fixed, freeOf}
-use Rattle.paper.specs.Sources.{injected}
-use Rattle.paper.specs.Records.{countAt, voltAt, wellFormed}
-use Rattle.paper.specs.Legs.{Branch, Heard, heard, legsBy, bothLegs}
-use Rattle.paper.specs.Solve.{imbalance, unbalanced}
+use Rattle.paper.specs.Areas.{Net, fixed, freeOf}
+use Rattle.paper.specs.Records.{wellFormed}
+use Rattle.paper.specs.Legs.{Branch, Heard, heard}
+use Rattle.paper.specs.Solve.{unbalanced}
 use Rattle.paper.specs.Advance.{Memory, Advanced, advanced, written, onNet, fits, advanceOf}
 use Rattle.facts.specs.Nets.{NetSound, rowAt, netIn, net-sound}
-use Rattle.local.specs.Sound.{Sound, sound, line-branch}
+use Rattle.local.specs.Sound.{Sound, sound}
 use Rattle.local.specs.Own.{from-own, to-own, line-no}
 use Rattle.local.specs.Nodes.{NodeOf, free-of, of-free}
 use Rattle.local.specs.Written.{count-put, records-other}
-use Rattle.local.specs.Slots.{slotOf, sent-other}
-use Rattle.local.specs.Outcome.{stepOf, legsNow, voltsOf, lone, outside, heavy, large, Taken, taken, Solving, floats, leaves, tips, exceeds, solves, solving}
-use Rattle.stays.specs.Formed.{Formed, formed}
+use Rattle.local.specs.Slots.{sent-other}
+use Rattle.local.specs.Outcome.{stepOf, legsNow, voltsOf, outside, heavy, Taken, taken, Solving, floats, leaves, tips, exceeds, solves, solving}
+use Rattle.stays.specs.Formed.{formed}
 use Rattle.stays.specs.Stays.{Long, stop-move}
 use Rattle.stays.specs.Sizes.{own-branch}
 use Rattle.demands.specs.Said.{voltage, imbalanceAt, Stepped}
-use Rattle.demands.specs.Volts.{fixed-volt, free-whole, free-rising, all-first, first-all}
+use Rattle.demands.specs.Volts.{fixed-volt, free-whole, free-rising, first-all}
 use Rattle.demands.specs.Branches.{proposal, volt-of, plain-obeys, from-obeys, to-obeys}
 use Rattle.demands.specs.Balance.{imbalance-is}
 

@@ -1,17 +1,16 @@
 -- The voltages that a step proposes, node by node: ground's, a fixed node's, a free node's. Assumes nothing.
-use Prim.Native.Nat.{ℕ, zero, suc, _+_, _≤_, _<_}
-use native.Mathlib.Decide.{ℕ-discrete}
+use Prim.Native.Nat.{ℕ, zero, suc, _≤_, _<_}
 use native.Mathlib.Omega.{arith}
 use mathlib.Core.Path.{_≡_, refl, sym, ap, _∙_}
 use mathlib.Core.Logic.{_≢_, _⊎_, inl, inr}
 use mathlib.Core.Bool.{Bool, true, false, cond, not, _&&_, _||_, or-true, true≢false}
-use mathlib.Core.List.{List, [], _∷_, map, List·Memᴰ·cases-cons, List·Memᴰ·not-nil}
+use mathlib.Core.List.{List, [], _∷_, List·Memᴰ·cases-cons, List·Memᴰ·not-nil}
 use lib.ListN.{length, getD, set, length-set, take, length-map, replicate, length-replicate}
 use lib.Seq.{getD-set-same, getD-set-other, getD-take, length-take-le}
 use lib.Dec.{eqb}
 use lib.IntN.{ℤ, pos}
 use lib.Ieee.{Float, nan, fin}
-use borrow.Author.Tests.{eq-eqb, eqb-true, ne-eqb}
+use borrow.Author.Tests.{eq-eqb, ne-eqb}
 use Rattle.paper.specs.declared.Rounded.{Rounded}
 use Rattle.paper.specs.declared.Rounded.the-variants.{Whole, Outside}
 use Rattle.whole.specs.Lists.{Words, z, word, any, keep, numbers, first}
@@ -19,18 +18,16 @@ use Rattle.whole.specs.Folds.{getD-map, length-keep, count-le, length-numbers, 
 use Rattle.whole.specs.TurnLaws.{downs-keeps}
 use Rattle.whole.specs.Members.{Among, top, below, among-at}
 use Rattle.whole.specs.Rising.{Rising, rising-keep, rising-numbers, rising-over}
-use Rattle.paper.specs.Limits as Limits
-use Rattle.paper.specs.Rows.{Row, isVS, at}
 use Rattle.paper.specs.Faults.{fixes}
 use Rattle.paper.specs.Areas.{Net, areaOf, fixed, nodesOf, freeOf}
 use Rattle.paper.specs.Sources.{source, held, injected}
-use Rattle.paper.specs.Legs.{Leg, Branch, bothLegs}
+use Rattle.paper.specs.Legs.{Branch, bothLegs}
 use Rattle.paper.specs.Doubles.{nearestOf}
 use Rattle.paper.specs.Elimination.{System, voltages, solved, rowSolved, eliminated}
 use Rattle.paper.specs.Solve.{system, proposed, settled, outOfRange, stillOf}
 use Rattle.facts.specs.Nets.{NetSound, rowAt, held-is}
 use Rattle.sources.specs.Still.{still-at, still-length}
-use Rattle.local.specs.Nodes.{NodeOf, node-of, of-node, free-of, of-free}
+use Rattle.local.specs.Nodes.{NodeOf, node-of, of-node, free-of}
 use Rattle.local.specs.Outcome.{rounded, voltsOf}
 
 pub free-rising : (N : Net) (a : ℕ) → Rising 0 (freeOf N a)

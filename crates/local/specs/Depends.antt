@@ -3,32 +3,30 @@
 use Prim.Native.Nat.{ℕ, zero, suc, _+_, _-_, _≤_, _<_}
 use native.Mathlib.Omega.{arith}
 use mathlib.Core.Path.{_≡_, refl, sym, ap, _∙_, subst}
-use mathlib.Core.Logic.{_⊎_, inl, inr}
-use mathlib.Core.Bool.{Bool, true, false, cond, not, _&&_, _||_, true≢false}
+use mathlib.Core.Logic.{inl}
+use mathlib.Core.Bool.{Bool, true, false, cond, _&&_, _||_}
 use mathlib.Core.List.{List, [], _∷_}
 use lib.ListN.{length, getD}
-use lib.Dec.{leb, ltb, eqb}
+use lib.Dec.{leb, ltb}
 use lib.IntN.{ℤ}
 use borrow.Author.Tests.{leb-true, ltb-true, eqb-true}
 use Rattle.paper.specs.declared.Advance.{Advance}
-use Rattle.paper.specs.declared.Advance.the-variants.{Took, Wait}
+use Rattle.paper.specs.declared.Advance.the-variants.{Wait}
 use Rattle.whole.specs.Lists.{Words, z, word, nat}
 use Rattle.whole.specs.Folds.{and-left, and-right}
 use Rattle.whole.specs.Places.{place}
-use Rattle.paper.specs.Limits as Limits
-use Rattle.paper.specs.Rows.{Row, isLine, from, to, steps}
-use Rattle.paper.specs.Faults.{delay, slots}
-use Rattle.paper.specs.Areas.{Net, areaOf, areaCount, branchNumber, step}
+use Rattle.paper.specs.Rows.{Row, isLine, from, to}
+use Rattle.paper.specs.Areas.{Net, areaOf, areaCount, branchNumber}
 use Rattle.paper.specs.Records.{countAt, countOf, wellFormed}
 use Rattle.paper.specs.Legs.{Branch, Heard, here, sentTo, heardBy, heard, legsOf}
 use Rattle.paper.specs.Solve.{Step, stop, move, solve}
-use Rattle.paper.specs.Advance.{Memory, Advanced, advanced, written, finish, takeStep, ready, late, waitsFor, firstLate, orWait, onNext, onNet}
+use Rattle.paper.specs.Advance.{Memory, Advanced, advanced, written, finish, takeStep, ready, late, waitsFor, firstLate, onNext, onNet}
 use Rattle.facts.specs.Nets.{rowAt}
 use Rattle.local.specs.Sound.{Sound}
 use Rattle.local.specs.Own.{ownerOf, own-count, legs-same, map-same}
 use Rattle.local.specs.Slots.{slotOf, delayAt}
 use Rattle.local.specs.Waits.{countAtNode, late-place}
-use Rattle.local.specs.Outcome.{stepOf, legsNow, lateNow, isArea, isDone}
+use Rattle.local.specs.Outcome.{stepOf, legsNow, isArea, isDone}
 use Rattle.local.specs.Touch.{Touch, records-touch, store-touch}
 
 -- of two calls: one answer, and each word is left alone by both or is the same after both

@@ -1,10 +1,8 @@
 -- What a call over a well-formed state comes to: 11, 12, 13, one of 14 to 17, or a step. Assumes nothing.
-use Prim.Native.Nat.{ℕ, zero, suc, _+_, _≤_, _<_}
-use native.Mathlib.Omega.{arith}
+use Prim.Native.Nat.{ℕ, zero, suc, _≤_, _<_}
 use mathlib.Core.Path.{_≡_, refl, sym, ap, _∙_}
-use mathlib.Core.Bool.{Bool, true, false, cond, not, _&&_, true≢false}
-use mathlib.Core.List.{List, [], _∷_}
-use lib.ListN.{length}
+use mathlib.Core.Bool.{Bool, true, false, _&&_, true≢false}
+use mathlib.Core.List.{List}
 use lib.Dec.{leb}
 use borrow.Author.Tests.{leb-true, leb-false}
 use Rattle.paper.specs.declared.Advance.{Advance}
@@ -19,7 +17,7 @@ use Rattle.paper.specs.Sources.{injected}
 use Rattle.paper.specs.Records.{countOf, wellFormed}
 use Rattle.paper.specs.Legs.{Branch, bothLegs, heard, legsOf}
 use Rattle.paper.specs.Floating.{floating}
-use Rattle.paper.specs.Solve.{Step, stop, move, proposed, outOfRange, settled, unbalanced, firstBeyond, stillOf, solve, solvedStep, rangeStep, balanceStep, historyStep}
+use Rattle.paper.specs.Solve.{stop, move, proposed, outOfRange, settled, unbalanced, firstBeyond, stillOf, solve, solvedStep, rangeStep, balanceStep, historyStep}
 use Rattle.paper.specs.Advance.{Memory, Advanced, advanced, written, takeStep, ready, firstLate, onNext, onNet}
 
 -- ---- the step: 14 to 17, in turn

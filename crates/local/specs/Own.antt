@@ -4,19 +4,18 @@ use Prim.Native.Nat.{ℕ, zero, suc, _+_, _-_, _≤_, _<_}
 use native.Mathlib.Omega.{arith}
 use mathlib.Core.Path.{_≡_, refl, sym, ap, _∙_}
 use mathlib.Core.Logic.{_≢_}
-use mathlib.Core.Bool.{Bool, true, false, cond, not, _&&_, _||_, true≢false}
-use mathlib.Core.List.{List, [], _∷_, map}
-use lib.ListN.{length, getD, set, length-map}
+use mathlib.Core.Bool.{Bool, true, false, cond, _&&_, _||_, true≢false}
+use mathlib.Core.List.{List, [], map}
+use lib.ListN.{length, getD, length-map}
 use lib.Dec.{eqb, ltb}
-use lib.IntN.{ℤ, pos}
+use lib.IntN.{ℤ}
 use borrow.Author.Tests.{eqb-true, lt-ltb, le-ltb}
 use Rattle.whole.specs.Lists.{Words, z, word, numbers}
 use Rattle.whole.specs.Folds.{and-right, length-numbers, getD-numbers, getD-map}
-use Rattle.paper.specs.Limits as Limits
 use Rattle.paper.specs.Rows.{Row, kind, isBranch, isLine, isL, isC, from, to}
 use Rattle.paper.specs.Areas.{Net, areaOf, rowArea}
 use Rattle.paper.specs.Records.{countAt, voltAt, currentAt, toCurrentAt, historyAt}
-use Rattle.paper.specs.Legs.{Leg, leg, ownEnd, otherEnd, End, Branch, branch, Heard, here, lineEnd, lineLegs, plainLegs, legsBy, legsOf}
+use Rattle.paper.specs.Legs.{leg, ownEnd, otherEnd, Branch, branch, Heard, here, lineEnd, lineLegs, plainLegs, legsBy, legsOf}
 use Rattle.paper.specs.Advance.{branchIn}
 use Rattle.facts.specs.Nets.{rowAt}
 use Rattle.local.specs.Sound.{Sound}

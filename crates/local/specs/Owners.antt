@@ -3,27 +3,27 @@
 use Prim.Native.Nat.{ℕ, zero, suc, _+_, _%_, _≤_, _<_}
 use native.Mathlib.Nat.{mod-lt}
 use native.Mathlib.Omega.{arith}
-use mathlib.Core.Path.{_≡_, refl, sym, ap, _∙_}
+use mathlib.Core.Path.{_≡_, refl, ap, _∙_}
 use mathlib.Core.Logic.{_≢_}
-use mathlib.Core.Bool.{Bool, true, false, cond, _&&_}
+use mathlib.Core.Bool.{true, cond, _&&_}
 use mathlib.Core.List.{List, [], _∷_}
 use lib.ListN.{length, getD, take}
 use lib.Dec.{leb, ltb}
 use borrow.Author.Tests.{leb-true, lt-ltb, le-ltb, le-leb}
-use Rattle.whole.specs.Lists.{Words, z, word, sum}
+use Rattle.whole.specs.Lists.{Words, word, sum}
 use Rattle.whole.specs.Folds.{and-left, and-right}
 use Rattle.paper.specs.Rows.{Row, isLine, from, to}
 use Rattle.paper.specs.Faults.{slots}
 use Rattle.paper.specs.Areas.{Net, areaOf, areaCount, step}
 use Rattle.paper.specs.Records.{offset, wellFormed}
-use Rattle.paper.specs.Legs.{End, Branch, Heard, legsBy, heard}
-use Rattle.paper.specs.Advance.{Memory, Advanced, advanced, written, onNet}
+use Rattle.paper.specs.Legs.{Heard, heard}
+use Rattle.paper.specs.Advance.{Memory, Advanced, written, onNet}
 use Rattle.facts.specs.Nets.{rowAt}
 use Rattle.local.specs.Sound.{Sound}
-use Rattle.local.specs.Own.{ownerOf, currentOwner, from-own, to-own}
+use Rattle.local.specs.Own.{ownerOf, from-own, to-own}
 use Rattle.local.specs.Written.{records-keep}
-use Rattle.local.specs.Slots.{slotsAt, slotOf, some-slots, sends, sent, sent-other}
-use Rattle.local.specs.Outcome.{stepOf, legsNow, voltsOf, isArea, Outcome, no-area, done, waits, stops, takes, outcome}
+use Rattle.local.specs.Slots.{slotsAt, slotOf, some-slots, sent-other}
+use Rattle.local.specs.Outcome.{stepOf, legsNow, voltsOf, Outcome, no-area, done, waits, stops, takes, outcome}
 
 -- the area of the line end that keeps word j, the slots of `rows` beginning at `off`; 0 for an unused word
 unfoldable pub keeperIn : Net → (Row → ℕ) → ℕ → List Row → ℕ → ℕ

@@ -1,15 +1,15 @@
 -- What an area is about to hear is not touched by another area's step, where neither waits: "Each line end keeps its last 2d sent values".
 -- Assumes nothing.
-use Prim.Native.Nat.{ℕ, zero, suc, _+_, _-_, _*_, _%_, _≤_, _<_}
+use Prim.Native.Nat.{ℕ, suc, _+_, _-_, _%_, _≤_, _<_}
 use native.Mathlib.Nat.{mod-lt}
 use native.Mathlib.Omega.{arith}
-use mathlib.Core.Path.{_≡_, refl, sym, ap, _∙_, subst}
+use mathlib.Core.Path.{_≡_, subst}
 use mathlib.Core.Logic.{_≢_}
-use mathlib.Core.Bool.{Bool, true, false, _&&_}
-use mathlib.Core.List.{List, []}
+use mathlib.Core.Bool.{true}
+use mathlib.Core.List.{List}
 use lib.ListN.{length}
 use Rattle.order.specs.Ring.{ring-apart}
-use Rattle.whole.specs.Lists.{Words, z, word}
+use Rattle.whole.specs.Lists.{Words, word}
 use Rattle.whole.specs.Folds.{and-left, and-right}
 use Rattle.paper.specs.Rows.{Row, isLine, from, to}
 use Rattle.paper.specs.Areas.{Net, areaOf}
@@ -18,8 +18,8 @@ use Rattle.paper.specs.Legs.{End, Branch, Heard, legsBy, heard}
 use Rattle.facts.specs.Nets.{rowAt}
 use Rattle.local.specs.Sound.{Sound}
 use Rattle.local.specs.Own.{from-own, to-own}
-use Rattle.local.specs.Slots.{slotsAt, delayAt, slotOf, line-slots, some-slots, apart, sends, sent, sent-other}
-use Rattle.local.specs.Waits.{Allowed, Free}
+use Rattle.local.specs.Slots.{slotsAt, delayAt, slotOf, line-slots, some-slots, apart, sent, sent-other}
+use Rattle.local.specs.Waits.{Free}
 use Rattle.local.specs.Depends.{heard-same}
 
 module _ (N : Net) (a b : ℕ) (recs : Words) (ears : List Heard) (v : Words) (f : Sound N) where

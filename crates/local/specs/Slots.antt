@@ -1,24 +1,23 @@
 -- "Each line end keeps its last 2d sent values in a store of its own; slots stand in table order, step s in place s mod 2d": no two lines share a
 -- slot, and a step writes one slot of each of its own line ends. Assumes nothing.
-use Prim.Native.Nat.{ℕ, zero, suc, _+_, _*_, _%_, _≤_, _<_}
+use Prim.Native.Nat.{ℕ, _+_, _*_, _%_, _≤_, _<_}
 use native.Mathlib.Nat.{mod-lt, add-left-cancel}
 use native.Mathlib.Decide.{decLt}
 use native.Mathlib.Omega.{arith}
 use mathlib.Core.Path.{_≡_, refl, sym, ap, _∙_}
 use mathlib.Core.Logic.{_≢_}
-use mathlib.Core.Bool.{Bool, true, false, cond, _&&_}
-use mathlib.Core.List.{List, [], _∷_}
-use lib.ListN.{length, getD}
+use mathlib.Core.Bool.{Bool, true, _&&_}
+use mathlib.Core.List.{List}
+use lib.ListN.{length}
 use lib.IntN.{ℤ}
-use Rattle.whole.specs.Lists.{Words, z, word}
-use Rattle.whole.specs.Folds.{and-left, and-right}
-use Rattle.whole.specs.Turns.{turns}
-use Rattle.paper.specs.Rows.{Row, isLine}
+use Rattle.whole.specs.Lists.{Words, word}
+use Rattle.whole.specs.Folds.{and-left}
+use Rattle.paper.specs.Rows.{isLine}
 use Rattle.paper.specs.Faults.{delay, depth, slots}
 use Rattle.paper.specs.Areas.{Net, step}
 use Rattle.paper.specs.Records.{offset, slotCount}
 use Rattle.paper.specs.Legs.{End, Branch, Heard, legsBy, legsOf, passedOn}
-use Rattle.paper.specs.Advance.{putIf, branchIn, putSent, newStore}
+use Rattle.paper.specs.Advance.{putIf, putSent, newStore}
 use Rattle.facts.specs.Nets.{rowAt, slots-within, slots-apart}
 use Rattle.local.specs.Sound.{Sound}
 use Rattle.local.specs.Own.{row-is, legs-length, branch-is}

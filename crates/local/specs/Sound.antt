@@ -2,16 +2,15 @@
 use Prim.Native.Nat.{ℕ, _≤_, _<_}
 use native.Mathlib.Decide.{decLt}
 use native.Mathlib.Omega.{arith}
-use mathlib.Core.Path.{_≡_, refl, sym, ap, _∙_}
-use mathlib.Core.Bool.{Bool, true, false, true≢false}
+use mathlib.Core.Path.{_≡_, sym, ap, _∙_}
+use mathlib.Core.Bool.{true, true≢false}
 use mathlib.Core.List.{[]}
 use borrow.Author.Tests.{eqb-true}
 use lib.ListN.{length, List·getD-eq-default}
 use Rattle.paper.specs.Limits as Limits
 use Rattle.paper.specs.Rows.{Row, kind, isBranch, isLine, from, to}
-use Rattle.paper.specs.Conductance.{conductance}
 use Rattle.paper.specs.Faults.{delay}
-use Rattle.paper.specs.Areas.{Net, areaOf, areaCount, step, joins}
+use Rattle.paper.specs.Areas.{Net, areaOf, areaCount, step}
 use Rattle.paper.specs.Records.{slotCount}
 use Rattle.facts.specs.Nets.{NetSound, rowAt, area-count-most}
 

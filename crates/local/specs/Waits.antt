@@ -1,18 +1,16 @@
 -- 13 WAIT: "a far area's count is below k - d". Assumes nothing.
-use Prim.Native.Nat.{ℕ, zero, suc, _+_, _≤_, _<_}
+use Prim.Native.Nat.{ℕ, suc, _+_, _≤_, _<_}
 use native.Mathlib.Omega.{arith}
-use mathlib.Core.Path.{_≡_, refl, sym, ap, _∙_}
+use mathlib.Core.Path.{_≡_, refl, sym, _∙_}
 use mathlib.Core.Logic.{_⊎_, inl, inr}
-use mathlib.Core.Bool.{Bool, true, false, cond, not, _&&_, _||_, or-true, true≢false}
+use mathlib.Core.Bool.{Bool, true, false, _&&_, _||_, or-true, true≢false}
 use mathlib.Core.List.{List, [], _∷_}
-use lib.ListN.{length, getD}
-use lib.Dec.{eqb, ltb}
-use borrow.Author.Tests.{ltb-true, ltb-false, lt-ltb, le-ltb, eqb-true, eq-eqb, ne-eqb, eqb-false}
+use lib.ListN.{length}
+use borrow.Author.Tests.{ltb-true, ltb-false, lt-ltb, eqb-true, eq-eqb}
 use Rattle.whole.specs.Lists.{Words}
-use Rattle.whole.specs.Places.{place, Least, place-none, none-place}
+use Rattle.whole.specs.Places.{place, place-none, none-place}
 use Rattle.paper.specs.Rows.{Row, isLine, from, to}
-use Rattle.paper.specs.Faults.{delay}
-use Rattle.paper.specs.Areas.{Net, areaOf, step}
+use Rattle.paper.specs.Areas.{Net, areaOf}
 use Rattle.paper.specs.Records.{countOf}
 use Rattle.paper.specs.Legs.{here}
 use Rattle.paper.specs.Advance.{late, waitsFor, firstLate}

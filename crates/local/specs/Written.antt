@@ -1,23 +1,23 @@
 -- The records after an accepted step: which words it writes, what it puts there, and that it writes no others. Assumes nothing.
-use Prim.Native.Nat.{ℕ, zero, suc, _+_, _-_, _≤_, _<_}
+use Prim.Native.Nat.{ℕ, _-_, _≤_, _<_}
 use native.Mathlib.Omega.{arith}
 use native.Mathlib.Decide.{ℕ-discrete}
-use mathlib.Core.Path.{_≡_, refl, sym, ap, _∙_}
+use mathlib.Core.Path.{_≡_, refl, _∙_}
 use mathlib.Core.Logic.{_≢_, _⊎_, inl, inr}
-use mathlib.Core.Bool.{Bool, true, false, cond, _&&_, _||_, true≢false}
+use mathlib.Core.Bool.{Bool, true, false, _&&_, _||_}
 use mathlib.Core.List.{List, [], _∷_, List·Memᴰ·not-nil, List·Memᴰ·cases-cons}
-use lib.ListN.{length, getD, set, length-set}
+use lib.ListN.{length, set, length-set}
 use lib.Seq.{getD-set-same, getD-set-other}
 use lib.IntN.{ℤ, pos}
 use Rattle.whole.specs.Lists.{Words, z, word, fold}
 use Rattle.whole.specs.Folds.{and-left, and-right}
 use Rattle.whole.specs.Members.{Among, top, below}
 use Rattle.whole.specs.Turns.{turns}
-use Rattle.paper.specs.Rows.{Row, isLine, isL, isC, to}
-use Rattle.paper.specs.Areas.{Net, areaOf, nodesOf}
+use Rattle.paper.specs.Rows.{isLine, isL, isC}
+use Rattle.paper.specs.Areas.{Net, nodesOf}
 use Rattle.paper.specs.Records.{countAt, voltAt, currentAt, toCurrentAt, historyAt}
 use Rattle.paper.specs.Legs.{Branch, Heard, legsBy, legsOf, current, passedOn}
-use Rattle.paper.specs.Advance.{putIf, branchIn, putRow, putVolts, newRecords}
+use Rattle.paper.specs.Advance.{putIf, putRow, putVolts, newRecords}
 use Rattle.facts.specs.Nets.{rowAt}
 use Rattle.local.specs.Sound.{Sound}
 use Rattle.local.specs.Own.{ownerOf, currentOwner, own-count, own-volt, own-current, own-to, own-history, row-is, from-own, to-own, legs-length, branch-is, line-no}

@@ -2,9 +2,9 @@
 -- from far ends, and what it is about to hear is not disturbed. From these the diamond. Assumes nothing.
 use Prim.Native.Nat.{ℕ}
 use native.Mathlib.Decide.{ℕ-discrete}
-use mathlib.Core.Path.{_≡_, refl, sym, ap, _∙_}
+use mathlib.Core.Path.{_≡_, sym, _∙_}
 use mathlib.Core.Logic.{_≢_}
-use mathlib.Core.Bool.{Bool, true, false}
+use mathlib.Core.Bool.{true, false}
 use Rattle.order.specs.Calls.{Moves}
 use Rattle.order.specs.Diamond.{Laws}
 

@@ -1,39 +1,39 @@
 -- T-received: what a line end hears at its area's accepted step k is what the far end sent at its own accepted step k - d of that run, and 0 where
 -- k - d < 1; and there is one such step. Assumes nothing.
-use Prim.Native.Nat.{ℕ, zero, suc, _+_, _-_, _*_, _%_, _≤_, _<_}
+use Prim.Native.Nat.{ℕ, suc, _+_, _-_, _≤_, _<_}
 use native.Mathlib.Omega.{arith}
-use mathlib.Core.Path.{_≡_, refl, sym, ap, _∙_, subst}
+use mathlib.Core.Path.{_≡_, refl, sym, ap, _∙_}
 use mathlib.Core.Logic.{_⊎_, inl, inr}
-use mathlib.Core.Bool.{Bool, true, false, cond, _&&_}
-use mathlib.Core.List.{List, [], _∷_, _++_, append-assoc}
+use mathlib.Core.Bool.{Bool, true, false, _&&_}
+use mathlib.Core.List.{List, [], _∷_, _++_}
 use lib.ListN.{length}
-use lib.Dec.{ltb, eqb}
+use lib.Dec.{eqb}
 use lib.IntN.{ℤ}
 use borrow.Author.Tests.{lt-ltb, le-ltb, eq-eqb}
 use Rattle.paper.specs.declared.Advance.{Advance}
 use Rattle.paper.specs.declared.Advance.the-variants.{Took}
 use Rattle.whole.specs.Lists.{Words, z, word}
 use Rattle.paper.specs.Answers.{accepted}
-use Rattle.paper.specs.Rows.{Row, isLine, from, to}
+use Rattle.paper.specs.Rows.{isLine}
 use Rattle.paper.specs.Faults.{depth}
-use Rattle.paper.specs.Areas.{Net, areaOf}
+use Rattle.paper.specs.Areas.{Net}
 use Rattle.paper.specs.Records.{countOf, offset}
 use Rattle.paper.specs.Legs.{sentTo}
 use Rattle.paper.specs.Advance.{Memory, Advanced, advanceOf}
 use Rattle.facts.specs.Nets.{netIn, rowAt, net-sound}
 use Rattle.order.specs.Calls.{put}
-use Rattle.order.specs.Ring.{Holds, slot, places, holds-read}
+use Rattle.order.specs.Ring.{Holds, places, holds-read}
 use Rattle.local.specs.Sound.{Sound, sound}
-use Rattle.local.specs.Slots.{slotsAt, delayAt, slotOf, line-slots}
-use Rattle.local.specs.Waits.{Allowed, Free, not-late}
+use Rattle.local.specs.Slots.{delayAt, slotOf, line-slots}
+use Rattle.local.specs.Waits.{Allowed, not-late}
 use Rattle.local.specs.Outcome.{stepOf}
 use Rattle.stays.specs.Formed.{Formed, formed}
 use Rattle.runs.specs.Runs.{Lent, after, accepts, taken}
-use Rattle.runs.specs.Moves.{Inv, took, call-is}
+use Rattle.runs.specs.Moves.{took, call-is}
 use Rattle.demands.specs.Said.{IsArea}
 use Rattle.runs.specs.Orders.{start, run-inv, area-of-accepted}
 use Rattle.runs.specs.Refused.{counts-are}
-use Rattle.runs.specs.Received.{Side, fromSide, toSide, far, nodeAt, storeOf, areaAt, StepIn, Sent, slots-hold}
+use Rattle.runs.specs.Received.{Side, fromSide, toSide, far, storeOf, areaAt, StepIn, Sent, slots-hold}
 
 -- the history of the end at side s of line i at step k, by the definition of a step: what stands in the far end's store
 abbrev pub hears : Net → Memory → ℕ → Side → ℕ → ℤ

@@ -9,13 +9,13 @@ use lib.IntN.{ℤ, negℤ, _+ℤ_}
 use borrow.Author.Tests.{lt-ltb}
 use Rattle.paper.specs.declared.Advance.the-variants.{Took}
 use Rattle.whole.specs.Lists.{Words, word}
-use Rattle.paper.specs.Rows.{isLine, from, to}
-use Rattle.paper.specs.Areas.{Net, areaOf}
+use Rattle.paper.specs.Rows.{isLine}
+use Rattle.paper.specs.Areas.{Net}
 use Rattle.paper.specs.Legs.{sentTo}
 use Rattle.paper.specs.Advance.{Memory, advanceOf}
 use Rattle.facts.specs.Nets.{netIn, rowAt}
 use Rattle.local.specs.Slots.{delayAt, slotOf}
-use Rattle.demands.specs.Said.{fromCurrent, toCurrent, fromSent, toSent, gv, Stepped, EndObeys}
+use Rattle.demands.specs.Said.{fromCurrent, toCurrent, fromSent, toSent, gv, EndObeys}
 use Rattle.demands.specs.Step.{step}
 use Rattle.runs.specs.Runs.{Lent, after}
 use Rattle.runs.specs.Orders.{start}

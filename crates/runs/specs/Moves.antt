@@ -1,29 +1,27 @@
 -- The calls of an area as moves that do not disturb one another: each writes only its own words, reads only those and what it hears, and what
 -- another is about to hear is left alone. Assumes nothing.
-use Prim.Native.Nat.{ℕ, zero, suc, _+_, _≤_, _<_}
+use Prim.Native.Nat.{ℕ, suc, _≤_}
 use native.Mathlib.Decide.{ℕ-discrete}
 use native.Mathlib.Omega.{arith}
 use mathlib.Core.Path.{_≡_, refl, sym, ap, _∙_}
 use mathlib.Core.Logic.{_≢_}
 use mathlib.Core.Bool.{Bool, true, false, cond, not, _&&_, true≢false}
 use mathlib.Core.List.{List, []}
-use lib.ListN.{length}
 use lib.Seq.{ext-getD}
-use lib.Dec.{leb, eqb}
+use lib.Dec.{leb}
 use lib.IntN.{ℤ}
-use borrow.Author.Tests.{leb-true, eq-eqb, eqb-true}
+use borrow.Author.Tests.{leb-true}
 use Rattle.paper.specs.declared.Advance.{Advance}
 use Rattle.paper.specs.declared.Advance.the-variants.{Took, Network, Store, State, Area, Done, Wait, Floating, Range, Unbalanced, History}
 use Rattle.whole.specs.Lists.{Words, z, word}
-use Rattle.whole.specs.Folds.{and-left, and-right, both}
-use Rattle.paper.specs.Limits as Limits
+use Rattle.whole.specs.Folds.{and-left, and-right}
 use Rattle.paper.specs.Answers.{accepted}
-use Rattle.paper.specs.Rows.{isLine, from, to}
-use Rattle.paper.specs.Network.{isNetwork, tableOf}
-use Rattle.paper.specs.Areas.{Net, netOf, areaOf, areaCount}
+use Rattle.paper.specs.Rows.{from, to}
+use Rattle.paper.specs.Network.{isNetwork}
+use Rattle.paper.specs.Areas.{Net, areaOf, areaCount}
 use Rattle.paper.specs.Records.{countOf, wellFormed}
 use Rattle.paper.specs.Legs.{Heard, heard}
-use Rattle.paper.specs.Advance.{Memory, memory, Advanced, advanced, written, firstLate, onNet, fits, advanceOf}
+use Rattle.paper.specs.Advance.{Memory, memory, Advanced, advanced, written, firstLate, onNet, advanceOf}
 use Rattle.paper.specs.Kept.{advance-refused}
 use Rattle.facts.specs.Nets.{NetSound, net-sound, rowAt, netIn, area-of}
 use Rattle.order.specs.Calls.{Moves}
@@ -31,7 +29,7 @@ use Rattle.order.specs.Local.{Local}
 use Rattle.local.specs.Sound.{Sound, sound}
 use Rattle.local.specs.Own.{ownerOf}
 use Rattle.local.specs.Owners.{keeperOf, writes-own}
-use Rattle.local.specs.Waits.{Allowed, Free, not-late, late-not}
+use Rattle.local.specs.Waits.{Free, not-late, late-not}
 use Rattle.local.specs.Outcome.{stepOf, legsNow, voltsOf, lateNow, isArea, isDone, Outcome, no-area, done, waits, stops, takes, outcome, StepRefusal, floating14, range15, unbalanced16, history17, Taken}
 use Rattle.local.specs.Outcome as Outcome
 use Rattle.local.specs.Touch.{touch-same}

@@ -1,42 +1,33 @@
 -- Demand 3: any two orders of calls, refused ones among them, with equal counts of accepted advances in every area, agree in everything. Assumes
 -- nothing.
-use Prim.Native.Nat.{ℕ, zero, suc, _+_, _≤_, _<_}
-use native.Mathlib.Decide.{ℕ-discrete}
-use native.Mathlib.Omega.{arith}
-use mathlib.Core.Path.{_≡_, refl, sym, ap, _∙_, subst}
+use Prim.Native.Nat.{ℕ}
+use mathlib.Core.Path.{_≡_, refl, sym, ap, _∙_}
 use mathlib.Core.Logic.{_≢_}
-use mathlib.Core.Bool.{Bool, true, false, cond, not, _&&_, and-false, true≢false}
+use mathlib.Core.Bool.{Bool, true, false, _&&_, true≢false}
 use mathlib.Core.List.{List, [], _∷_}
 use lib.ListN.{length}
 use lib.Dec.{leb, eqb}
-use borrow.Author.Tests.{leb-true, le-leb, eqb-true, eqb-false, eq-eqb}
-use Rattle.paper.specs.declared.Advance.{Advance}
-use Rattle.paper.specs.declared.Advance.the-variants.{Took, Area, Done, Wait}
-use Rattle.whole.specs.Lists.{Words, z, word, nat}
+use borrow.Author.Tests.{leb-true, le-leb, eqb-true}
+use Rattle.whole.specs.Lists.{Words}
 use Rattle.whole.specs.Folds.{and-left, and-right, both}
-use Rattle.paper.specs.Answers.{accepted, advanceNumber}
-use Rattle.paper.specs.Rows.{isLine, from, to}
-use Rattle.paper.specs.Network.{isNetwork}
-use Rattle.paper.specs.Areas.{Net, areaOf, areaCount}
-use Rattle.paper.specs.Records.{countAt, countOf}
-use Rattle.paper.specs.Advance.{Memory, Advanced, onNet, fits, advanceOf}
+use Rattle.paper.specs.Answers.{accepted}
+use Rattle.paper.specs.Areas.{Net, areaCount}
+use Rattle.paper.specs.Advance.{Memory, advanceOf}
 use Rattle.paper.specs.Resetting.{fresh, Reset-out}
-use Rattle.facts.specs.Nets.{netIn, rowAt, area-of, net-sound}
+use Rattle.facts.specs.Nets.{netIn}
 use Rattle.order.specs.Same.{same}
 use Rattle.order.specs.Calls as C
 use Rattle.order.specs.Calls.{put}
 use Rattle.order.specs.Diamond.{Laws}
 use Rattle.order.specs.Orders as O
 use Rattle.order.specs.Local.{laws}
-use Rattle.local.specs.Sound.{sound}
-use Rattle.local.specs.Waits.{Free, late-not}
-use Rattle.local.specs.Outcome.{stepOf, isArea, StepRefusal, floating14, range15, unbalanced16, history17, Outcome, no-area, done, waits, stops, takes, outcome}
+use Rattle.local.specs.Outcome.{isArea, Outcome}
 use Rattle.local.specs.Outcome as Outcome
 use Rattle.stays.specs.Stays.{fresh-well}
 use Rattle.demands.specs.Said.{IsArea}
 use Rattle.demands.specs.States.{fresh-long, reset-is}
-use Rattle.runs.specs.Runs.{Lent, reset, after, accepts, taken, firm}
-use Rattle.runs.specs.Moves.{Inv, called, keep, moves, local, own-count, other-count, moved, took, free-firm}
+use Rattle.runs.specs.Runs.{Lent, reset, after, accepts, taken}
+use Rattle.runs.specs.Moves.{Inv, called, keep, moves, local}
 
 module _ (net : Words) (lent : Memory) (ok : Lent net lent) where
   abbrev N : Net

@@ -1,40 +1,34 @@
 -- "h is what the far end sent at step k - d, or 0 where k - d < 1": over every run, what a line end hears at its area's accepted step k is what stood
 -- in the far end's slot right after the far area's own accepted step k - d of that run. Assumes nothing.
-use Prim.Native.Nat.{ℕ, zero, suc, _+_, _-_, _*_, _%_, _≤_, _<_}
+use Prim.Native.Nat.{ℕ, suc, _+_, _-_, _%_, _≤_, _<_}
 use native.Mathlib.Nat.{mod-lt}
 use native.Mathlib.Decide.{ℕ-discrete}
 use native.Mathlib.Omega.{arith}
 use mathlib.Core.Path.{_≡_, refl, sym, ap, _∙_, subst}
 use mathlib.Core.Logic.{_≢_}
-use mathlib.Core.Bool.{Bool, true, false, cond, _&&_, true≢false}
+use mathlib.Core.Bool.{Bool, true, false}
 use mathlib.Core.List.{List, [], _∷_, _++_, append-assoc, append-nil}
-use lib.ListN.{length, getD}
+use lib.ListN.{length}
 use lib.Seq.{append-snoc}
-use lib.IntN.{ℤ, pos}
-use Rattle.paper.specs.declared.Advance.{Advance}
+use lib.IntN.{ℤ}
 use Rattle.paper.specs.declared.Advance.the-variants.{Took}
-use Rattle.whole.specs.Lists.{Words, z, word}
-use Rattle.whole.specs.Folds.{and-left, and-right}
+use Rattle.whole.specs.Lists.{Words, word}
+use Rattle.whole.specs.Folds.{and-left}
 use Rattle.paper.specs.Answers.{accepted}
 use Rattle.paper.specs.Rows.{Row, isLine, from, to}
-use Rattle.paper.specs.Faults.{depth}
-use Rattle.paper.specs.Areas.{Net, areaOf, areaCount}
+use Rattle.paper.specs.Areas.{Net, areaOf}
 use Rattle.paper.specs.Records.{countOf, offset}
-use Rattle.paper.specs.Legs.{End, Branch, Heard, heard, legsBy}
-use Rattle.paper.specs.Advance.{Memory, Advanced, written, onNet, advanceOf}
+use Rattle.paper.specs.Legs.{End, Branch, Heard, heard}
+use Rattle.paper.specs.Advance.{Memory, Advanced, written, advanceOf}
 use Rattle.paper.specs.Kept.{advance-refused}
 use Rattle.facts.specs.Nets.{netIn, rowAt, area-of, net-sound}
-use Rattle.order.specs.Ring.{slot, Holds, holds-still, holds-sent, holds-read}
-use Rattle.local.specs.Sound.{Sound, sound, row-there, line-branch}
-use Rattle.local.specs.Own.{from-own, to-own}
-use Rattle.local.specs.Owners.{keeperOf, keeper-of}
-use Rattle.local.specs.Slots.{slotsAt, delayAt, slotOf, line-slots, some-slots, apart, sends, sent, sent-other}
-use Rattle.local.specs.Waits.{Allowed, Free, not-late}
+use Rattle.order.specs.Ring.{slot, Holds, holds-still, holds-sent}
+use Rattle.local.specs.Sound.{Sound, sound}
+use Rattle.local.specs.Owners.{keeper-of}
+use Rattle.local.specs.Slots.{slotsAt, slotOf, some-slots, apart, sent, sent-other}
 use Rattle.local.specs.Outcome.{stepOf, legsNow, voltsOf, Taken}
-use Rattle.stays.specs.Formed.{Formed, formed}
 use Rattle.runs.specs.Runs.{Lent, after, accepts}
-use Rattle.runs.specs.Moves.{Cell, recordWord, fromWord, toWord, Inv, called, keep, writes, took, call-is, moved, next, own-count, other-count}
-use Rattle.demands.specs.Said.{IsArea}
+use Rattle.runs.specs.Moves.{fromWord, toWord, Inv, writes, took, call-is, moved, next, own-count, other-count}
 use Rattle.runs.specs.Orders.{start, run-inv}
 use Rattle.runs.specs.Refused.{counts-are}
 

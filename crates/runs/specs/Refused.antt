@@ -1,21 +1,19 @@
 -- What a run is answered: never 8, 9 or 10; a refusal of 14 to 17 at the same step in every order; never 13 where an area has the fewest steps.
 -- Assumes nothing.
-use Prim.Native.Nat.{ℕ, zero, suc, _+_, _≤_, _<_}
-use native.Mathlib.Decide.{ℕ-discrete}
+use Prim.Native.Nat.{ℕ, suc, _+_, _≤_}
 use native.Mathlib.Omega.{arith}
 use mathlib.Core.Path.{_≡_, refl, sym, ap, _∙_, subst}
 use mathlib.Core.Logic.{_≢_}
-use mathlib.Core.Bool.{Bool, true, false, cond, not, _&&_, true≢false}
+use mathlib.Core.Bool.{Bool, true, false, _&&_}
 use mathlib.Core.List.{List, [], _∷_}
-use lib.ListN.{length, replicate}
+use lib.ListN.{length}
 use lib.Dec.{eqb}
 use borrow.Author.Tests.{eqb-true, eqb-false}
 use Rattle.paper.specs.declared.Advance.{Advance}
-use Rattle.paper.specs.declared.Advance.the-variants.{Took, Area, Done, Wait}
-use Rattle.whole.specs.Lists.{Words, z, word, nat}
+use Rattle.whole.specs.Lists.{Words, z, nat}
 use Rattle.paper.specs.Answers.{accepted, advanceNumber}
-use Rattle.paper.specs.Rows.{isLine, from, to}
-use Rattle.paper.specs.Areas.{Net, areaOf, areaCount, branchNumber}
+use Rattle.paper.specs.Rows.{from, to}
+use Rattle.paper.specs.Areas.{Net, areaOf}
 use Rattle.paper.specs.Records.{countAt, countOf}
 use Rattle.paper.specs.Advance.{Memory, Advanced, onNet, advanceOf}
 use Rattle.paper.specs.Kept.{advance-refused}
@@ -31,7 +29,7 @@ use Rattle.stays.specs.Stays.{zero-word}
 use Rattle.runs.specs.Runs.{Lent, after, accepts, taken, firm}
 use Rattle.runs.specs.Moves.{Inv, called, keep, moves, took, moved, own-count, other-count, free-firm}
 use Rattle.demands.specs.Said.{IsArea}
-use Rattle.runs.specs.Orders.{start, starts, start-inv, run-inv, run-is, count-is, diamond, area-of-accepted}
+use Rattle.runs.specs.Orders.{start, starts, start-inv, run-inv, run-is, count-is, diamond}
 
 -- the numbers that a run is answered
 pub record RunNumber (x : Advance) : Type 0 where

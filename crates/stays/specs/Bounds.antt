@@ -1,20 +1,18 @@
 -- Every word that an accepted step writes is within its end. Assumes nothing.
-use Prim.Native.Nat.{ℕ, zero, suc, _+_, _*_, _-_, _%_, _≤_, _<_}
+use Prim.Native.Nat.{ℕ, _-_, _%_, _≤_, _<_}
 use native.Mathlib.Nat.{mod-lt}
-use native.Mathlib.Omega.{arith}
-use mathlib.Core.Path.{_≡_, refl, sym, ap, _∙_}
-use mathlib.Core.Bool.{Bool, true, false, cond, not, _&&_, _||_}
+use mathlib.Core.Path.{_≡_, refl}
+use mathlib.Core.Bool.{Bool, true, _&&_, _||_}
 use mathlib.Core.List.{List, [], _∷_}
-use lib.ListN.{length, getD, set, replicate, getD-replicate}
+use lib.ListN.{length, set, getD-replicate}
 use lib.IntN.{ℤ, pos, natAbs}
-use Rattle.whole.specs.Lists.{Words, z, word, nat, fold}
+use Rattle.whole.specs.Lists.{Words, word, fold}
 use Rattle.whole.specs.Members.{Among, top, below}
-use Rattle.whole.specs.Folds.{and-left, and-right}
-use Rattle.whole.specs.Turns.{turns}
+use Rattle.whole.specs.Folds.{and-left}
 use Rattle.whole.specs.TurnLaws.{turns-keeps}
 use Rattle.paper.specs.Limits as Limits
-use Rattle.paper.specs.Rows.{Row, isBranch, isLine, isL, isC, steps}
-use Rattle.paper.specs.Areas.{Net, areaOf, areaCount, nodesOf}
+use Rattle.paper.specs.Rows.{isLine, isL, isC, steps}
+use Rattle.paper.specs.Areas.{Net, areaCount, nodesOf}
 use Rattle.paper.specs.Records.{countAt, voltAt, currentAt, toCurrentAt, historyAt, slotCount}
 use Rattle.paper.specs.Legs.{End, Branch, Heard, heard, legsBy, legsOf, current, passedOn}
 use Rattle.paper.specs.Advance.{Memory, putIf, putRow, putVolts, newRecords, putSent, newStore}
@@ -27,7 +25,7 @@ use Rattle.local.specs.Puts.{put-with}
 use Rattle.local.specs.Slots.{slotsAt, slotOf, some-slots, slots-inside, sent-as}
 use Rattle.stays.specs.Formed.{Formed, endAt, slotEnd, end-count, end-volt, end-current, end-to, end-history}
 use Rattle.stays.specs.Volts.{AllVolts}
-use Rattle.stays.specs.Sizes.{Ranged, current-size, ends-ranged, own-branch, InRange, none-beyond}
+use Rattle.stays.specs.Sizes.{current-size, ends-ranged, own-branch, InRange}
 
 -- ---- words within their ends
 

@@ -1,22 +1,22 @@
 -- 10 STATE, word by word: "Records are well formed when counts are 0 to steps, voltages, histories and sent values are in range, current magnitudes
 -- are at most 1.4·10^17, areas at a line's two ends differ by at most d in count, and unused words are zero". Assumes nothing.
-use Prim.Native.Nat.{ℕ, zero, suc, _+_, _-_, _≤_, _<_}
+use Prim.Native.Nat.{ℕ, _+_, _-_, _≤_, _<_}
 use native.Mathlib.Omega.{arith}
 use mathlib.Core.Path.{_≡_, refl, sym, ap, _∙_}
-use mathlib.Core.Bool.{Bool, true, false, cond, not, _&&_, _||_, true≢false}
-use mathlib.Core.List.{List, [], _∷_, _++_, map}
+use mathlib.Core.Bool.{Bool, true, false, not, _&&_, _||_, true≢false}
+use mathlib.Core.List.{List, [], _++_, map}
 use lib.ListN.{length, getD, take, replicate, length-replicate, getD-replicate, length-map}
 use lib.Dec.{leb}
-use lib.IntN.{ℤ, pos, natAbs}
+use lib.IntN.{natAbs}
 use lib.Signed.{nonNeg}
 use borrow.Author.Tests.{leb-true, le-leb}
-use Rattle.whole.specs.Lists.{Words, z, word, every, within, filled}
+use Rattle.whole.specs.Lists.{word, every, within, filled}
 use Rattle.whole.specs.Folds.{and-left, and-right, both, every-at, every-if, getD-map}
 use Rattle.whole.specs.Within.{within-at, at-within, take-every, every-take, first-block, next-blocks}
 use Rattle.paper.specs.Limits as Limits
 use Rattle.paper.specs.Rows.{Row, isLine, from, to, steps}
-use Rattle.paper.specs.Areas.{Net, areaOf, areaCount}
-use Rattle.paper.specs.Records.{countAt, voltAt, currentAt, toCurrentAt, historyAt, countOf, slotCount, currentEndOf, toCurrentEndOf, historyEndOf, ends, near, storeFormed, wellFormed}
+use Rattle.paper.specs.Areas.{Net, areaCount}
+use Rattle.paper.specs.Records.{countAt, voltAt, currentAt, toCurrentAt, historyAt, slotCount, currentEndOf, toCurrentEndOf, historyEndOf, ends, near, storeFormed, wellFormed}
 use Rattle.paper.specs.Advance.{Memory}
 use Rattle.facts.specs.Nets.{rowAt}
 use Rattle.local.specs.Sound.{Sound}

@@ -1,31 +1,31 @@
 -- "current magnitudes are at most 1.4·10^17": a conductance of 10^9 at most, times a voltage between two nodes of 4·10^7 at most, and a history of
 -- 10^17 at most. What is passed on is in its range by refusal 17. Assumes nothing.
-use Prim.Native.Nat.{ℕ, zero, suc, _+_, _*_, _-_, _%_, _^_, _≤_, _<_}
+use Prim.Native.Nat.{ℕ, zero, suc, _*_, _-_, _^_, _≤_, _<_}
 use native.Mathlib.Omega.{arith}
 use mathlib.Core.Path.{_≡_, refl, sym, ap, _∙_, subst}
-use mathlib.Core.Bool.{Bool, true, false, cond, not, _&&_, _||_, true≢false}
-use mathlib.Core.List.{List, [], _∷_, map}
-use lib.ListN.{length, getD, length-map, List·getD-eq-default, replicate}
-use lib.Dec.{eqb, ltb, leb}
-use lib.IntN.{ℤ, pos, negℤ, natAbs, _-ℤ_, _*ℤ_}
+use mathlib.Core.Bool.{Bool, true, false, cond, _&&_, _||_, true≢false}
+use mathlib.Core.List.{List, [], _∷_}
+use lib.ListN.{length, getD, replicate}
+use lib.Dec.{eqb, ltb}
+use lib.IntN.{ℤ, pos, natAbs, _-ℤ_, _*ℤ_}
 use borrow.Author.Tests.{leb-true, not-false}
 use Rattle.whole.specs.Lists.{Words, z, word, upTo, numbers}
 use Rattle.whole.specs.Int.{abs-neg, abs-add-le, abs-sub-le, abs-mul-le}
 use Rattle.whole.specs.Folds.{and-left, and-right, length-numbers, getD-map, getD-numbers}
 use Rattle.whole.specs.Places.{place, place-none}
 use Rattle.paper.specs.Limits as Limits
-use Rattle.paper.specs.Rows.{Row, kind, isBranch, isLine, isL, isC, from, to}
+use Rattle.paper.specs.Rows.{Row, isBranch, isLine, isL, isC, from, to}
 use Rattle.paper.specs.Conductance.{conductance}
-use Rattle.paper.specs.Areas.{Net, areaOf, rowArea, step}
-use Rattle.paper.specs.Records.{historyAt, slotCount, historyEndOf}
-use Rattle.paper.specs.Legs.{Leg, leg, idle, End, ownEnd, otherEnd, Branch, branch, Heard, here, sentTo, heardBy, heard, isOpen, conducts, lineEnd, lineLegs, plainLegs, legsBy, legsOf, through, current, passedOn}
+use Rattle.paper.specs.Areas.{Net, rowArea, step}
+use Rattle.paper.specs.Records.{historyAt, slotCount}
+use Rattle.paper.specs.Legs.{Leg, idle, otherEnd, Branch, branch, Heard, here, sentTo, heardBy, heard, isOpen, conducts, lineEnd, lineLegs, plainLegs, legsBy, legsOf, through, current, passedOn}
 use Rattle.paper.specs.Solve.{beyond, firstBeyond}
-use Rattle.paper.specs.Advance.{Memory, branchIn}
+use Rattle.paper.specs.Advance.{Memory}
 use Rattle.facts.specs.Nets.{NetSound, rowAt}
-use Rattle.local.specs.Sound.{Sound, sound, row-there, line-branch}
+use Rattle.local.specs.Sound.{sound, row-there, line-branch}
 use Rattle.local.specs.Own.{deaf, byKind, row-is, legs-length, branch-is}
 use Rattle.local.specs.Slots.{slotOf, delayAt}
-use Rattle.stays.specs.Formed.{Formed, endAt, slotEnd, end-history}
+use Rattle.stays.specs.Formed.{Formed, slotEnd, end-history}
 use Rattle.stays.specs.Volts.{AllVolts}
 
 -- a leg within the paper's ends

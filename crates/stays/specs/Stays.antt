@@ -7,25 +7,24 @@ use mathlib.Core.Logic.{_≢_}
 use mathlib.Core.Bool.{Bool, true, false}
 use mathlib.Core.List.{List}
 use lib.ListN.{length, replicate}
-use lib.IntN.{pos}
 use lib.Signed.{nonNeg}
 use Rattle.paper.specs.declared.Advance.{Advance}
 use Rattle.whole.specs.Lists.{Words, z, word, nat}
 use Rattle.paper.specs.Limits as Limits
 use Rattle.paper.specs.Answers.{accepted}
-use Rattle.paper.specs.Rows.{isLine, from, to, steps}
+use Rattle.paper.specs.Rows.{from, to, steps}
 use Rattle.paper.specs.Areas.{Net, areaOf, areaCount}
 use Rattle.paper.specs.Records.{countAt, countOf, wellFormed}
 use Rattle.paper.specs.Legs.{Heard, heard, legsBy}
-use Rattle.paper.specs.Solve.{Step, stop, move, solve}
-use Rattle.paper.specs.Advance.{Memory, Advanced, written, onNet}
+use Rattle.paper.specs.Solve.{stop, move, solve}
+use Rattle.paper.specs.Advance.{Memory, written, onNet}
 use Rattle.paper.specs.Resetting.{fresh}
 use Rattle.facts.specs.Nets.{NetSound, rowAt, area-of}
 use Rattle.local.specs.Sound.{Sound, sound}
 use Rattle.local.specs.Own.{own-count}
 use Rattle.local.specs.Written.{new, records-length, records-keep, records-other, count-put}
 use Rattle.local.specs.Slots.{delayAt, sent-length}
-use Rattle.local.specs.Waits.{countAtNode, Allowed, Free, not-late}
+use Rattle.local.specs.Waits.{Free, not-late}
 use Rattle.local.specs.Outcome.{stepOf, legsNow, voltsOf, large, Taken, taken, refused, Solving, floats, leaves, tips, exceeds, solves, solving}
 use Rattle.stays.specs.Formed.{Formed, formed, well-formed}
 use Rattle.stays.specs.Volts.{AllVolts, step-volts}

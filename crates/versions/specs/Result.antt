@@ -1,21 +1,20 @@
 -- T-step leaves no choice: there is one memory that area a's step k may give. Assumes nothing.
-use Prim.Native.Nat.{ℕ, zero, suc, _+_, _-_, _≤_, _<_}
+use Prim.Native.Nat.{ℕ, zero, suc, _-_, _≤_, _<_}
 use native.Mathlib.Omega.{arith}
 use native.Mathlib.Decide.{ℕ-discrete, decLt, decLe}
 use mathlib.Core.Path.{_≡_, refl, sym, ap, _∙_, subst}
-use mathlib.Core.Logic.{_≢_, _⊎_, inl, inr}
-use mathlib.Core.Bool.{Bool, true, false, cond, not, _&&_, _||_, true≢false}
-use mathlib.Core.List.{List, []}
+use mathlib.Core.Logic.{_≢_}
+use mathlib.Core.Bool.{Bool, true, false, cond, _&&_, _||_, true≢false}
+use mathlib.Core.List.{List}
 use lib.ListN.{length, getD}
 use lib.Seq.{ext-getD}
 use lib.Dec.{eqb}
-use lib.IntN.{ℤ}
 use borrow.Author.Tests.{eqb-true, eq-eqb}
 use Rattle.whole.specs.Lists.{Words, z, word, numbers}
 use Rattle.whole.specs.Folds.{and-left, and-right, both, length-numbers, getD-numbers}
 use Rattle.whole.specs.Places.{place, Least, place-none, place-least}
 use Rattle.paper.specs.Rows.{Row, isBranch, isL, isC, isLine, from, to}
-use Rattle.paper.specs.Areas.{Net, areaOf, areaCount, rowArea}
+use Rattle.paper.specs.Areas.{Net, areaOf, rowArea}
 use Rattle.paper.specs.Records.{countAt, voltAt, currentAt, toCurrentAt, historyAt}
 use Rattle.paper.specs.Advance.{Memory, memory}
 use Rattle.facts.specs.Nets.{NetSound, rowAt}
@@ -24,7 +23,7 @@ use Rattle.local.specs.Own.{line-no}
 use Rattle.local.specs.Nodes.{NodeOf}
 use Rattle.local.specs.Slots.{slotOf}
 use Rattle.stays.specs.Stays.{Long}
-use Rattle.demands.specs.Said.{IsArea, voltage, fromCurrent, toCurrent, history, fromSent, toSent, Stepped}
+use Rattle.demands.specs.Said.{IsArea, fromCurrent, toCurrent, fromSent, toSent, Stepped}
 use Rattle.demands.specs.Histories.{keeper}
 use Rattle.versions.specs.Volts.{volt-one, plain-one, history-one, current-one, sends-one}
 

@@ -3,28 +3,26 @@
 use Prim.Native.Nat.{ℕ, zero, suc, _+_, _-_, _≤_, _<_}
 use native.Mathlib.Omega.{arith}
 use native.Mathlib.Decide.{decLt, decLe}
-use mathlib.Core.Path.{_≡_, refl, sym, ap, _∙_, subst}
+use mathlib.Core.Path.{_≡_, refl, sym, ap, _∙_}
 use mathlib.Core.Logic.{_≢_, _⊎_, inl, inr}
-use mathlib.Core.Bool.{Bool, true, false, cond, not, _&&_, _||_, true≢false}
+use mathlib.Core.Bool.{Bool, true, false, _||_, true≢false}
 use mathlib.Core.List.{List, [], _∷_, List·Memᴰ·cases-cons, List·Memᴰ·not-nil}
 use lib.ListN.{length, getD}
-use lib.Dec.{eqb, leb}
-use lib.IntN.{ℤ, pos, negℤ, _+ℤ_, _-ℤ_}
+use lib.Dec.{leb}
+use lib.IntN.{ℤ, _+ℤ_}
 use borrow.Author.Tests.{eqb-true, eq-eqb, leb-true}
 use Rattle.paper.specs.declared.Rounded.the-variants.{Whole}
-use Rattle.whole.specs.Lists.{Words, z, word}
 use Rattle.whole.specs.Folds.{and-left, and-right, none-if}
 use Rattle.whole.specs.Members.{Among}
 use Rattle.whole.specs.Places.{place, place-none, place-least}
-use Rattle.paper.specs.Rows.{Row, kind, isBranch, isR, isL, isC, isLine, isSwitch, isVS, from, to, at, closes, opens}
+use Rattle.paper.specs.Rows.{Row, kind, isBranch, isL, isC, isLine, isSwitch, isVS, from, to, at, closes, opens}
 use Rattle.paper.specs.Faults.{fixes}
-use Rattle.paper.specs.Areas.{Net, areaOf, rowArea, fixed, freeOf}
+use Rattle.paper.specs.Areas.{Net, rowArea, fixed, freeOf}
 use Rattle.paper.specs.Advance.{Memory}
 use Rattle.facts.specs.Nets.{NetSound, rowAt, row-area-from, row-area-to}
-use Rattle.local.specs.Sound.{line-branch}
 use Rattle.local.specs.Nodes.{NodeOf, of-free}
 use Rattle.local.specs.Slots.{delayAt}
-use Rattle.demands.specs.Said.{voltage, fromCurrent, toCurrent, history, fromSent, toSent, gu, gv, Obeys, EndObeys, Stepped}
+use Rattle.demands.specs.Said.{voltage, fromCurrent, history, gu, gv, Obeys, EndObeys, Stepped}
 
 -- where a number stands in a list
 among-place : (l : List ℕ) {p : ℕ} → Among p l → (q : ℕ) × (q < length l) × (getD l q 0 ≡ p)

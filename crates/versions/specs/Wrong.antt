@@ -1,9 +1,9 @@
 -- "Check it against versions that refuse all calls, give one fixed voltage, write nothing, advance properly once and then repeat step 1, or raise
 -- the count unearned: demand 2 shuts out each". Assumes nothing.
-use Prim.Native.Nat.{ℕ, suc, _+_, _<_}
+use Prim.Native.Nat.{ℕ, suc, _<_}
 use native.Mathlib.Omega.{arith}
 use mathlib.Core.Path.{_≡_, refl, sym, ap, _∙_}
-use mathlib.Core.Bool.{Bool, true, false, cond}
+use mathlib.Core.Bool.{cond}
 use mathlib.Core.List.{List, [], _∷_}
 use lib.ListN.{length, set}
 use lib.Seq.{getD-set-same}
