@@ -81,15 +81,15 @@ module _ {near far : List ℕ} {g h : Words} {rows : ℕ} {still inject : Words}
   fitting = record {
     few = f .few;
     node = f .node;
-    pivot = λ p l. rw (m .pivot .at (getD free p 0) (f .node p l)) (fits (conductance-size s (getD free p 0) (2 * rows) (omega arith)) tt);
-    right = λ p l. rw (m .right .at (getD free p 0) (f .node p l)) (fits (drawn-sum s u (getD free p 0) (2 * rows) (omega arith)) tt);
+    pivot = λ p l. rw (m .pivot .at (getD free p 0) (f .above p l, f .node p l)) (fits (conductance-size s (getD free p 0) (2 * rows) (omega arith)) tt);
+    right = λ p l. rw (m .right .at (getD free p 0) (f .above p l, f .node p l)) (fits (drawn-sum s u (getD free p 0) (2 * rows) (omega arith)) tt);
     injected = λ p l. fits (inject-size i (getD free p 0)) tt;
-    side = λ p l. rw (m .right .at (getD free p 0) (f .node p l)) (fits (sub (inject-size i (getD free p 0)) (drawn-sum s u (getD free p 0) (2 * rows) (omega arith))) tt);
+    side = λ p l. rw (m .right .at (getD free p 0) (f .above p l, f .node p l)) (fits (sub (inject-size i (getD free p 0)) (drawn-sum s u (getD free p 0) (2 * rows) (omega arith))) tt);
     join = λ p q l k. rw (m .join .at p q l k) (toward-size s (getD free p 0) (getD free q 0) (2 * rows) (omega arith));
   }
 
   pivot-is : (p : ℕ) → p < n → word pivots (getD free p 0) ≡ entry all (getD free p 0) (getD free p 0)
-  pivot-is p l = m .pivot .at (getD free p 0) (f .node p l) ∙ sym (entry-same all (getD free p 0))
+  pivot-is p l = m .pivot .at (getD free p 0) (f .above p l, f .node p l) ∙ sym (entry-same all (getD free p 0))
 
   cell-is : (p q : ℕ) → p < n → q < n → (t : Bool) → eqb p q ≡ t → cond t (double (word pivots (getD free p 0))) (double (negℤ (word joins (cellOf p q)))) ≡ double (entry all (getD free p 0) (getD free q 0))
   cell-is p q l k true e = ap double (pivot-is p l) ∙ ap (λ (x : ℕ). double (entry all (getD free p 0) (getD free x 0))) (eqb-true p q e)
@@ -102,7 +102,7 @@ module _ {near far : List ℕ} {g h : Words} {rows : ℕ} {still inject : Words}
   unfolding equation
   row-is p l =
       equal (ap double (pivot-is p l))
-      (ap double (ap (λ (x : ℤ). word inject (getD free p 0) -ℤ x) (m .right .at (getD free p 0) (f .node p l)) ∙ sym (right-is all still (word inject (getD free p 0)) (getD free p 0))))
+      (ap double (ap (λ (x : ℤ). word inject (getD free p 0) -ℤ x) (m .right .at (getD free p 0) (f .above p l, f .node p l)) ∙ sym (right-is all still (word inject (getD free p 0)) (getD free p 0))))
 
   abbrev nodes : List ℕ
   nodes = take n free

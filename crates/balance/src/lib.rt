@@ -1,6 +1,6 @@
 // "At each free node the exact whole-number sum of currents leaving, minus injection, has magnitude at most the limit. A line counts at each end
 // with that end's own current."
-ghost use Prim.Native.Nat.{ℕ, _*_, _≤_, _<_};
+ghost use Prim.Native.Nat.{ℕ, _+_, _*_, _≤_, _<_};
 ghost use mathlib.Core.Path.{_≡_};
 ghost use lib.ListN.{take};
 ghost use lib.Dec.{T};
@@ -13,6 +13,27 @@ ghost use Rattle.wires.specs.Shares.{Volts};
 ghost use Rattle.wires.specs.Sums.{Sums};
 ghost use Rattle.wires.specs.Free.{Free, Injects};
 ghost use Rattle.balance.specs.Past.{Near, firstPast};
+
+// one leg more; at ground, where idle legs stand too, nothing is summed
+fn add_current(
+    near: &[usize; 160],
+    far: &[usize; 160],
+    g: &[i64; 160],
+    h: &[i64; 160],
+    rows: usize,
+    v: &[i64; 33],
+    j: usize,
+    sums: &mut [i64; 33],
+)
+    requires { ⌜ Sized (now near) (now far) (now g) (now h) rows × Volts (now v) ⌝ ∗ ⌜ j < 2 * rows ⌝ ∗ ⌜ Sums (current (now v)) (legsIn (now near) (now far) (now g) (now h) j) (now sums) ⌝ }
+    ensures { λ _. ⌜ Sums (current (now (v .entry))) (legsIn (now (near .entry)) (now (far .entry)) (now (g .entry)) (now (h .entry)) (j + 1)) (now (sums .exit)) ⌝ }
+{
+    let p = near[j];
+    if p != 0 {
+        let i = legs::current(near, far, g, h, rows, v, j);
+        legs::add(sums, p, i);
+    }
+}
 
 // by node, the currents that leave it
 fn currents(
@@ -30,9 +51,7 @@ fn currents(
     let legs = 2 * rows;
     let mut j = 0;
     while j < legs {
-        let p = near[j];
-        let i = legs::current(near, far, g, h, rows, v, j);
-        sums[p] = sums[p] + i;
+        add_current(near, far, g, h, rows, v, j, &mut sums);
         j += 1;
     }
     sums

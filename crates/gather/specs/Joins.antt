@@ -95,6 +95,15 @@ module _ {free place : List ℕ} {n : ℕ} (s : Placed free place n) (few : n �
         (sym (leaving-more (getD free a 0) (toward (getD free b 0)) near far g h j));
   }
 
+-- a leg at ground
+pub joins-skip : {free : List ℕ} {n : ℕ} → ((p : ℕ) → p < n → 0 < getD free p 0) → (near far : List ℕ) (g h : Words) (j : ℕ) {w : Words}
+    → Joins free n (legsIn near far g h j) w → getD near j 0 ≡ 0 → Joins free n (legsIn near far g h (j + 1)) w
+joins-skip {free} {n} above near far g h j s e = record { long = s .long; at = λ a b l m. s .at a b l m ∙ sym (leaving-more (getD free a 0) (toward (getD free b 0)) near far g h j ∙ elsewhere a b l) }
+  where
+    elsewhere : (a b : ℕ) → a < n → leaving (getD free a 0) (toward (getD free b 0)) (legsIn near far g h j) +ℤ cond (eqb (getD near j 0) (getD free a 0)) (toward (getD free b 0) (legAt near far g h j)) z
+        ≡ leaving (getD free a 0) (toward (getD free b 0)) (legsIn near far g h j)
+    elsewhere a b l = let q : eqb (getD near j 0) (getD free a 0) ≡ false = ne-eqb (getD near j 0) (getD free a 0) (λ d. omega (arith, above a l)) in rw q (+ℤ-idr _)
+
 -- ---- what the equations are made of, gathered in one pass
 pub record Gathered (free : List ℕ) (n : ℕ) (still : Words) (legs : List Leg) (pivots rights joins : Words) : Type 0 where
   pub pivot : Sums conductance legs pivots
@@ -106,4 +115,5 @@ pub record Met (near far : List ℕ) (g h : Words) (rows : ℕ) (still : Words) 
   pub sized : Sized near far g h rows
   pub volts : Volts still
   pub placed : Placed free place n
+  pub above : (p : ℕ) → p < n → 0 < getD free p 0
   pub few : n ≤ Limits.nodeEnd

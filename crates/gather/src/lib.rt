@@ -52,7 +52,7 @@ fn join(joins: &mut [i64; 1024], n: usize, p: usize, q: usize, x: i64)
     }
 }
 
-// one leg more
+// one leg more; at ground, where idle legs stand too, nothing is summed
 fn add_leg(
     near: &[usize; 160],
     far: &[usize; 160],
@@ -72,12 +72,14 @@ fn add_leg(
     ensures { λ _. ⌜ Gathered (now (free .entry)) n (now (still .entry)) (legsIn (now (near .entry)) (now (far .entry)) (now (g .entry)) (now (h .entry)) (j + 1)) (now (pivots .exit)) (now (rights .exit)) (now (joins .exit)) ⌝ }
 {
     let p = near[j];
-    let q = far[j];
-    let c = g[j];
-    legs::add(pivots, p, c);
-    let x = legs::drawn(near, far, g, h, rows, still, j);
-    legs::add(rights, p, x);
-    join(joins, n, place[p], place[q], c);
+    if p != 0 {
+        let q = far[j];
+        let c = g[j];
+        legs::add(pivots, p, c);
+        let x = legs::drawn(near, far, g, h, rows, still, j);
+        legs::add(rights, p, x);
+        join(joins, n, place[p], place[q], c);
+    }
 }
 
 // from the sums over no leg to the sums over all legs

@@ -75,7 +75,8 @@ pub fn drawn(
     ensures { λ r. ⌜ r ≡ drawn (now (still .entry)) (legAt (now (near .entry)) (now (far .entry)) (now (g .entry)) (now (h .entry)) j) ⌝ }
 {
     let q = far[j];
-    h[j] - g[j] * still[q]
+    let fixed = g[j] * still[q];
+    h[j] - fixed
 }
 
 // x more at node p

@@ -19,7 +19,7 @@ gather-requires c κs =
     let s = c .before .before .before .before .before .before .before .before in
     let a = s .args in
     let f = s .pre .1 .1 .0 in (
-      record { sized = s .pre .0 .0; volts = s .pre .0 .1; placed = c .before .before .before .before .before .before .places .ensures; few = f .few },
+      record { sized = s .pre .0 .0; volts = s .pre .0 .1; placed = c .before .before .before .before .before .before .places .ensures; above = f .above; few = f .few },
       record {
         pivot = sums-none conductance (a .near .now) (a .far .now) (a .g .now) (a .h .now);
         right = sums-none (drawn (a .still .now)) (a .near .now) (a .far .now) (a .g .now) (a .h .now);

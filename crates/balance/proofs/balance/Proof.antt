@@ -15,7 +15,7 @@ use Rattle.paper.specs.Legs.{current}
 use Rattle.paper.specs.Solve.{unbalanced}
 use Rattle.wires.specs.Wires.{legsIn, Sized}
 use Rattle.wires.specs.Shares.{Volts, current-sum, imbalance-is}
-use Rattle.wires.specs.Sums.{Sums}
+use Rattle.wires.specs.Sums.{Node, Sums}
 use Rattle.wires.specs.Free.{Free, Injects, inject-size, first-cong}
 use Rattle.balance.specs.Past.{Near, past, firstPast}
 use Rattle.balance.proofs.balance.Statement.{statement}
@@ -36,7 +36,7 @@ module _ {near far : List ℕ} {g h v w inject : Words} {rows : ℕ} (s : Sized 
       (λ i l.
       let m : i < n = rw (length-take-le n free (f .long)) at l in
       let e = getD-take n free i 0 m in
-      let k : getD (take n free) i 0 ≤ 32 = rw e (f .node i m) in
+      let k : Node (getD (take n free) i 0) = rw e (f .above i m, f .node i m) in
       ap (λ (x : ℤ). not (upTo (nat limit) x)) (ap (λ (x : ℤ). x -ℤ word inject (getD (take n free) i 0)) (a .at (getD (take n free) i 0) k) ∙ sym (imbalance-is (legsIn near far g h (2 * rows)) (λ p. word inject p) v (getD (take n free) i 0))))
 
 currents-requires : tie.Need-currents-requires

@@ -8,6 +8,7 @@ use mir.Syntax.{w64}
 use mir.Val.{toZ, ofZ}
 use mir.Facts.{toZ-ofZ}
 use Rattle.whole.specs.Lists.{nat, first}
+use Rattle.wires.specs.Sums.{Node}
 use Rattle.wires.specs.Free.{first-here, first-done}
 use Rattle.balance.specs.Past.{past, firstPast}
 use Rattle.balance.proofs.first_past.Statement.{statement}
@@ -20,8 +21,8 @@ abbrev μ-loop : tie.MeasureT-loop
 μ-loop a b free n limit i₀ i = n - i
 
 -- the node that the turn looks at
-at-node : (l : tie.At-loop Inv-loop μ-loop) → l .loop .i < l .before .args .n → getD (l .before .args .free .now) (l .loop .i) 0 ≤ 32
-at-node l h = l .before .pre .1 .0 .node (l .loop .i) h
+at-node : (l : tie.At-loop Inv-loop μ-loop) → l .loop .i < l .before .args .n → Node (getD (l .before .args .free .now) (l .loop .i) 0)
+at-node l h = (l .before .pre .1 .0 .above (l .loop .i) h, l .before .pre .1 .0 .node (l .loop .i) h)
 
 abbrev turn : tie.After-within Inv-loop μ-loop → tie.At-loop Inv-loop μ-loop
 turn c = c .before .before .before .before .before
@@ -32,7 +33,7 @@ told c =
     let l = turn c in
     let s = l .before in
     let p = getD (s .args .free .now) (l .loop .i) 0 in
-    let m : p ≤ 32 = at-node l (omega arith) in
+    let m : Node p = at-node l (omega arith) in
     ap not (simp (toZ-ofZ, s .fits .limit, s .pre .0 .one p m, s .pre .0 .other p m, s .pre .0 .miss p m) at (c .within .ensures))
 
 loop-holds : tie.Need-loop-holds Inv-loop μ-loop
@@ -46,23 +47,23 @@ element-copy-out-p : tie.Need-element-copy-out-p Inv-loop μ-loop
 element-copy-out-p c = omega (arith, c .before .before .pre .1 .0 .few)
 
 mul-within : tie.Need-mul-within Inv-loop μ-loop
-mul-within c = omega (arith, at-node (c .before .before) (omega arith))
+mul-within c = omega (arith, at-node (c .before .before) (omega arith) .1)
 
 element-copy-out-within : tie.Need-element-copy-out-within Inv-loop μ-loop
-element-copy-out-within c = omega (arith, at-node (c .before .before) (omega arith))
+element-copy-out-within c = omega (arith, at-node (c .before .before) (omega arith) .1)
 
 mul-within-2 : tie.Need-mul-within-2 Inv-loop μ-loop
-mul-within-2 c = omega (arith, at-node (c .before .before .before) (omega arith))
+mul-within-2 c = omega (arith, at-node (c .before .before .before) (omega arith) .1)
 
 element-copy-out-within-2 : tie.Need-element-copy-out-within-2 Inv-loop μ-loop
-element-copy-out-within-2 c = omega (arith, at-node (c .before .before .before) (omega arith))
+element-copy-out-within-2 c = omega (arith, at-node (c .before .before .before) (omega arith) .1)
 
 sub-within : tie.Need-sub-within Inv-loop μ-loop
 sub-within c =
     let l = c .before .before .before .before in
     let s = l .before in
     let p = getD (s .args .free .now) (l .loop .i) 0 in
-    let m : p ≤ 32 = at-node l (omega arith) in
+    let m : Node p = at-node l (omega arith) in
     simp (toZ-ofZ, s .pre .0 .one p m, s .pre .0 .other p m) (s .pre .0 .miss p m)
 
 within-requires : tie.Need-within-requires Inv-loop μ-loop

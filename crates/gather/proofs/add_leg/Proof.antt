@@ -3,6 +3,7 @@ use Prim.Native.Nat.{ℕ, _+_, _*_, _≤_, _<_}
 use mathlib.Core.Path.{_≡_, sym, ap, _∙_}
 use mathlib.Core.List.{List}
 use native.Mathlib.Omega.{arith}
+use native.Mathlib.Nat.{pos-of-ne-zero}
 use borrow.Author.Needs.{needs}
 use lib.ListN.{getD, set}
 use lib.IntN.{ℤ, _+ℤ_}
@@ -13,15 +14,15 @@ use Rattle.whole.specs.Lists.{Words, word}
 use Rattle.whole.specs.Size.{∣_∣≤_, add, fits}
 use Rattle.wires.specs.Wires.{legAt, legsIn}
 use Rattle.wires.specs.Shares.{conductance, drawn, g-size, g-is, conductance-size, toward-size, drawn-size, drawn-sum}
-use Rattle.wires.specs.Sums.{Sums, sums-more, sum-after}
-use Rattle.gather.specs.Joins.{Joins, joined, joins-more, cellOf, Met, Gathered}
+use Rattle.wires.specs.Sums.{Node, Sums, sums-more, sum-after, sums-skip}
+use Rattle.gather.specs.Joins.{Joins, joined, joins-more, joins-skip, cellOf, Met, Gathered}
 use Rattle.gather.proofs.add_leg.Statement.{statement}
 use Rattle.gather.proofs.add_leg.Tie as tie
 
-module _ {near far : List ℕ} {g h : Words} {rows : ℕ} {still : Words} {free place : List ℕ} {n : ℕ} (m : Met near far g h rows still free place n) (j : ℕ) (l : j < 2 * rows)
+module _ {near far : List ℕ} {g h : Words} {rows : ℕ} {still : Words} {free place : List ℕ} {n : ℕ} (m : Met near far g h rows still free place n) (j : ℕ) (l : j < 2 * rows) (off : getD near j 0 ≡ 0 → ⊥)
     {P R J : Words} (a : Gathered free n still (legsIn near far g h j) P R J) where
-  node : getD near j 0 ≤ 32
-  node = m .sized .near-end j l
+  node : Node (getD near j 0)
+  node = (pos-of-ne-zero off, m .sized .near-end j l)
 
   g-fits : SFits w64 (word g j)
   g-fits = fits (g-size (m .sized) j l) tt
@@ -56,8 +57,17 @@ module _ {near far : List ℕ} {g h : Words} {rows : ℕ} {still : Words} {free 
   after e f k = record {
     pivot = rw (e, sym leg-g) (sums-more conductance near far g h j (a .pivot) node);
     right = rw f (sums-more (drawn still) near far g h j (a .right) node);
-    join = rw (k, sym leg-g) (joins-more (m .placed) (m .few) near far g h j (a .join) node (m .sized .far-end j l));
+    join = rw (k, sym leg-g) (joins-more (m .placed) (m .few) near far g h j (a .join) (m .sized .near-end j l) (m .sized .far-end j l));
   }
+
+-- a leg at ground changes none of them
+skipped : {near far : List ℕ} {g h : Words} {rows : ℕ} {still : Words} {free place : List ℕ} {n : ℕ} → Met near far g h rows still free place n → (j : ℕ) → getD near j 0 ≡ 0
+    → {P R J : Words} → Gathered free n still (legsIn near far g h j) P R J → Gathered free n still (legsIn near far g h (j + 1)) P R J
+skipped {near} {far} {g} {h} {rows} {still} m j e a = record {
+  pivot = sums-skip conductance near far g h j (a .pivot) e;
+  right = sums-skip (drawn still) near far g h j (a .right) e;
+  join = joins-skip (m .above) near far g h j (a .join) e;
+}
 
 mul-p : tie.Need-mul-p
 mul-p c = search needs
@@ -79,38 +89,53 @@ element-copy-out-c c = search needs
 
 add-requires : tie.Need-add-requires
 add-requires c κs =
-    let s = c .before .before .before .before in let p = s .pre in let j = s .args .j in
-    (omega (arith, node (p .0) j (p .1 .0) (p .1 .1)), pivot-fits (p .0) j (p .1 .0) (p .1 .1), simp (toZ-ofZ, g-fits (p .0) j (p .1 .0) (p .1 .1)) (pivot-after (p .0) j (p .1 .0) (p .1 .1)))
+    let t = c .before .before .before in
+    let s = t .before .before in
+    let p = s .pre in
+    let j = s .args .j in
+    (omega (arith, p .0 .sized .near-end j (p .1 .0)), pivot-fits (p .0) j (p .1 .0) (t .if1 .taken) (p .1 .1), simp (toZ-ofZ, g-fits (p .0) j (p .1 .0) (t .if1 .taken) (p .1 .1)) (pivot-after (p .0) j (p .1 .0) (t .if1 .taken) (p .1 .1)))
 
 drawn-requires : tie.Need-drawn-requires
 drawn-requires c κs = search needs
 
 add-requires-2 : tie.Need-add-requires-2
 add-requires-2 c κs =
-    let s = c .before .before .before .before .before .before .before in let p = s .pre in let j = s .args .j in
-    (omega (arith, node (p .0) j (p .1 .0) (p .1 .1)), right-fits (p .0) j (p .1 .0) (p .1 .1), simp (c .before .drawn .ensures, toZ-ofZ, drawn-fits (p .0) j (p .1 .0) (p .1 .1)) (right-after (p .0) j (p .1 .0) (p .1 .1)))
+    let t = c .before .before .before .before .before .before in
+    let s = t .before .before in
+    let p = s .pre in
+    let j = s .args .j in
+    (omega (arith, p .0 .sized .near-end j (p .1 .0)), right-fits (p .0) j (p .1 .0) (t .if1 .taken) (p .1 .1), simp (c .before .drawn .ensures, toZ-ofZ, drawn-fits (p .0) j (p .1 .0) (t .if1 .taken) (p .1 .1)) (right-after (p .0) j (p .1 .0) (t .if1 .taken) (p .1 .1)))
 
 mul-join : tie.Need-mul-join
-mul-join c = let s = c .before .before .before .before .before .before .before .before .before in let p = s .pre in let j = s .args .j in omega (arith, node (p .0) j (p .1 .0) (p .1 .1))
+mul-join c = let t = c .before .before .before .before .before .before .before .before in let s = t .before .before in let p = s .pre in let j = s .args .j in omega (arith, p .0 .sized .near-end j (p .1 .0))
 
 element-copy-out-join : tie.Need-element-copy-out-join
-element-copy-out-join c = let s = c .before .before .before .before .before .before .before .before .before in let p = s .pre in let j = s .args .j in omega (arith, node (p .0) j (p .1 .0) (p .1 .1))
+element-copy-out-join c = let t = c .before .before .before .before .before .before .before .before in let s = t .before .before in let p = s .pre in let j = s .args .j in omega (arith, p .0 .sized .near-end j (p .1 .0))
 
 mul-join-2 : tie.Need-mul-join-2
-mul-join-2 c = let s = c .before .before .before .before .before .before .before .before .before .before in let p = s .pre in let j = s .args .j in omega (arith, p .0 .sized .far-end j (p .1 .0))
+mul-join-2 c = let t = c .before .before .before .before .before .before .before .before .before in let s = t .before .before in let p = s .pre in let j = s .args .j in omega (arith, p .0 .sized .far-end j (p .1 .0))
 
 element-copy-out-join-2 : tie.Need-element-copy-out-join-2
-element-copy-out-join-2 c = let s = c .before .before .before .before .before .before .before .before .before .before in let p = s .pre in let j = s .args .j in omega (arith, p .0 .sized .far-end j (p .1 .0))
+element-copy-out-join-2 c = let t = c .before .before .before .before .before .before .before .before .before in let s = t .before .before in let p = s .pre in let j = s .args .j in omega (arith, p .0 .sized .far-end j (p .1 .0))
 
 join-requires : tie.Need-join-requires
 join-requires c κs =
-    let s = c .before .before .before .before .before .before .before .before .before .before .before in let p = s .pre in let j = s .args .j in
-    (p .0 .few, λ i k. simp (toZ-ofZ, g-fits (p .0) j (p .1 .0) (p .1 .1)) (cell-fits (p .0) j (p .1 .0) (p .1 .1) _ _ i k))
+    let t = c .before .before .before .before .before .before .before .before .before .before in
+    let s = t .before .before in
+    let p = s .pre in
+    let j = s .args .j in
+    (p .0 .few, λ i k. simp (toZ-ofZ, g-fits (p .0) j (p .1 .0) (t .if1 .taken) (p .1 .1)) (cell-fits (p .0) j (p .1 .0) (t .if1 .taken) (p .1 .1) _ _ i k))
 
 returns : tie.Need-returns
 returns c =
-    let s = c .before .before .before .before .before .before .before .before .before .before .before .before in let p = s .pre in let j = s .args .j in
-    after (p .0) j (p .1 .0) (p .1 .1) (simp (toZ-ofZ, g-fits (p .0) j (p .1 .0) (p .1 .1)) at (c .before .before .before .before .before .before .before .add .ensures)) (simp (c .before .before .before .before .before .before .drawn .ensures, toZ-ofZ, drawn-fits (p .0) j (p .1 .0) (p .1 .1)) at (c .before .before .before .before .add2 .ensures)) (simp (toZ-ofZ, g-fits (p .0) j (p .1 .0) (p .1 .1)) at (c .join .ensures))
+    let t = c .before .before .before .before .before .before .before .before .before .before .before in
+    let s = t .before .before in
+    let p = s .pre in
+    let j = s .args .j in
+    after (p .0) j (p .1 .0) (t .if1 .taken) (p .1 .1) (simp (toZ-ofZ, g-fits (p .0) j (p .1 .0) (t .if1 .taken) (p .1 .1)) at (c .before .before .before .before .before .before .before .add .ensures)) (simp (c .before .before .before .before .before .before .drawn .ensures, toZ-ofZ, drawn-fits (p .0) j (p .1 .0) (t .if1 .taken) (p .1 .1)) at (c .before .before .before .before .add2 .ensures)) (simp (toZ-ofZ, g-fits (p .0) j (p .1 .0) (t .if1 .taken) (p .1 .1)) at (c .join .ensures))
+
+returns-2 : tie.Need-returns-2
+returns-2 c = let s = c .before .before in skipped (s .pre .0) (s .args .j) (c .if1 .left) (s .pre .1 .1)
 
 pub add-leg-spec : {M : Type 1} → statement M
 add-leg-spec =
@@ -130,4 +155,5 @@ add-leg-spec =
     mul-join-2
     element-copy-out-join-2
     join-requires
-    returns)
+    returns
+    returns-2)

@@ -42,30 +42,30 @@ mul-q c = search needs
 element-copy-out-q : tie.Need-element-copy-out-q
 element-copy-out-q c = search needs
 
+mul-fixed : tie.Need-mul-fixed
+mul-fixed c = search needs
+
+element-copy-out-fixed : tie.Need-element-copy-out-fixed
+element-copy-out-fixed c = search needs
+
+mul-fixed-2 : tie.Need-mul-fixed-2
+mul-fixed-2 c = let s = c .before .before in omega (arith, s .pre .0 .0 .far-end (s .args .j) (s .pre .1))
+
+element-copy-out-fixed-2 : tie.Need-element-copy-out-fixed-2
+element-copy-out-fixed-2 c = let s = c .before .before in omega (arith, s .pre .0 .0 .far-end (s .args .j) (s .pre .1))
+
+mul-fixed-3 : tie.Need-mul-fixed-3
+mul-fixed-3 c =
+    let s = c .before .before .before in
+    let p = s .pre in
+    let j = s .args .j in
+    simp (toZ-ofZ, g-fits (p .0 .0) (p .0 .1) j (p .1), volt-fits (p .0 .0) (p .0 .1) j (p .1)) (product-fits (p .0 .0) (p .0 .1) j (p .1))
+
 mul-result : tie.Need-mul-result
 mul-result c = search needs
 
 element-copy-out-result : tie.Need-element-copy-out-result
 element-copy-out-result c = search needs
-
-mul-result-2 : tie.Need-mul-result-2
-mul-result-2 c = search needs
-
-element-copy-out-result-2 : tie.Need-element-copy-out-result-2
-element-copy-out-result-2 c = search needs
-
-mul-result-3 : tie.Need-mul-result-3
-mul-result-3 c = let s = c .before .before .before in omega (arith, s .pre .0 .0 .far-end (s .args .j) (s .pre .1))
-
-element-copy-out-result-3 : tie.Need-element-copy-out-result-3
-element-copy-out-result-3 c = let s = c .before .before .before in omega (arith, s .pre .0 .0 .far-end (s .args .j) (s .pre .1))
-
-mul-result-4 : tie.Need-mul-result-4
-mul-result-4 c =
-    let s = c .before .before .before .before in
-    let p = s .pre in
-    let j = s .args .j in
-    simp (toZ-ofZ, g-fits (p .0 .0) (p .0 .1) j (p .1), volt-fits (p .0 .0) (p .0 .1) j (p .1)) (product-fits (p .0 .0) (p .0 .1) j (p .1))
 
 sub-result : tie.Need-sub-result
 sub-result c =
@@ -89,12 +89,12 @@ drawn-spec =
     (tie.spec
     mul-q
     element-copy-out-q
+    mul-fixed
+    element-copy-out-fixed
+    mul-fixed-2
+    element-copy-out-fixed-2
+    mul-fixed-3
     mul-result
     element-copy-out-result
-    mul-result-2
-    element-copy-out-result-2
-    mul-result-3
-    element-copy-out-result-3
-    mul-result-4
     sub-result
     returns)
