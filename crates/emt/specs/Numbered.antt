@@ -2,10 +2,12 @@
 use Prim.Native.Nat.{ℕ}
 use mathlib.Core.Path.{_≡_}
 use mathlib.Core.List.{List}
+use Rattle.paper.specs.declared.Advance.{Advance}
+use Rattle.paper.specs.declared.Advance.the-variants.{Took, Network, Store, State, Area, Done, Wait, Floating, Range, Unbalanced, History}
 use Rattle.whole.specs.Lists.{Words}
-use Rattle.paper.specs.Answers.{readingNumber, readingLine, resettingNumber}
+use Rattle.paper.specs.Answers.{readingNumber, readingLine, resettingNumber, advanceNumber}
 use Rattle.paper.specs.Reading.{readOf}
-use Rattle.paper.specs.Advance.{Memory}
+use Rattle.paper.specs.Advance.{Memory, advanceOf}
 use Rattle.paper.specs.Resetting.{resetOf}
 
 pub record ReadsBy (text : List ℕ) (net : Words) (number line : ℕ) (after : Words) : Type 0 where
@@ -16,3 +18,22 @@ pub record ReadsBy (text : List ℕ) (net : Words) (number line : ℕ) (after : 
 pub record ResetsBy (net : Words) (m : Memory) (number : ℕ) (after : Memory) : Type 0 where
   pub answer : number ≡ resettingNumber (resetOf net m .answer)
   pub memory : after ≡ resetOf net m .after
+
+-- the paper's place where a refusal has one, and the new count where the advance is accepted
+abbrev pub placeOrCount : Advance → ℕ
+placeOrCount (Took k) = k
+placeOrCount Network = 0
+placeOrCount Store = 0
+placeOrCount State = 0
+placeOrCount Area = 0
+placeOrCount Done = 0
+placeOrCount (Wait b) = b
+placeOrCount (Floating n) = n
+placeOrCount (Range n) = n
+placeOrCount (Unbalanced n) = n
+placeOrCount (History b) = b
+
+pub record AdvancesBy (net : Words) (a : ℕ) (m : Memory) (number place : ℕ) (after : Memory) : Type 0 where
+  pub answer : number ≡ advanceNumber (advanceOf net a m .answer)
+  pub place-of : place ≡ placeOrCount (advanceOf net a m .answer)
+  pub memory : after ≡ advanceOf net a m .after

@@ -1,9 +1,10 @@
 // What a customer links: the calls over lent memory, for Rattle and for C. None has a `requires`; each refuses instead.
 ghost use mathlib.Core.Path.{_≡_};
-ghost use Rattle.paper.specs.Answers.{readingNumber, readingLine, resettingNumber};
+ghost use Rattle.paper.specs.Answers.{readingNumber, readingLine, resettingNumber, advanceNumber};
 ghost use Rattle.paper.specs.Advance.{memory};
-ghost use Rattle.paper.specs.One.{Reads, Resets};
-ghost use Rattle.emt.specs.Numbered.{ReadsBy, ResetsBy};
+ghost use Rattle.paper.specs.One.{Reads, Resets, Advances};
+ghost use Rattle.emt.specs.Numbered.{ReadsBy, ResetsBy, AdvancesBy, placeOrCount};
+use paper::Advance;
 use paper::Reading;
 use paper::Resetting;
 
@@ -83,4 +84,70 @@ pub extern "C" fn emt_reset(
     ensures { λ r. ⌜ ResetsBy (now (network .entry)) (memory (now (records .entry)) (now (froms .entry)) (now (tos .entry))) r (memory (now (records .exit)) (now (froms .exit)) (now (tos .exit))) ⌝ }
 {
     resetting_number(resetting::reset(network, records, froms, tos))
+}
+
+// "Advancing: 9, 8, then 10 to 17"; "an accepted advance answers the area's new count". An area number of any size is answered.
+pub fn advance(
+    network: &[i64],
+    records: &mut [i64],
+    froms: &mut [i64],
+    tos: &mut [i64],
+    area: usize,
+) -> Advance
+    ensures { λ r. ⌜ Advances (now (network .entry)) area (memory (now (records .entry)) (now (froms .entry)) (now (tos .entry))) r (memory (now (records .exit)) (now (froms .exit)) (now (tos .exit))) ⌝ }
+{
+    advancing::advance(network, records, froms, tos, area)
+}
+
+fn advance_number(answer: Advance) -> u64
+    ensures { λ r. ⌜ r ≡ advanceNumber answer ⌝ }
+{
+    match answer {
+        Advance::Took(_) => 0,
+        Advance::Network => 8,
+        Advance::Store => 9,
+        Advance::State => 10,
+        Advance::Area => 11,
+        Advance::Done => 12,
+        Advance::Wait(_) => 13,
+        Advance::Floating(_) => 14,
+        Advance::Range(_) => 15,
+        Advance::Unbalanced(_) => 16,
+        Advance::History(_) => 17,
+    }
+}
+
+fn advance_place(answer: Advance) -> u64
+    ensures { λ r. ⌜ r ≡ placeOrCount answer ⌝ }
+{
+    match answer {
+        Advance::Took(count) => count,
+        Advance::Network => 0,
+        Advance::Store => 0,
+        Advance::State => 0,
+        Advance::Area => 0,
+        Advance::Done => 0,
+        Advance::Wait(branch) => branch,
+        Advance::Floating(node) => node,
+        Advance::Range(node) => node,
+        Advance::Unbalanced(node) => node,
+        Advance::History(branch) => branch,
+    }
+}
+
+// The new count of an area that has advanced, the node or branch that a refusal names, or 0: it is written whatever the answer is.
+#[no_mangle]
+pub extern "C" fn emt_advance(
+    network: &[i64],
+    records: &mut [i64],
+    froms: &mut [i64],
+    tos: &mut [i64],
+    area: usize,
+    place: &mut u64,
+) -> u64
+    ensures { λ r. ⌜ AdvancesBy (now (network .entry)) area (memory (now (records .entry)) (now (froms .entry)) (now (tos .entry))) r (now (place .exit)) (memory (now (records .exit)) (now (froms .exit)) (now (tos .exit))) ⌝ }
+{
+    let answer = advancing::advance(network, records, froms, tos, area);
+    *place = advance_place(answer);
+    advance_number(answer)
 }

@@ -1,0 +1,17 @@
+-- `emt::emt_advance` meets its contract: the number of what `advance` answers, and the count or the place. Assumes nothing.
+use mathlib.Core.Path.{_≡_, ap, _∙_}
+use borrow.Author.Needs.{needs}
+use Rattle.paper.specs.Answers.{advanceNumber}
+use Rattle.emt.specs.Numbered.{placeOrCount}
+use Rattle.emt.proofs.emt_advance.Statement.{statement}
+use Rattle.emt.proofs.emt_advance.Tie as tie
+
+returns : tie.Need-returns
+returns c =
+    let r = c .before .before .before .before .before .advance .ensures in
+    record { answer = c .advance-number .ensures ∙ ap advanceNumber (r .answer); place-of = c .before .advance-place .ensures ∙ ap placeOrCount (r .answer); memory = r .memory }
+
+pub emt-advance-spec : {M : Type 1} → statement M
+emt-advance-spec =
+    tie.close
+    (tie.spec (λ c κs. search needs) (λ c κs. search needs) (λ c κs. search needs) (λ c. search needs) (λ c. search needs) (λ c. search needs) returns)
