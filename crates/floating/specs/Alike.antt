@@ -21,7 +21,7 @@ use Rattle.wires.specs.Wires.{legsIn, Sized}
 use Rattle.wires.specs.Free.{first-cong}
 use Rattle.floating.specs.Reach.{flag, Wired}
 use Rattle.floating.specs.Legs.{wires, joins-wires}
-use Rattle.floating.specs.Meaning.{wired-inside}
+use Rattle.floating.specs.Joins.{wired-inside}
 
 -- ---- a path stays within the nodes of its joins
 
@@ -97,7 +97,7 @@ pub floating-is : (near far : List ℕ) (g h : Words) (nodes legs : ℕ) → Wir
     → (free : List ℕ) (n : ℕ) → n ≤ length free → ((i : ℕ) → i < n → getD free i 0 ≤ nodes)
     → floating (flag fixed) Limits.nodeEnd (take n free) (wires near far g legs) ≡ floating f nodes (take n free) (legsIn near far g h legs)
 floating-is near far g h nodes legs w fixed f e free n l q =
-    floating-alike (wires near far g legs) nodes (wired-inside near far g nodes legs w) (flag fixed) f Limits.nodeEnd nodes (w .nodes-end) (omega arith) (omega arith) (w .nodes-end) e (take n free)
+    floating-alike (wires near far g legs) nodes (wired-inside near far g legs nodes w) (flag fixed) f Limits.nodeEnd nodes (w .nodes-end) (omega arith) (omega arith) (w .nodes-end) e (take n free)
     (λ i k.
     let b : i < n = rw (length-take-le n free l) at k in
     rw (getD-take n free i 0 b) (q i b))

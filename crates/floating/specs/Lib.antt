@@ -1,6 +1,10 @@
 pub mod Reach
 pub mod Legs
-pub mod Closure
-pub mod Meaning
+pub mod Search
+pub mod Same
+pub mod LegTurn
+pub mod Joins
+pub mod Going
+pub mod Answer
 pub mod Alike
 pub mod Listed

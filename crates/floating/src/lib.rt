@@ -1,139 +1,82 @@
-// "A free node needs a path of conducting branches (R, L, C, closed SW) to ground, to a fixed node, or to a node with a line end, itself included."
-ghost use Prim.Native.Nat.{ℕ, _*_, _≤_, _<_};
+// "A free node needs a path of conducting branches (R, L, C, closed SW) to ground, to a fixed node, or to a node with a line end, itself
+// included." A line's end is a leg to ground, and an open switch conducts nothing.
 ghost use mathlib.Core.Path.{_≡_};
-ghost use mathlib.Core.List.{[]};
-ghost use lib.ListN.{length, take};
-ghost use Rattle.whole.specs.Lists.{fold};
+ghost use Prim.Native.Nat.{ℕ, _*_, _≤_, _<_};
+ghost use lib.ListN.{take};
 ghost use Rattle.paper.specs.Limits as Limits;
 ghost use Rattle.paper.specs.Floating as Paper;
 ghost use Rattle.wires.specs.Free.{Free};
-ghost use Rattle.floating.specs.Reach.{flag, news, reach, stir, Closure, leadsOn, firstStuck, Placed, Wired, Loose};
-ghost use Rattle.floating.specs.Legs.{wireAt, wires};
+ghost use Rattle.floating.specs.Reach.{flag, Wired, Loose};
+ghost use Rattle.floating.specs.Legs.{wires};
+ghost use Rattle.floating.specs.Search.{firstMark, firstMarks, Turn};
+ghost use Rattle.floating.specs.Going.{after};
 
-// Leg j's turn: where it conducts and one of its nodes is reached, so is the other; whether one is reached anew.
-fn reach_far(
-    near: &[usize; 160],
-    far: &[usize; 160],
-    g: &[i64; 160],
-    j: usize,
-    reached: &mut [bool; 33],
-) -> bool
-    requires { ⌜ (j < 160) × (Placed (now near) (now far) (now g) Limits.nodeEnd j × (length (now reached) ≡ 33)) ⌝ }
-    ensures { λ r. ⌜ (now (reached .exit) ≡ reach (now (reached .entry)) (wireAt (now (near .entry)) (now (far .entry)) (now (g .entry)) j)) × (r ≡ news (now (reached .entry)) (wireAt (now (near .entry)) (now (far .entry)) (now (g .entry)) j)) ⌝ }
+fn first_mark(fixed: &[bool; 33], n: usize) -> usize
+    requires { ⌜ n < 33 ⌝ }
+    ensures { λ r. ⌜ r ≡ firstMark (now (fixed .entry)) n ⌝ }
 {
-    let conductance = g[j];
-    if conductance == 0 {
-        return false;
+    if fixed[n] {
+        return 0;
     }
-    let a = near[j];
-    let b = far[j];
-    if reached[a] == reached[b] {
-        return false;
-    }
-    reached[a] = true;
-    reached[b] = true;
-    true
+    n
 }
 
-// One pass over the legs; whether a node is reached anew.
-fn pass(
+// ground and the fixed nodes are reached, 0; the others have their number
+fn first_marks(fixed: &[bool; 33]) -> [usize; 33]
+    ensures { λ r. ⌜ r ≡ firstMarks (now (fixed .entry)) ⌝ }
+{
+    let mut marks = [0usize; 33];
+    let mut n = 0;
+    while n < 33 {
+        marks[n] = first_mark(fixed, n);
+        n += 1;
+    }
+    marks
+}
+
+// Leg j's turn: a conducting leg reaches one of its nodes from the other. How many legs in a row have then reached nothing new.
+fn spread_leg(
     near: &[usize; 160],
     far: &[usize; 160],
     g: &[i64; 160],
     legs: usize,
-    reached: &mut [bool; 33],
-) -> bool
-    requires { ⌜ (legs ≤ 160) × (Wired (now near) (now far) (now g) Limits.nodeEnd legs × (length (now reached) ≡ 33)) ⌝ }
-    ensures { λ r. ⌜ (now (reached .exit) ≡ fold reach (now (reached .entry)) (wires (now (near .entry)) (now (far .entry)) (now (g .entry)) legs)) × (r ≡ stir (wires (now (near .entry)) (now (far .entry)) (now (g .entry)) legs) (now (reached .entry))) ⌝ }
-{
-    let mut moved = false;
-    let mut j = 0;
-    while j < legs {
-        let here = reach_far(near, far, g, j, reached);
-        moved = moved | here;
-        j += 1;
-    }
-    moved
-}
-
-// All that is reached from what is: the last pass is the one that changes nothing.
-fn spread(
-    near: &[usize; 160],
-    far: &[usize; 160],
-    g: &[i64; 160],
-    legs: usize,
-    reached: &mut [bool; 33],
-)
-    requires { ⌜ (legs ≤ 160) × (Wired (now near) (now far) (now g) Limits.nodeEnd legs × (length (now reached) ≡ 33)) ⌝ }
-    ensures { λ _. ⌜ Closure (wires (now (near .entry)) (now (far .entry)) (now (g .entry)) legs) (now (reached .entry)) (now (reached .exit)) ⌝ }
-{
-    let mut moved = true;
-    while moved {
-        moved = pass(near, far, g, legs, reached);
-    }
-}
-
-// whether leg j conducts from the node to one that is reached
-fn leads_on(
-    near: &[usize; 160],
-    far: &[usize; 160],
-    g: &[i64; 160],
-    reached: &[bool; 33],
     j: usize,
-    node: usize,
-) -> bool
-    requires { ⌜ (j < 160) × Placed (now near) (now far) (now g) Limits.nodeEnd j ⌝ }
-    ensures { λ r. ⌜ r ≡ leadsOn (now (reached .entry)) node (wireAt (now (near .entry)) (now (far .entry)) (now (g .entry)) j) ⌝ }
+    calm: usize,
+    marks: &mut [usize; 33],
+) -> usize
+    requires { ⌜ (legs ≤ 160) × (Wired (now near) (now far) (now g) Limits.nodeEnd legs × ((j < legs) × (calm < legs))) ⌝ }
+    ensures { λ r. ⌜ Turn (now (near .entry)) (now (far .entry)) (now (g .entry)) j calm (now (marks .entry)) r (now (marks .exit)) ⌝ }
 {
     if g[j] == 0 {
-        return false;
+        return calm + 1;
     }
-    let a = near[j];
-    let b = far[j];
-    if a == node {
-        return reached[b];
+    let one = near[j];
+    let two = far[j];
+    if marks[one] == 0 {
+        if marks[two] == 0 {
+            return calm + 1;
+        }
+        marks[two] = 0;
+        return 0;
     }
-    if b == node {
-        return reached[a];
+    if marks[two] == 0 {
+        marks[one] = 0;
+        return 0;
     }
-    false
+    calm + 1
 }
 
-// "The search stops at the lowest node without one": the free nodes in rising order, and for each the legs.
-fn first_stuck(
-    near: &[usize; 160],
-    far: &[usize; 160],
-    g: &[i64; 160],
-    legs: usize,
-    reached: &[bool; 33],
-    free: &[usize; 32],
-    n: usize,
-) -> usize
-    requires { ⌜ (legs ≤ 160) × (Wired (now near) (now far) (now g) Limits.nodeEnd legs × Free (now free) n) ⌝ }
-    ensures { λ r. ⌜ r ≡ firstStuck (now (reached .entry)) (wires (now (near .entry)) (now (far .entry)) (now (g .entry)) legs) (take n (now (free .entry))) ⌝ }
+fn after(j: usize, legs: usize) -> usize
+    requires { ⌜ (j < legs) × (legs ≤ 160) ⌝ }
+    ensures { λ r. ⌜ r ≡ after j legs ⌝ }
 {
-    let mut i = 0;
-    let found = 'outer: loop {
-        if n <= i {
-            break 'outer 0;
-        }
-        let node = free[i];
-        let mut j = 0;
-        'inner: loop {
-            if legs <= j {
-                break 'outer node;
-            }
-            if leads_on(near, far, g, reached, j, node) {
-                break 'inner;
-            }
-            j += 1;
-        }
-        i += 1;
-    };
-    found
+    if j + 1 < legs {
+        return j + 1;
+    }
+    0
 }
 
-// The lowest free node without a path of legs that conduct to ground or to a fixed node, or 0.
+// "The search stops at the lowest node without one": the lowest free node without a path of legs that conduct to ground or to a fixed node, or 0.
 pub fn floating(
     near: &[usize; 160],
     far: &[usize; 160],
@@ -147,8 +90,26 @@ pub fn floating(
     ensures { λ r. ⌜ r ≡ Paper.floating (flag (now (fixed .entry))) Limits.nodeEnd (take n (now (free .entry))) (wires (now (near .entry)) (now (far .entry)) (now (g .entry)) (2 * rows)) ⌝ }
 {
     let legs = 2 * rows;
-    let mut reached = *fixed;
-    reached[0] = true;
-    spread(near, far, g, legs, &mut reached);
-    first_stuck(near, far, g, legs, &reached, free, n)
+    let mut marks = first_marks(fixed);
+    let mut j = 0;
+    let mut calm = 0;
+    let mut place = 0;
+    let found = 'nodes: loop {
+        if n <= place {
+            break 'nodes 0;
+        }
+        let node = free[place];
+        'branches: loop {
+            if marks[node] == 0 {
+                break 'branches;
+            }
+            if legs <= calm {
+                break 'nodes node;
+            }
+            calm = spread_leg(near, far, g, legs, j, calm, &mut marks);
+            j = after(j, legs);
+        }
+        place += 1;
+    };
+    found
 }
