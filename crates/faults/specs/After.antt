@@ -10,6 +10,7 @@ use lib.IntN.{ℤ, pos, natAbs}
 use lib.ListN.{length, getD, set, length-set}
 use lib.Seq.{getD-set-same, getD-set-other}
 use Rattle.whole.specs.Lists.{Words, word, nat, between, empty, any, count, sum}
+use Rattle.whole.specs.Truths.{or-false, or-true}
 use Rattle.whole.specs.Folds.{or-left, or-right, count-append, sum-append, any-append}
 use Rattle.paper.specs.Rows.{Row, bytes, kinds, kind, fieldsOf, isStudy, isBranch, isSource, isVS, at, stepLength}
 use Rattle.paper.specs.Faults.{outside, nodeFault, valueFault, fixes, slots}
@@ -51,32 +52,20 @@ sum-one f before r = rw (sum-append f before (r ∷ [])) (omega arith)
 
 any-one : (p : Row → Bool) (before : List Row) (r : Row) → any p (before ++ (r ∷ [])) ≡ (any p before || p r)
 unfolding any
-any-one p before r = any-append p before (r ∷ []) ∙ ap (λ (b : Bool). any p before || b) (or-none (p r))
-  where
-    or-none : (b : Bool) → (b || false) ≡ b
-    or-none true = refl
-    or-none false = refl
+any-one p before r = any-append p before (r ∷ []) ∙ ap (λ (b : Bool). any p before || b) (or-false (p r))
 
 -- the nodes with a VS
 fixed-one : (fixed : List Bool) (w : Words) (n : ℕ) → length fixed ≡ 33 → n ≤ 32 → getD (fixedAfter fixed w) n false ≡ (getD fixed n false || fixes n w)
 unfolding fixedAfter fixes
 fixed-one fixed w n wide l = by-kind (eqb (kind w) 6) refl
   where
-    or-none : (b : Bool) → b ≡ (b || false)
-    or-none true = refl
-    or-none false = refl
-
-    or-true : (b : Bool) → true ≡ (b || true)
-    or-true true = refl
-    or-true false = refl
-
     by-node : (t : Bool) → eqb (at w) n ≡ t → getD (set fixed (at w) true) n false ≡ (getD fixed n false || eqb (at w) n)
-    by-node true e = let i : at w ≡ n = eqb-true (at w) n e in rw (e, i) (getD-set-same fixed n true false (omega arith) ∙ or-true (getD fixed n false))
-    by-node false e = rw e (getD-set-other fixed (at w) n true false (λ (i : n ≡ at w). eqb-false (at w) n e (sym i)) ∙ or-none (getD fixed n false))
+    by-node true e = let i : at w ≡ n = eqb-true (at w) n e in rw (e, i) (getD-set-same fixed n true false (omega arith) ∙ sym (or-true (getD fixed n false)))
+    by-node false e = rw e (getD-set-other fixed (at w) n true false (λ (i : n ≡ at w). eqb-false (at w) n e (sym i)) ∙ sym (or-false (getD fixed n false)))
 
     by-kind : (t : Bool) → eqb (kind w) 6 ≡ t → getD (cond (eqb (kind w) 6) (set fixed (at w) true) fixed) n false ≡ (getD fixed n false || (eqb (kind w) 6 && eqb (at w) n))
     by-kind true e = rw e (by-node (eqb (at w) n) refl)
-    by-kind false e = rw e (or-none (getD fixed n false))
+    by-kind false e = rw e (sym (or-false (getD fixed n false)))
 
 fixed-wide : (fixed : List Bool) (w : Words) → length (fixedAfter fixed w) ≡ length fixed
 unfolding fixedAfter

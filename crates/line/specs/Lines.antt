@@ -12,6 +12,8 @@ use lib.Signed.{ltZ}
 use lib.ListN.{getD, length, drop, take, set, replicate, length-replicate}
 use lib.Seq.{drop-drop, getD-drop, sets, sets-eq}
 use Rattle.whole.specs.Lists.{Words, z, any, filled, sameBytes}
+use Rattle.whole.specs.Truths.{and-false}
+use Rattle.whole.specs.Repeats.{drop-replicate}
 use Rattle.whole.specs.Folds.{and-left, and-right}
 use Rattle.whole.specs.Turns.{run, turns}
 use Rattle.paper.specs.Rows.{Field, Kind, kinds, fieldsOf, noKind, signed}
@@ -61,10 +63,6 @@ module _ (s : List ℕ) (k : ℕ) where
         place = λ t. absurd (false≢true (sym f ∙ t));
         row = λ t. absurd (false≢true (sym f ∙ t));
       }
-
-  and-false : (b : Bool) → (b && false) ≡ false
-  and-false true = refl
-  and-false false = refl
 
   -- no field is left
   last-LF : (w : Walk) (i : ℕ) → w .ok ≡ true → (u : List ℕ) → drop (w .at) s ≡ 10 ∷ u → Walked w (10 ∷ u) [] i w
@@ -207,16 +205,11 @@ spelt-length [] (s ∷ ss) e = absurd (false≢true e)
 spelt-length (f ∷ fs) [] e = absurd (false≢true e)
 spelt-length (f ∷ fs) (s ∷ ss) e = ap suc (spelt-length fs ss (and-right (spelt f s) (allSpelt fs ss) e))
 
-pub drop-zeros : (m n : ℕ) → drop m (replicate n z) ≡ replicate (n - m) z
-drop-zeros zero n = let e : n - 0 ≡ n = omega arith in rw e
-drop-zeros (suc m) zero = let e : 0 - suc m ≡ 0 = omega arith in rw e
-drop-zeros (suc m) (suc n) = let e : suc n - suc m ≡ n - m = omega arith in rw e (drop-zeros m n)
-
 row-filled : (x : ℤ) (vs : Words) → length vs ≤ 5 → sets (x ∷ replicate 7 z) 1 vs ≡ filled 8 z (x ∷ vs)
 unfolding filled
 row-filled x vs h =
     let e : 8 - suc (length vs) ≡ 7 - length vs = omega arith in
-    sets-eq vs (x ∷ replicate 7 z) 1 (omega (arith, length-replicate 7 z)) ∙ rw (one-add, e) (ap (λ (l : Words). x ∷ (vs ++ l)) (drop-zeros (length vs) 7))
+    sets-eq vs (x ∷ replicate 7 z) 1 (omega (arith, length-replicate 7 z)) ∙ rw (one-add, e) (ap (λ (l : Words). x ∷ (vs ++ l)) (drop-replicate (length vs) 7 z))
 
 -- what is read from u on, of a line of a kind and its fields
 pub record ReadsParts (u : List ℕ) (at k : ℕ) (ps : List (List ℕ)) (r : Walk) : Type 0 where
@@ -234,7 +227,7 @@ module _ (s : List ℕ) (at : ℕ) where
   no-word : (k : ℕ) → k ≡ 8 → (r : Walk) → r .ok ≡ false → ReadsParts here at k (fieldsFrom (rest ends here)) r
   no-word k e r f =
       record {
-        verdict = f ∙ rw e (sym (and-false s k (ended here)));
+        verdict = f ∙ rw e (sym (and-false (ended here)));
         place = λ t. absurd (false≢true (sym f ∙ t));
         row = λ t. absurd (false≢true (sym f ∙ t));
       }

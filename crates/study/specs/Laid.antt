@@ -12,7 +12,7 @@ use Rattle.whole.specs.Lists.{Words, z, word, filled}
 use Rattle.whole.specs.Filled.{length-filled}
 use Rattle.paper.specs.Rows.{Row, isStudy}
 use Rattle.paper.specs.Network.{Table, laid, networkOf}
-use Rattle.line.specs.Lines.{drop-zeros}
+use Rattle.whole.specs.Repeats.{drop-replicate}
 
 -- what the reader writes for the row n, and for the study's
 unfoldable pub putRow : ℕ → Words → Words → Words
@@ -64,7 +64,7 @@ module _ (a b c : ℤ) (n : ℕ) (l w : Words) (f : length l ≡ 8 * n) (g : len
       let k : m - 8 ≡ 1024 - (8 + 8 * n + 8) = omega (arith, wide) in
       sets-eq w (x ++ replicate m z) (8 + 8 * n) (rw (length-append x (replicate m z), length-replicate m z) (omega (arith, wide)))
       ∙ ap (λ (y : Words). (y ++ w) ++ drop (8 + 8 * n + length w) (x ++ replicate m z)) (take-at x (replicate m z) (8 + 8 * n) wide)
-      ∙ ap (λ (y : Words). (x ++ w) ++ y) (ap (λ (j : ℕ). drop j (x ++ replicate m z)) e ∙ drop-append-add x (replicate m z) 8 ∙ drop-zeros 8 m ∙ ap (λ (j : ℕ). replicate j z) k)
+      ∙ ap (λ (y : Words). (x ++ w) ++ y) (ap (λ (j : ℕ). drop j (x ++ replicate m z)) e ∙ drop-append-add x (replicate m z) 8 ∙ drop-replicate 8 m z ∙ ap (λ (j : ℕ). replicate j z) k)
 
   -- and the number of rows
   numbered : (v : ℤ) (r : Words) → set (((top a b c (pos n) ++ l) ++ w) ++ r) 3 v ≡ ((top a b c v ++ l) ++ w) ++ r

@@ -1,5 +1,7 @@
 pub mod Tables
 pub mod Reads
+pub mod Truths
+pub mod Repeats
 pub mod Turns
 pub mod Lists
 pub mod Int

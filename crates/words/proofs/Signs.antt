@@ -3,7 +3,6 @@ use Prim.Native.Nat.{ℕ, _≤_, _<_, _^_}
 use native.Mathlib.Omega.{arith}
 use mathlib.Core.Path.{_≡_, sym, _∙_, ap, subst}
 use mathlib.Core.Bool.{true}
-use borrow.Author.Tests.{lt-ltb, eqb-true}
 use lib.Dec.{eqb}
 use lib.IntN.{ℤ, pos, negℤ, natAbs, _-ℤ_, +ℤ-idl}
 use lib.ListN.{getD, length}
@@ -11,11 +10,12 @@ use mathlib.Core.List.{List, [], _∷_}
 use mir.Syntax.{w64}
 use mir.Val.{SFits, toZ, ofZ}
 use mir.Facts.{toZ-ofZ}
+use Rattle.whole.specs.Reads.{read-small}
 use Rattle.whole.specs.Int.{fits64, abs-neg}
 use Rattle.words.specs.Numbers.{heldEnd}
 
 pub small : (n : ℕ) → n ≤ heldEnd → toZ w64 n ≡ pos n
-small n h = let l : n < 2 ^ 63 = omega arith in rw (lt-ltb n (2 ^ 63) l)
+small n h = read-small n (omega arith)
 
 pub small-fits : (n : ℕ) → n ≤ heldEnd → SFits w64 (pos n)
 small-fits n h = fits64 (pos n) (omega arith)

@@ -9,6 +9,7 @@ use lib.Dec.{leb, ltb, eqb}
 use lib.IntN.{ℤ, pos, negsuc, negℤ}
 use lib.ListN.{getD, length, drop, drop-of-length-le, length-drop}
 use lib.Seq.{drop-cons}
+use Rattle.whole.specs.Truths.{and-false, and-true, or-false}
 use Rattle.whole.specs.Lists.{z, empty, every, fold}
 use Rattle.paper.specs.Text.{MINUS, digit, decimal, negative, decimalOf, numberOf}
 use Rattle.words.specs.declared.Digits.{Digits}
@@ -97,16 +98,8 @@ readNumber signed s = let ok = decimal s || (signed && negative s) in record { o
 
 decimal-is : (b : ℕ) (t : List ℕ) → eqb b 48 ≡ false → decimal (b ∷ t) ≡ every digit (b ∷ t)
 unfolding decimal every
-decimal-is b [] e = go (digit b)
-  where
-    go : (a : Bool) → a ≡ (a && true)
-    go true = refl
-    go false = refl
-decimal-is b (c ∷ t) e = rw e (go (digit b) (digit c && every digit t))
-  where
-    go : (a d : Bool) → ((a && true) && d) ≡ (a && d)
-    go true d = refl
-    go false d = refl
+decimal-is b [] e = sym (and-true (digit b))
+decimal-is b (c ∷ t) e = rw (e, and-true (digit b))
 
 -- what the digits read give
 given : (b : Bool) (v : ℕ) (x : ℤ) → (b ≡ true → pos v ≡ x)
@@ -147,14 +140,6 @@ plain-is (b ∷ t) m = by-zero (eqb b 48) refl
 
 -- ---- and one with it
 
-and-false : (b : Bool) → (b && false) ≡ false
-and-false true = refl
-and-false false = refl
-
-and-true : (b : Bool) → (b && true) ≡ b
-and-true true = refl
-and-true false = refl
-
 abbrev peakOf : List ℕ → Number
 peakOf t = let ok = decimal t && not (eqb (getD t 0 48) 48) in record { ok = ok; value = cond ok (capZ (negℤ (pos (decimalOf t)))) z }
 
@@ -194,10 +179,6 @@ no-negative true [] e = refl
 no-negative true (b ∷ t) e = rw e
 no-negative false s e = refl
 
-or-none : (b : Bool) → (b || false) ≡ b
-or-none true = refl
-or-none false = refl
-
 pub without-minus : (signed : Bool) (s : List ℕ) → (signed && eqb (getD s 0 0) 45) ≡ false → asNumber (plainOf true s) ≡ readNumber signed s
 unfolding readNumber
 without-minus signed s e = by-first (eqb (getD s 0 0) 45) refl
@@ -207,8 +188,8 @@ without-minus signed s e = by-first (eqb (getD s 0 0) 45) refl
     at-minus (b ∷ t) f = let q : b ≡ 45 = eqb-true b 45 f in rw (q, not-decimal t) (no-digits t)
 
     by-first : (m : Bool) → eqb (getD s 0 0) 45 ≡ m → asNumber (plainOf true s) ≡ readNumber signed s
-    by-first true f = rw (no-negative signed s e, or-none (decimal s)) (at-minus s f)
-    by-first false f = rw (no-negative signed s e, or-none (decimal s)) (plain-is s f)
+    by-first true f = rw (no-negative signed s e, or-false (decimal s)) (at-minus s f)
+    by-first false f = rw (no-negative signed s e, or-false (decimal s)) (plain-is s f)
 
 -- ---- how large it may be
 

@@ -10,6 +10,7 @@ use lib.Dec.{eqb}
 use lib.ListN.{getD, length, drop, drop-of-length-le}
 use lib.Seq.{drop-cons}
 use Rattle.whole.specs.Tables.{table, table-at}
+use Rattle.whole.specs.Truths.{and-false}
 use Rattle.whole.specs.Lists.{sameBytes}
 use Rattle.paper.specs.Rows.{Kind, bytes, kinds, noKind}
 use Rattle.paper.specs.Text.{placeOf}
@@ -40,10 +41,6 @@ same-other [] [] h = absurd (h refl)
 same-other [] (y ∷ w) h = refl
 same-other (x ∷ a) [] h = refl
 same-other (x ∷ a) (y ∷ w) h = rw (same-other a w (λ (e : length w ≡ length a). h (ap suc e))) (and-false (eqb x y))
-  where
-    and-false : (b : Bool) → (b && false) ≡ false
-    and-false true = refl
-    and-false false = refl
 
 same-more : (a w : List ℕ) (i : ℕ) → length w ≡ length a → i < length w
     → sameBytes (drop i a) (drop i w) ≡ (eqb (getD a i 0) (getD w i 0) && sameBytes (drop (i + 1) a) (drop (i + 1) w))

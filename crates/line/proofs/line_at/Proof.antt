@@ -3,17 +3,11 @@ use mathlib.Core.Path.{_≡_, refl, sym, _∙_, ap}
 use mathlib.Core.Bool.{true}
 use lib.IntN.{ℤ, pos}
 use lib.ListN.{set, replicate}
-use Prim.Native.Nat.{ℕ, _<_, _^_}
-use borrow.Author.Tests.{lt-ltb}
-use mir.Syntax.{w64}
-use mir.Val.{toZ}
+use Rattle.whole.specs.Reads.{read-small}
 use native.Mathlib.Omega.{arith}
 use Rattle.line.specs.Walks.{fieldsAt, word-in, line-none, line-some}
 use Rattle.line.proofs.line_at.Statement.{statement}
 use Rattle.line.proofs.line_at.Tie as tie
-
-as-word : (n : ℕ) → n < 8 → toZ w64 n ≡ pos n
-as-word n h = let l : n < 2 ^ 63 = omega arith in rw (lt-ltb n (2 ^ 63) l)
 
 end-of-requires : tie.Need-end-of-requires
 end-of-requires c κs = search needs
@@ -60,7 +54,7 @@ returns-2 c =
     let e : tie.After-end-of = k .before .before in
     let a = e .before .before .args in
     line-some (a .text .now) (a .at) (e .end-of .ensures) (k .kind-of .ensures) (f .before .if1 .left)
-    (f .fields-at .ensures ∙ ap (λ (x : ℤ). fieldsAt (a .text .now) (k .kind-of .result) (record { ok = true; at = e .end-of .result; row = set (replicate 8 (pos 0)) 0 x })) (as-word (k .kind-of .result) (f .before .if1 .left)))
+    (f .fields-at .ensures ∙ ap (λ (x : ℤ). fieldsAt (a .text .now) (k .kind-of .result) (record { ok = true; at = e .end-of .result; row = set (replicate 8 (pos 0)) 0 x })) (read-small (k .kind-of .result) (omega (arith, f .before .if1 .left))))
     (c .before .is-at .ensures)
 
 pub line-at-spec : {M : Type 1} → statement M

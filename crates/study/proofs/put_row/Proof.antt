@@ -1,19 +1,14 @@
 use borrow.Author.Needs.{needs}
 use mathlib.Core.Path.{_≡_, sym, _∙_, ap}
-use Prim.Native.Nat.{ℕ, _+_, _*_, _<_, _^_}
+use Prim.Native.Nat.{_+_}
 use native.Mathlib.Omega.{arith}
-use borrow.Author.Tests.{lt-ltb}
+use Rattle.whole.specs.Reads.{read-small}
 use lib.IntN.{ℤ, pos}
 use lib.ListN.{set, length-set}
 use lib.Seq.{sets, length-sets}
-use mir.Syntax.{w64}
-use mir.Val.{toZ}
 use Rattle.study.specs.Laid.{putRow}
 use Rattle.study.proofs.put_row.Statement.{statement}
 use Rattle.study.proofs.put_row.Tie as tie
-
-as-word : (n : ℕ) → n < 81 → toZ w64 n ≡ pos n
-as-word n h = let l : n < 2 ^ 63 = omega arith in rw (lt-ltb n (2 ^ 63) l)
 
 mul-lay : tie.Need-mul-lay
 mul-lay c = search needs
@@ -40,7 +35,7 @@ returns : tie.Need-returns
 unfolding putRow
 returns c =
     let a = c .before .before .before .args in
-    ap (λ (v : ℤ). set (c .before .lay .last .0) 3 v) (as-word (a .n + 1) (omega arith)) ∙ ap (λ (l : _). set l 3 (pos (a .n + 1))) (c .before .lay .ensures)
+    ap (λ (v : ℤ). set (c .before .lay .last .0) 3 v) (read-small (a .n + 1) (omega arith)) ∙ ap (λ (l : _). set l 3 (pos (a .n + 1))) (c .before .lay .ensures)
 
 pub put-row-spec : {M : Type 1} → statement M
 put-row-spec = tie.close (tie.spec mul-lay add-lay lay-requires add-net cast-net slice-set-from-net same-length returns)
