@@ -14,7 +14,7 @@ use lib.Ieee.{Float, fin, nan}
 use Rattle.paper.specs.declared.Equation.{Equation}
 use Rattle.whole.specs.Turns.{run, turns, downs}
 use Rattle.whole.specs.TurnLaws.{turns-cong, turns-at, turns-before, turns-length}
-use Rattle.paper.specs.Elimination.{System, sys, line, cell, row, less, quotient, cellLess, lineLess, rowLess, allLess, eliminated, termLess, rest, rowSolved, solved, voltages}
+use Rattle.paper.specs.Elimination.{System, line, cell, row, less, quotient, lineLess, rowLess, allLess, eliminated, rest, rowSolved, solved, voltages}
 
 -- ---- two loops whose states stay related, and one that falls
 module _ {A B : Type 0} (R : A → B → Type 0) (f : ℕ → A → A) (g : ℕ → B → B) where

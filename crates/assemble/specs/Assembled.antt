@@ -1,32 +1,31 @@
 -- What is filled in from the gathered sums is the paper's system. Assumes nothing.
-use Prim.Native.Nat.{ℕ, zero, suc, _+_, _-_, _*_, _≤_, _<_}
+use Prim.Native.Nat.{ℕ, _*_, _≤_, _<_}
 use mathlib.Core.Path.{_≡_, refl, sym, ap, _∙_}
 use mathlib.Core.Bool.{Bool, true, false, cond}
-use mathlib.Core.List.{List, [], _∷_, map}
+use mathlib.Core.List.{List, [], map}
 use native.Mathlib.Omega.{arith}
 use borrow.Author.Tests.{ltb-true, ltb-false, eqb-true, eqb-false, ne-eqb}
 use lib.Dec.{eqb, ltb}
-use lib.ListN.{getD, length, take, replicate, length-map, length-replicate}
+use lib.ListN.{getD, length, take, replicate, length-map}
 use lib.Seq.{getD-take, length-take-le}
 use lib.IntN.{ℤ, negℤ, _-ℤ_}
 use lib.Ieee.{Float, nan}
 use Rattle.paper.specs.declared.Equation.{Equation}
-use Rattle.whole.specs.Lists.{Words, word, filled}
-use Rattle.whole.specs.Size.{∣_∣≤_, sub, fits}
+use Rattle.whole.specs.Lists.{Words, word}
+use Rattle.whole.specs.Size.{sub, fits}
 use Rattle.whole.specs.Folds.{getD-map, filled-at, filled-least}
 use Rattle.paper.specs.Limits as Limits
 use Rattle.paper.specs.Legs.{Leg}
-use Rattle.paper.specs.Solve.{nought, entry, rightSide, matrixRow, equation, system}
+use Rattle.paper.specs.Solve.{nought, entry, matrixRow, equation, system}
 use Rattle.paper.specs.Elimination.{System, sys, line, cell, row}
 use Rattle.paper.specs.Doubles.{double}
 use Rattle.alike.specs.Alike.{Alike, Roomy}
 use Rattle.alike.specs.Square.{Square}
 use Rattle.wires.specs.Wires.{legsIn, Sized}
-use Rattle.wires.specs.Leaving.{leaving}
-use Rattle.wires.specs.Shares.{Volts, conductance, toward, drawn, entry-same, entry-other, right-is, conductance-size, toward-size, drawn-sum}
+use Rattle.wires.specs.Shares.{Volts, entry-same, entry-other, right-is, conductance-size, toward-size, drawn-sum}
 use Rattle.wires.specs.Free.{Free, Injects, inject-size}
 use Rattle.gather.specs.Joins.{cellOf, Gathered}
-use Rattle.assemble.specs.Filled.{LineOf, Filled, Fitting, equationAt}
+use Rattle.assemble.specs.Filled.{Filled, Fitting, equationAt}
 
 -- ---- the system's cells and rows, one by one
 module _ (legs : List Leg) (free : List ℕ) (still : Words) (inject : ℕ → ℤ) where

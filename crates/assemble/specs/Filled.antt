@@ -1,21 +1,21 @@
 -- The equations as doubles, from the whole-number sums. Assumes nothing.
-use Prim.Native.Nat.{ℕ, zero, suc, _+_, _-_, _≤_, _<_}
-use mathlib.Core.Path.{_≡_, refl, sym, ap, _∙_}
+use Prim.Native.Nat.{ℕ, _+_, _≤_, _<_}
+use mathlib.Core.Path.{_≡_, refl, _∙_}
 use mathlib.Core.Bool.{Bool, true, false, cond}
-use mathlib.Core.List.{List, [], _∷_, _++_, map}
+use mathlib.Core.List.{List, []}
 use native.Mathlib.Omega.{arith}
 use borrow.Author.Tests.{ltb-true, ltb-false}
 use lib.Dec.{eqb, ltb}
 use lib.Seq.{getD-set-same, getD-set-other}
 use lib.ListN.{getD, set, length, length-set}
-use lib.IntN.{ℤ, negℤ, _-ℤ_}
+use lib.IntN.{negℤ, _-ℤ_}
 use lib.Ieee.{Float, nan}
 use mir.Syntax.{w64}
 use mir.Val.{SFits}
 use Rattle.paper.specs.declared.Equation.{Equation}
 use Rattle.whole.specs.Lists.{Words, word}
 use Rattle.whole.specs.Size.{∣_∣≤_}
-use Rattle.paper.specs.Elimination.{System, sys, line, cell, row}
+use Rattle.paper.specs.Elimination.{line, cell, row}
 use Rattle.paper.specs.Doubles.{double}
 use Rattle.alike.specs.Square.{Square, square-set}
 use Rattle.gather.specs.Joins.{cellOf}

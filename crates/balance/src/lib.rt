@@ -1,6 +1,6 @@
 // "At each free node the exact whole-number sum of currents leaving, minus injection, has magnitude at most the limit. A line counts at each end
 // with that end's own current."
-ghost use Prim.Native.Nat.{ℕ, _+_, _*_, _≤_, _<_};
+ghost use Prim.Native.Nat.{_+_, _*_, _<_};
 ghost use mathlib.Core.Path.{_≡_};
 ghost use lib.ListN.{take};
 ghost use lib.Dec.{T};

@@ -1,7 +1,7 @@
 // The whole-number sums that the equations are made of: "each node's sum of conductances, lines included", "the sum of the joining
 // conductances", and what the right side has besides injection. One pass over the legs: free nodes have places among themselves, so that an area
 // of n free nodes has only its n lines of the table cleared and met.
-ghost use Prim.Native.Nat.{ℕ, _+_, _*_, _≤_, _<_};
+ghost use Prim.Native.Nat.{_+_, _*_, _≤_, _<_};
 ghost use mathlib.Core.Path.{_≡_};
 ghost use lib.ListN.{length};
 ghost use lib.IntN.{_+ℤ_};

@@ -5,15 +5,14 @@ use mathlib.Core.Bool.{Bool, true, false, cond}
 use mathlib.Core.List.{List, [], _∷_, map}
 use native.Mathlib.Omega.{arith}
 use native.Mathlib.Numerals.{add-one}
-use lib.ListN.{getD, set, length, take, drop, replicate, length-set, length-map, length-replicate, drop-of-length-le}
+use lib.ListN.{getD, set, length, take, drop, replicate, length-set, length-map, length-replicate}
 use lib.Seq.{drop-cons, getD-take, length-take-le}
 use lib.IntN.{ℤ, pos, natAbs}
 use lib.Ieee.{Float, nan, fin}
 use Rattle.paper.specs.declared.Rounded.{Rounded}
 use Rattle.paper.specs.declared.Rounded.the-variants.{Whole, Outside}
-use Rattle.whole.specs.Lists.{Words, z, word}
+use Rattle.whole.specs.Lists.{Words, word}
 use Rattle.whole.specs.Folds.{getD-map}
-use Rattle.whole.specs.Turns.{downs}
 use Rattle.whole.specs.TurnLaws.{downs-keeps}
 use Rattle.paper.specs.Limits as Limits
 use Rattle.paper.specs.Doubles.{inRange, wholeOf, nearestOf}

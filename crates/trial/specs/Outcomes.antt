@@ -1,16 +1,15 @@
 -- The four ways that a trial ends, from what each of its parts found. Assumes nothing.
-use Prim.Native.Nat.{ℕ, zero, suc, _*_, _≤_}
-use mathlib.Core.Path.{_≡_, refl, sym, ap, _∙_}
-use mathlib.Core.List.{List, map}
+use Prim.Native.Nat.{ℕ, _*_}
+use mathlib.Core.Path.{_≡_, sym, ap, _∙_}
+use mathlib.Core.List.{List}
 use lib.ListN.{length, take}
-use lib.Ieee.{Float}
 use Rattle.paper.specs.declared.Advance.the-variants.{Took, Range, Unbalanced, History}
 use Rattle.paper.specs.declared.Rounded.{Rounded}
 use Rattle.whole.specs.Lists.{Words, word}
 use Rattle.paper.specs.Rows.{limit}
 use Rattle.paper.specs.Areas.{Net, branchNumber}
 use Rattle.paper.specs.Legs.{Leg}
-use Rattle.paper.specs.Solve.{Step, stop, move, system, proposed, settled, outOfRange, unbalanced}
+use Rattle.paper.specs.Solve.{stop, system, proposed, settled, outOfRange, unbalanced}
 use Rattle.paper.specs.Elimination.{voltages}
 use Rattle.wires.specs.Wires.{legsIn}
 use Rattle.wires.specs.Shares.{Volts}

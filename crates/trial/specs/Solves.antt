@@ -1,23 +1,21 @@
 -- The trial from the arrays is the paper's step from its branches. Assumes nothing.
-use Prim.Native.Nat.{ℕ, zero, suc, _+_, _*_, _≤_, _<_}
-use mathlib.Core.Path.{_≡_, refl, sym, ap, _∙_}
-use mathlib.Core.Bool.{Bool, not}
+use Prim.Native.Nat.{ℕ, zero, suc, _*_, _<_}
+use mathlib.Core.Path.{_≡_, refl}
 use mathlib.Core.List.{List, [], _∷_, map}
 use native.Mathlib.Omega.{arith}
-use lib.ListN.{length, getD, take}
-use lib.IntN.{ℤ, _-ℤ_}
-use Rattle.paper.specs.declared.Equation.{Equation}
-use Rattle.whole.specs.Lists.{Words, word, upTo, filled, first}
+use lib.ListN.{length, getD}
+use lib.IntN.{ℤ}
+use Rattle.whole.specs.Lists.{Words, word}
 use Rattle.paper.specs.Limits as Limits
 use Rattle.paper.specs.Rows.{limit}
 use Rattle.paper.specs.Areas.{Net, freeOf}
 use Rattle.paper.specs.Sources.{injected}
 use Rattle.paper.specs.Legs.{Leg, Branch, Heard, legsOf, bothLegs}
-use Rattle.paper.specs.Solve.{Step, system, equation, rightSide, proposed, imbalance, unbalanced, settled, outOfRange, firstBeyond, andHistory, historyStep, balanceStep, rangeStep, solvedStep}
+use Rattle.paper.specs.Solve.{system, equation, proposed, imbalance, unbalanced, settled, firstBeyond, andHistory, historyStep, balanceStep, rangeStep, solvedStep}
 use Rattle.wires.specs.Wires.{legsIn}
 use Rattle.wires.specs.Free.{first-cong}
-use Rattle.histories.specs.Beyond.{beyondAt, firstPlace, first-beyond-is}
-use Rattle.trial.specs.Trial.{inTurn, tried}
+use Rattle.histories.specs.Beyond.{first-beyond-is}
+use Rattle.trial.specs.Trial.{tried}
 
 -- ---- injections count at the free nodes alone
 module _ (legs : List Leg) (free : List ℕ) (f g : ℕ → ℤ) (same : (i : ℕ) → i < length free → f (getD free i 0) ≡ g (getD free i 0)) where

@@ -1,5 +1,5 @@
 -- 15, 16, 17 in turn, or the voltages: as the arrays of a step have it. Assumes nothing.
-use Prim.Native.Nat.{ℕ, zero, suc, _+_, _*_, _≤_, _<_}
+use Prim.Native.Nat.{ℕ, zero, suc, _+_, _*_, _≤_}
 use mathlib.Core.Path.{_≡_, refl, sym, ap, _∙_}
 use mathlib.Core.Bool.{Bool, true, false, cond}
 use mathlib.Core.List.{List, []}
@@ -10,7 +10,6 @@ use Rattle.paper.specs.declared.Advance.the-variants.{Took, Range, Unbalanced, 
 use Rattle.whole.specs.Lists.{Words, word}
 use Rattle.paper.specs.Rows.{limit}
 use Rattle.paper.specs.Areas.{Net, branchNumber}
-use Rattle.paper.specs.Legs.{Branch}
 use Rattle.paper.specs.Solve.{Step, stop, move, proposed, settled, outOfRange, unbalanced, andRange, andBalance, andHistory}
 use Rattle.wires.specs.Wires.{legsIn}
 use Rattle.histories.specs.Beyond.{beyondAt, firstPlace}

@@ -1,5 +1,4 @@
 // One step of one area tried: 15, 16 and 17 in turn, or the voltages.
-ghost use Prim.Native.Nat.{_≤_};
 ghost use mathlib.Core.Path.{_≡_};
 ghost use mathlib.Core.Bool.{true};
 ghost use lib.ListN.{length, take};

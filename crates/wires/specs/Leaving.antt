@@ -3,15 +3,15 @@
 use Prim.Native.Nat.{ℕ, zero, suc, _+_, _*_, _-_, _/_, _%_, _≤_, _<_}
 use mathlib.Core.Path.{_≡_, refl, sym, ap, _∙_}
 use mathlib.Core.Bool.{Bool, true, false, cond, not}
-use mathlib.Core.List.{List, [], _∷_, _++_, map}
+use mathlib.Core.List.{List, [], _∷_, _++_}
 use native.Mathlib.Omega.{arith}
 use native.Mathlib.Numerals.{add-one}
 use native.Mathlib.Nat.{mul-le-mul-right, add-mul}
 use borrow.Author.Tests.{eqb-true, eqb-false, not-true}
 use lib.ListN.{getD}
 use lib.Dec.{T, eqb}
-use lib.IntN.{ℤ, pos, natAbs, _+ℤ_, +ℤ-assoc, +ℤ-idl, +ℤ-idr}
-use Rattle.whole.specs.Lists.{Words, z, word, nat, numbers, count, total}
+use lib.IntN.{ℤ, _+ℤ_, +ℤ-assoc, +ℤ-idl, +ℤ-idr}
+use Rattle.whole.specs.Lists.{Words, z, nat, numbers, count, total}
 use Rattle.whole.specs.Folds.{numbers-more, numbers-append, map-append, count-append}
 use Rattle.whole.specs.Totals.{total-append}
 use Rattle.whole.specs.Size.{∣_∣≤_, add}

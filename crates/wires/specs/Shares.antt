@@ -1,18 +1,18 @@
 -- What one leg adds to the sums at its near node: conductance, conductance toward one neighbour, what it draws with its node at 0, current; how
 -- large each is, and the paper's equations as sums of them. Assumes nothing.
-use Prim.Native.Nat.{ℕ, zero, suc, _+_, _*_, _^_, _≤_, _<_}
-use mathlib.Core.Path.{_≡_, refl, sym, ap, _∙_}
-use mathlib.Core.Bool.{Bool, true, false, cond, not, _&&_}
-use mathlib.Core.List.{List, [], _∷_}
+use Prim.Native.Nat.{ℕ, suc, _*_, _≤_, _<_}
+use mathlib.Core.Path.{_≡_, refl, ap}
+use mathlib.Core.Bool.{Bool, true, false, cond, _&&_}
+use mathlib.Core.List.{List}
 use native.Mathlib.Omega.{arith}
 use borrow.Author.Tests.{eq-eqb}
-use lib.ListN.{getD, length}
+use lib.ListN.{length}
 use lib.Dec.{T, eqb}
-use lib.IntN.{ℤ, pos, negsuc, negℤ, natAbs, _+ℤ_, _-ℤ_, _*ℤ_, +ℤ-idl, +ℤ-idr, zero-*ℤ}
+use lib.IntN.{ℤ, pos, negsuc, negℤ, natAbs, _-ℤ_, _*ℤ_, zero-*ℤ}
 use lib.Signed.{nonNeg}
-use Rattle.whole.specs.Lists.{Words, z, word, nat, total}
+use Rattle.whole.specs.Lists.{Words, z, word, nat}
 use Rattle.whole.specs.Totals.{total-cong}
-use Rattle.whole.specs.Size.{∣_∣≤_, add, sub, mul, weaken}
+use Rattle.whole.specs.Size.{∣_∣≤_, add, sub, mul}
 use Rattle.paper.specs.Limits as Limits
 use Rattle.paper.specs.Legs.{Leg, through, current, echo}
 use Rattle.paper.specs.Solve.{leaves, leads, entry, rightSide, imbalance}

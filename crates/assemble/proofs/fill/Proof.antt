@@ -1,14 +1,12 @@
 -- `assemble::fill` meets its contract: the first p lines and rows. Assumes nothing.
-use Prim.Native.Nat.{ℕ, _-_, _≤_, _<_}
-use mathlib.Core.Path.{_≡_, refl, ap, _∙_}
+use Prim.Native.Nat.{_-_, _≤_, _<_}
+use mathlib.Core.Path.{_≡_, refl}
 use native.Mathlib.Omega.{arith}
 use lib.ListN.{getD}
 use lib.Ieee.{Float}
 use mir.Facts.{toZ-ofZ}
 use Rattle.paper.specs.declared.Equation.{Equation}
-use Rattle.whole.specs.Lists.{Words}
-use Rattle.paper.specs.Doubles.{double}
-use Rattle.assemble.specs.Filled.{Filled, filled-more, equationAt}
+use Rattle.assemble.specs.Filled.{Filled, filled-more}
 use Rattle.assemble.proofs.fill.Statement.{statement}
 use Rattle.assemble.proofs.fill.Tie as tie
 

@@ -8,7 +8,7 @@ use borrow.Author.Tests.{eqb-true, eqb-false}
 use lib.Dec.{eqb}
 use lib.ListN.{length, set, length-set}
 use lib.Seq.{getD-set-same, getD-set-other}
-use lib.IntN.{ℤ, pos, negℤ, _-ℤ_, +ℤ-idl}
+use lib.IntN.{ℤ, negℤ, _-ℤ_, +ℤ-idl}
 use lib.Ieee.{Float, nan}
 use mir.Syntax.{w64}
 use mir.Val.{SFits}

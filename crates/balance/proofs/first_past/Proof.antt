@@ -1,11 +1,11 @@
 -- `balance::first_past` meets its contract: the search from the i-th free node on. Assumes nothing.
-use Prim.Native.Nat.{ℕ, _-_, _+_, _≤_, _<_}
+use Prim.Native.Nat.{_-_, _≤_, _<_}
 use mathlib.Core.Path.{_≡_, refl, sym, ap, _∙_}
-use mathlib.Core.Bool.{Bool, true, false, not}
+use mathlib.Core.Bool.{true, false, not}
 use native.Mathlib.Omega.{arith}
 use lib.ListN.{getD, take, drop}
 use mir.Syntax.{w64}
-use mir.Val.{toZ, ofZ}
+use mir.Val.{toZ}
 use mir.Facts.{toZ-ofZ}
 use Rattle.whole.specs.Lists.{nat, first}
 use Rattle.wires.specs.Sums.{Node}

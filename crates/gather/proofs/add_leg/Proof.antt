@@ -1,12 +1,12 @@
 -- `gather::add_leg` meets its contract: each of the three sums takes the leg in. Assumes nothing.
-use Prim.Native.Nat.{ℕ, _+_, _*_, _≤_, _<_}
-use mathlib.Core.Path.{_≡_, sym, ap, _∙_}
+use Prim.Native.Nat.{ℕ, _+_, _*_, _<_}
+use mathlib.Core.Path.{_≡_, sym}
 use mathlib.Core.List.{List}
 use native.Mathlib.Omega.{arith}
 use native.Mathlib.Nat.{pos-of-ne-zero}
 use borrow.Author.Needs.{needs}
 use lib.ListN.{getD, set}
-use lib.IntN.{ℤ, _+ℤ_}
+use lib.IntN.{_+ℤ_}
 use mir.Syntax.{w64}
 use mir.Val.{SFits}
 use mir.Facts.{toZ-ofZ}
@@ -14,8 +14,8 @@ use Rattle.whole.specs.Lists.{Words, word}
 use Rattle.whole.specs.Size.{∣_∣≤_, add, fits}
 use Rattle.wires.specs.Wires.{legAt, legsIn}
 use Rattle.wires.specs.Shares.{conductance, drawn, g-size, g-is, conductance-size, toward-size, drawn-size, drawn-sum}
-use Rattle.wires.specs.Sums.{Node, Sums, sums-more, sum-after, sums-skip}
-use Rattle.gather.specs.Joins.{Joins, joined, joins-more, joins-skip, cellOf, Met, Gathered}
+use Rattle.wires.specs.Sums.{Node, sums-more, sum-after, sums-skip}
+use Rattle.gather.specs.Joins.{joined, joins-more, joins-skip, cellOf, Met, Gathered}
 use Rattle.gather.proofs.add_leg.Statement.{statement}
 use Rattle.gather.proofs.add_leg.Tie as tie
 

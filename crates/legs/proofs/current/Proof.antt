@@ -1,6 +1,5 @@
 -- `legs::current` meets its contract. Assumes nothing.
 use Prim.Native.Nat.{ℕ, _*_, _<_}
-use mathlib.Core.Path.{_≡_, refl}
 use mathlib.Core.List.{List}
 use borrow.Author.Needs.{needs}
 use mir.Syntax.{w64}

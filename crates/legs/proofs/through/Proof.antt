@@ -1,5 +1,5 @@
 -- `legs::through` meets its contract. Assumes nothing.
-use Prim.Native.Nat.{ℕ, _*_, _<_, _≤_}
+use Prim.Native.Nat.{ℕ, _*_, _<_}
 use mathlib.Core.Path.{_≡_, sym, ap}
 use mathlib.Core.List.{List}
 use native.Mathlib.Omega.{arith}
@@ -9,7 +9,7 @@ use lib.IntN.{ℤ, _-ℤ_, _*ℤ_}
 use mir.Syntax.{w64}
 use mir.Val.{SFits}
 use mir.Facts.{toZ-ofZ}
-use Rattle.whole.specs.Lists.{Words, z, word, nat}
+use Rattle.whole.specs.Lists.{Words, word}
 use Rattle.whole.specs.Size.{∣_∣≤_, sub, mul, fits}
 use Rattle.paper.specs.Legs.{through}
 use Rattle.wires.specs.Wires.{legAt, Sized}

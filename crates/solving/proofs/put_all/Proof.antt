@@ -1,10 +1,8 @@
 -- `solving::put_all` meets its contract: the first i are within the range. Assumes nothing.
-use Prim.Native.Nat.{_-_, _≤_, _<_}
+use Prim.Native.Nat.{_-_, _≤_}
 use mathlib.Core.Path.{_≡_, sym, _∙_}
-use mathlib.Core.Bool.{true, false, not}
 use native.Mathlib.Omega.{arith}
 use borrow.Author.Tests.{not-true, not-false}
-use lib.ListN.{getD}
 use Rattle.solving.specs.Settling.{SettledTo, settled-none, settled-more, settled-out, settled-all}
 use Rattle.solving.proofs.put_all.Statement.{statement}
 use Rattle.solving.proofs.put_all.Tie as tie

@@ -1,11 +1,8 @@
 -- `solving::solving` meets its contract. Assumes nothing.
-use mathlib.Core.Path.{_≡_, sym}
 use borrow.Author.Needs.{needs}
 use Rattle.whole.specs.Lists.{word}
-use Rattle.wires.specs.Wires.{legsIn}
-use Rattle.paper.specs.Elimination.{sys}
-use Rattle.alike.specs.Square.{Square, square-eliminated}
-use Rattle.solving.specs.Settling.{Solved, proposed-is}
+use Rattle.alike.specs.Square.{square-eliminated}
+use Rattle.solving.specs.Settling.{proposed-is}
 use Rattle.solving.proofs.solving.Statement.{statement}
 use Rattle.solving.proofs.solving.Tie as tie
 
