@@ -1,6 +1,6 @@
 #!/usr/bin/env bash
-# The proved calls that read a text and reset a network, compiled, against the second program (second/README.md): its fixed list of texts, one-byte edits, 20,000 random texts, 2,000
-# studies reset over rubbish and over damaged networks. A seed a day, printed; `tests/reading.sh SEED` repeats one.
+# The proved calls, compiled, against the second program (second/README.md): its fixed list of texts, one-byte edits and 20,000 random texts through the reader, then 2,000
+# studies with areas advanced in random orders, damaged memory and refused calls among them. A seed a day, printed; `tests/compare.sh SEED` repeats one.
 # Closing line: N passed, M failed.
 set -u
 cd "$(dirname "$0")/.." || exit 1
@@ -30,11 +30,11 @@ add() {
 }
 
 for tool in rt cargo; do
-    command -v $tool >/dev/null 2>&1 || stop "tests/reading.sh needs '$tool'"
+    command -v $tool >/dev/null 2>&1 || stop "tests/compare.sh needs '$tool'"
 done
 rt staticlib emt >"$work/rt" 2>&1 || { tail -n 5 "$work/rt"; stop "libemt.a is not made"; }
 export EMT_LIB_DIR=$PWD/target/staticlib CARGO_TARGET_DIR=$PWD/second/target/calls
-cargo build --release --offline -j1 --features reset --manifest-path second/Cargo.toml >"$work/cargo" 2>&1 || { tail -n 5 "$work/cargo"; stop "second/ does not build"; }
+cargo build --release --offline -j1 --features calls --manifest-path second/Cargo.toml >"$work/cargo" 2>&1 || { tail -n 5 "$work/cargo"; stop "second/ does not build"; }
 compare=$CARGO_TARGET_DIR/release/compare
 
 add "$compare" calls --count 2000 --texts 20000 --seed "$seed"

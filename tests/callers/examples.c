@@ -1,0 +1,84 @@
+// E1 to E10 of document 01 through the compiled calls, as a C program links them. Closing line: N passed, M failed.
+#include <emt.h>
+#include <stdio.h>
+#include <string.h>
+
+static int64_t network[EMT_NETWORK_WORDS], records[EMT_RECORD_WORDS], froms[EMT_STORE_WORDS], tos[EMT_STORE_WORDS];
+static int passed, failed;
+
+static void expect(const char *what, int64_t got, int64_t wanted) {
+    if (got == wanted) passed++;
+    else failed++, printf("%s: %lld, not %lld\n", what, (long long)got, (long long)wanted);
+}
+
+// The answer of reading, times 100, plus the line; an accepted study is put at rest.
+static int64_t start(const char *text) {
+    uint64_t line;
+    uint64_t answer = emt_read((const uint8_t *)text, strlen(text), network, EMT_NETWORK_WORDS, &line);
+    if (answer) return (int64_t)(100 * answer + line);
+    return (int64_t)emt_reset(network, EMT_NETWORK_WORDS, records, EMT_RECORD_WORDS, froms, EMT_STORE_WORDS, tos, EMT_STORE_WORDS);
+}
+
+// The answer of advancing, times 100, plus the place; an accepted advance gives the new count.
+static int64_t advance(uint64_t area) {
+    uint64_t place;
+    uint64_t answer = emt_advance(network, EMT_NETWORK_WORDS, records, EMT_RECORD_WORDS, froms, EMT_STORE_WORDS, tos, EMT_STORE_WORDS, area, &place);
+    return (int64_t)(100 * answer + place);
+}
+
+// One area, step by step: each step is accepted, and the word then has the next of the values.
+static void steps(const char *what, const char *text, int word, int count, const int64_t *values) {
+    expect(what, start(text), 0);
+    for (int k = 1; k <= count; k++) {
+        expect(what, advance(1), k);
+        expect(what, records[word], values[k - 1]);
+    }
+}
+
+static void e1(void) {
+    steps("E1", "study\t1000\t1\t0\nVS\t1\t1000\t1\t0\nR\t1\t2\t2000\nR\t2\t0\t2000\n", EMT_VOLTAGE(2), 1, (int64_t[]){500});
+    expect("E1: done", advance(1), 100 * EMT_DONE);
+}
+
+static void e2(void) {
+    steps("E2", "study\t1000\t1\t500000000\nVS\t1\t1000\t1\t0\nR\t1\t2\t1000\nR\t2\t0\t2000\n", EMT_VOLTAGE(2), 1, (int64_t[]){667});
+    expect("E2", start("study\t1000\t1\t499999999\nVS\t1\t1000\t1\t0\nR\t1\t2\t1000\nR\t2\t0\t2000\n"), 0);
+    expect("E2: one less", advance(1), 100 * EMT_UNBALANCED + 2);
+}
+
+static void e5_and_e6(void) {
+    static const char text[] = "study\t1000\t8\t0\nVS\t1\t1000\t1\t0\nLINE\t1\t2\t400000\t2000\n";
+    static const int64_t values[] = {0, 0, 2000, 2000, 2000, 2000, 0, 0};
+    expect("E5", start(text), 0);
+    for (int k = 1; k <= 8; k++) {
+        expect("E5: area 1", advance(1), k);
+        expect("E5: area 2", advance(2), k);
+        expect("E5: node 2", records[EMT_VOLTAGE(2)], values[k - 1]);
+    }
+    expect("E6", start(text), 0);
+    expect("E6: first", advance(1), 1);
+    expect("E6: second", advance(1), 2);
+    expect("E6: third", advance(1), 100 * EMT_WAIT + 1);
+}
+
+static void e7_and_e8(void) {
+    expect("E7", start("study\t1000\t9\t0\nVS\t1\t1000\t1\t0\nSW\t1\t2\t1000\t5\t9\n"), 0);
+    expect("E7: floats", advance(1), 100 * EMT_FLOATING + 2);
+    steps("E8", "study\t1000\t9\t0\nVS\t1\t1000\t1\t0\nSW\t1\t2\t1000\t5\t9\nC\t2\t0\t1000\n", EMT_VOLTAGE(2), 1, (int64_t[]){0});
+}
+
+int main(void) {
+    e1();
+    e2();
+    steps("E3", "study\t1000\t2\t0\nVS\t1\t1000\t1\t0\nL\t1\t0\t1000000\n", EMT_CURRENT(1), 2, (int64_t[]){500000000, 1500000000});
+    steps("E4", "study\t1000\t3\t0\nVS\t1\t1000\t1\t0\nC\t1\t0\t1000\n", EMT_CURRENT(1), 3, (int64_t[]){2000000000, -2000000000, 2000000000});
+    e5_and_e6();
+    e7_and_e8();
+    expect("E9", start("study\t1000\t8\t0\nVS\t1\t1000\t1\t0\nLINE\t1\t2\t400000\t2500\n"), 100 * EMT_TRAVEL + 3);
+    expect("E10", start("study\t1000\t3\t0\nVS\t1\t20000000\t1\t0\nL\t1\t0\t500\n"), 0);
+    expect("E10: step 1", advance(1), 1);
+    expect("E10: step 2", advance(1), 2);
+    expect("E10: step 3", advance(1), 100 * EMT_HISTORY + 1);
+    printf("%d passed, %d failed\n", passed, failed);
+    return failed != 0;
+}
