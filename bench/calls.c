@@ -1,5 +1,5 @@
 // A study on standard input, advanced area by area by emt_advance and, on memory of its own, by plain C (bench/lent.c); both must leave the same words.
-// callgrind counts the two (bench/emtrun.sh). With the argument `stack` it prints instead how many bytes of stack emt_advance has touched.
+// callgrind counts the two (bench/calls.sh). With the argument `stack` it prints instead how many bytes of stack emt_advance has touched.
 #include <emt.h>
 #include <pthread.h>
 #include <stdio.h>
@@ -24,10 +24,13 @@ static int step(uint64_t area) {
     return a == 0;
 }
 
-// Each round takes one step of every area: 11 comes after the last one, any other refusal ends the run.
+// 100 rounds of one step of every area; in the first one 11 comes after the last area.
 static void run(void) {
-    for (int k = 0; k < 100; k++)
-        for (uint64_t area = 1; area <= EMT_NODES && step(area); area++) {}
+    uint64_t areas = 0;
+    while (step(areas + 1)) areas++;
+    for (int k = 1; k < 100; k++)
+        for (uint64_t area = 1; area <= areas; area++)
+            if (!step(area)) exit(1);
     if (memcmp(&ours, &theirs, sizeof ours)) exit(1);
 }
 

@@ -1,6 +1,6 @@
 #!/usr/bin/env bash
 # Instructions, counted by callgrind in one run: emtrun beside a plain C program of the same rules (bench/plain.c) and beside ngspice on an equivalent netlist
-# (bench/netlist.awk), listing to /dev/null; and emt_advance beside plain C that judges the same words (bench/lent.c), with the stack that it uses.
+# (bench/netlist.awk), the listing to /dev/null. emtrun and plain C must list the same bytes.
 # A measurement and no test. Needs rt, gcc and valgrind; without ngspice its column stays empty. bench/emtrun.sh NAME.. takes only these studies.
 set -eu
 cd "$(dirname "$0")/.."
@@ -8,21 +8,16 @@ cd "$(dirname "$0")/.."
 for tool in rt gcc valgrind awk; do
     command -v $tool >/dev/null 2>&1 || { echo "bench/emtrun.sh needs '$tool'" >&2; exit 1; }
 done
-for crate in emtrun emt; do
-    grep -q "^$crate:" crates.txt || { echo "crate $crate is not part of this version: nothing to measure yet" >&2; exit 1; }
-done
+grep -q "^emtrun:" crates.txt || { echo "crate emtrun is not part of this version: nothing to measure yet" >&2; exit 1; }
 work=$(mktemp -d)
 trap 'rm -rf "$work"' EXIT
-{ rt check emtrun && rt staticlib emt; } >"$work/rt" 2>&1 || { tail -n 5 "$work/rt"; exit 1; }
-flags="-O3 -ffp-contract=off"
-gcc $flags -o "$work/plain" bench/plain.c
-gcc $flags -c -o "$work/lent.o" bench/lent.c
-gcc $flags -Iinclude -o "$work/calls" bench/calls.c "$work/lent.o" target/staticlib/libemt.a -lpthread
+rt check emtrun >"$work/rt" 2>&1 || { tail -n 5 "$work/rt"; exit 1; }
+gcc -O3 -ffp-contract=off -o "$work/plain" bench/plain.c
 
 count() { # instructions of a command, its standard input from the first word; what it writes goes nowhere
     local text=$1
     shift
-    valgrind --tool=callgrind --compress-strings=no --callgrind-out-file="$work/count" "$@" <"$text" >/dev/null 2>"$work/said" || true # ngspice -b ends in 1
+    valgrind --tool=callgrind --callgrind-out-file="$work/count" "$@" <"$text" >/dev/null 2>"$work/said" || true # ngspice -b ends in 1
     awk '/Collected/ { print $NF }' "$work/said"
 }
 
@@ -45,19 +40,4 @@ for name in "$@"; do
     fi
     awk -v name="$name" -v steps="$steps" -v ours="$ours" -v plain="$plain" -v spice="$spice" 'BEGIN {
         printf "| %s | %d | %d | %d | %.2f | %s | %s |\n", name, steps, ours, plain, ours / plain, spice, spice == "" ? "" : sprintf("%.3f", ours / spice) }'
-done
-
-echo
-echo "| emt_advance, per call | emt_advance | plain C | ratio | stack, bytes |"
-echo "|---|---|---|---|---|"
-for name in "$@"; do
-    text=bench/studies/$name.txt
-    "$work/calls" <"$text" || { echo "$name: two answers or two states" >&2; exit 1; }
-    count "$text" "$work/calls" >"$work/total"
-    callgrind_annotate --inclusive=yes --threshold=100 "$work/count" | tr -d , >"$work/table"
-    ours=$(awk 'index($0, ":emt_advance ") { print $1; exit }' "$work/table")
-    plain=$(awk 'index($0, ":plain_advance ") { print $1; exit }' "$work/table")
-    times=$(awk -F'[= ]' '/^cfn=plain_advance$/ { getline; print $2; exit }' "$work/count")
-    stack=$("$work/calls" stack <"$text")
-    awk -v name="$name" -v a="$ours" -v b="$plain" -v n="$times" -v s="$stack" 'BEGIN { printf "| %s | %.0f | %.0f | %.2f | %d |\n", name, a / n, b / n, a / b, s }'
 done
