@@ -97,14 +97,19 @@ shown-split w f n e h k l =
     ∙ before (suc f) true (n / 10 ^ w) (fixed w n ++ [])
     ∙ rw (append-nil (fixed w n), same-room f 19 (n / 10 ^ w) [] k less)
 
+few-digits : (f : ℕ) (more : Bool) (n : ℕ) (rest : List ℕ) → length (digits f more n rest) ≤ f + length rest
+unfolding digits
+few-digits zero more n rest = omega arith
+few-digits (suc f) false n rest = omega arith
+few-digits (suc f) true n rest = omega (arith, few-digits f (not (eqb (n / 10) 0)) (n / 10) ((48 + n % 10) ∷ rest))
+
+pub shown-most : (n : ℕ) → length (shownNat n) ≤ 20
+unfolding shownNat
+shown-most n = few-digits 20 true n []
+
 pub shown-length : (w n : ℕ) → n < 10 ^ suc w → n < 10 ^ 20 → length (shownNat n) ≤ suc w
-unfolding shownNat digits
-shown-length w n h k = rw (same-room 19 w n [] k h) (omega (arith, few (suc w) true n []))
-  where
-    few : (f : ℕ) (more : Bool) (n : ℕ) (rest : List ℕ) → length (digits f more n rest) ≤ f + length rest
-    few zero more n rest = omega arith
-    few (suc f) false n rest = omega arith
-    few (suc f) true n rest = omega (arith, few f (not (eqb (n / 10) 0)) (n / 10) ((48 + n % 10) ∷ rest))
+unfolding shownNat
+shown-length w n h k = rw (same-room 19 w n [] k h) (omega (arith, few-digits (suc w) true n []))
 
 -- and a minus
 pub whole-length : (w : ℕ) (x : ℤ) → natAbs x < 10 ^ suc w → natAbs x < 10 ^ 20 → length (shown x) ≤ suc (suc w)

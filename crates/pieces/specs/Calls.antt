@@ -41,7 +41,7 @@ unfolding turnPiece
 turn-ended net N room k l = refl
 
 -- what has ended stays so
-turns-ended : (net : Words) (N : Net) (room i n : ℕ) (l : Listed) → turns i n (turnPiece net N room) (ended l) ≡ ended l
+pub turns-ended : (net : Words) (N : Net) (room i n : ℕ) (l : Listed) → turns i n (turnPiece net N room) (ended l) ≡ ended l
 unfolding turns
 turns-ended net N room i n l = run-ended (turnPiece net N room) (turn-ended net N room) (n - i) i l
 
