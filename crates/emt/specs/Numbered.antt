@@ -1,7 +1,8 @@
 -- The calls as C sees them: the paper's number for the answer, and beside it the line, the place or the count. Assumes nothing.
 use Prim.Native.Nat.{ℕ}
 use mathlib.Core.Path.{_≡_}
-use mathlib.Core.List.{List}
+use mathlib.Core.List.{List, _++_}
+use lib.ListN.{length, drop}
 use Rattle.paper.specs.declared.Advance.{Advance}
 use Rattle.paper.specs.declared.Advance.the-variants.{Took, Network, Store, State, Area, Done, Wait, Floating, Range, Unbalanced, History}
 use Rattle.whole.specs.Lists.{Words}
@@ -9,6 +10,7 @@ use Rattle.paper.specs.Answers.{readingNumber, readingLine, resettingNumber, ad
 use Rattle.paper.specs.Reading.{readOf}
 use Rattle.paper.specs.Advance.{Memory, advanceOf}
 use Rattle.paper.specs.Resetting.{resetOf}
+use Rattle.paper.specs.Pieces.{listingNumber, listOf}
 
 pub record ReadsBy (text : List ℕ) (net : Words) (number line : ℕ) (after : Words) : Type 0 where
   pub answer : number ≡ readingNumber (readOf text net .answer)
@@ -37,3 +39,9 @@ pub record AdvancesBy (net : Words) (a : ℕ) (m : Memory) (number place : ℕ) 
   pub answer : number ≡ advanceNumber (advanceOf net a m .answer)
   pub place-of : place ≡ placeOrCount (advanceOf net a m .answer)
   pub memory : after ≡ advanceOf net a m .after
+
+pub record ListsBy (net : Words) (m : Memory) (out : List ℕ) (number written : ℕ) (b : List ℕ) (after : Memory) : Type 0 where
+  pub answer : number ≡ listingNumber (listOf net m (length out) .answer)
+  pub count : written ≡ length (listOf net m (length out) .written)
+  pub buffer : b ≡ listOf net m (length out) .written ++ drop (length (listOf net m (length out) .written)) out
+  pub memory : after ≡ listOf net m (length out) .after

@@ -3,10 +3,13 @@ ghost use mathlib.Core.Path.{_≡_};
 ghost use Rattle.paper.specs.Answers.{readingNumber, readingLine, resettingNumber, advanceNumber};
 ghost use Rattle.paper.specs.Advance.{memory};
 ghost use Rattle.paper.specs.One.{Reads, Resets, Advances};
-ghost use Rattle.emt.specs.Numbered.{ReadsBy, ResetsBy, AdvancesBy, placeOrCount};
+ghost use Rattle.paper.specs.Pieces.{Lists, listingNumber};
+ghost use Rattle.emt.specs.Numbered.{ReadsBy, ResetsBy, AdvancesBy, ListsBy, placeOrCount};
 use paper::Advance;
+use paper::Listing;
 use paper::Reading;
 use paper::Resetting;
+use steplist::Piece;
 
 // "Reading: 9, 7, then the first faulty line, in it 1 to 6 in turn"; "An accepted reading writes all 1,024 words, unused ones 0, and answers 0".
 pub fn read(text: &[u8], network: &mut [i64]) -> Reading
@@ -15,7 +18,7 @@ pub fn read(text: &[u8], network: &mut [i64]) -> Reading
     reading::read(text, network)
 }
 
-fn reading_number(answer: Reading) -> u64
+pub fn reading_number(answer: Reading) -> u64
     ensures { λ r. ⌜ r ≡ readingNumber answer ⌝ }
 {
     match answer {
@@ -31,7 +34,7 @@ fn reading_number(answer: Reading) -> u64
     }
 }
 
-fn reading_line(answer: Reading) -> u64
+pub fn reading_line(answer: Reading) -> u64
     ensures { λ r. ⌜ r ≡ readingLine answer ⌝ }
 {
     match answer {
@@ -150,4 +153,49 @@ pub extern "C" fn emt_advance(
     let answer = advancing::advance(network, records, froms, tos, area);
     *place = advance_place(answer);
     advance_number(answer)
+}
+
+// Advances all areas in rising order, full step after full step, and lists each, until the next might not fit into the buffer, an area is refused or all
+// steps are taken: 9, 8, 10, or what it came to and how many bytes it listed.
+pub fn list(
+    network: &[i64],
+    records: &mut [i64],
+    froms: &mut [i64],
+    tos: &mut [i64],
+    out: &mut [u8],
+) -> Piece
+    ensures { λ r. ⌜ Lists (now (network .entry)) (memory (now (records .entry)) (now (froms .entry)) (now (tos .entry))) (now (out .entry)) (r .answer) (r .count) (now (out .exit)) (memory (now (records .exit)) (now (froms .exit)) (now (tos .exit))) ⌝ }
+{
+    list::list(network, records, froms, tos, out)
+}
+
+fn listing_number(answer: Listing) -> u64
+    ensures { λ r. ⌜ r ≡ listingNumber answer ⌝ }
+{
+    match answer {
+        Listing::Done => 0,
+        Listing::Network => 8,
+        Listing::Store => 9,
+        Listing::State => 10,
+        Listing::More => 100,
+        Listing::Stopped => 101,
+    }
+}
+
+// How many bytes are listed: it is written whatever the answer is.
+#[no_mangle]
+pub extern "C" fn emt_list(
+    network: &[i64],
+    records: &mut [i64],
+    froms: &mut [i64],
+    tos: &mut [i64],
+    out: &mut [u8],
+    written: &mut u64,
+) -> u64
+    ensures { λ r. ⌜ ListsBy (now (network .entry)) (memory (now (records .entry)) (now (froms .entry)) (now (tos .entry))) (now (out .entry)) r (now (written .exit)) (now (out .exit)) (memory (now (records .exit)) (now (froms .exit)) (now (tos .exit))) ⌝ }
+{
+    let piece = list::list(network, records, froms, tos, out);
+    let answer = piece.answer;
+    *written = piece.count as u64;
+    listing_number(answer)
 }

@@ -1,0 +1,35 @@
+-- `emtrun::list_piece` meets its contract: what is listed fits the buffer, and it goes on only where there is more. Assumes nothing.
+use Prim.Native.Nat.{_≤_}
+use mathlib.Core.Path.{_≡_, refl, sym, ap, _∙_}
+use mathlib.Core.Bool.{true≢false}
+use borrow.Author.Needs.{needs}
+use lib.ListN.{length}
+use lib.Seq.{length-take-le}
+use Rattle.emtrun.specs.Pieces.{listed-fits}
+use Rattle.emtrun.proofs.list_piece.Statement.{statement}
+use Rattle.emtrun.proofs.list_piece.Tie as tie
+
+fits : (c : tie.After-list) → c .list .result .count ≤ length (c .list .last .1 .1 .1 .1 .0)
+fits c = listed-fits (c .list .ensures) (c .list .kept .1 .1 .1 .1 .0)
+
+slice-reshare-prefix-write-all : tie.Need-slice-reshare-prefix-write-all
+slice-reshare-prefix-write-all c = fits (c .before .before .before .before .before)
+
+slice-aggregate-write-all : tie.Need-slice-aggregate-write-all
+slice-aggregate-write-all c = let l = c .before .before .before .before .before .before in sym (length-take-le (l .list .result .count) (l .list .last .1 .1 .1 .1 .0) (fits l))
+
+returns : tie.Need-returns
+returns c =
+    let l = c .before .before .before .before .before .before .before .before .list .ensures in
+    record { more = λ e. absurd (true≢false (sym e)); buffer = l .buffer; memory = l .memory }
+
+returns-2 : tie.Need-returns-2
+returns-2 c =
+    let l = c .before .before .before .before .before .before .before .before .before .list .ensures in
+    record { more = λ e. sym (l .answer) ∙ c .enum-told .given .1; buffer = l .buffer; memory = l .memory }
+
+pub list-piece-spec : {M : Type 1} → statement M
+list-piece-spec =
+    tie.close
+    (tie.spec (λ c κs. search needs) slice-reshare-prefix-write-all slice-aggregate-write-all (λ c κs. search needs) (λ c. search needs) (λ c. search needs) (λ c. search needs)
+    (λ c. search needs) (λ c. search needs) returns (λ c. search needs) (λ c. search needs) (λ c. search needs) (λ c. search needs) returns-2)
