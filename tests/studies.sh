@@ -26,14 +26,9 @@ if ! cargo build -j1 --release --offline --manifest-path second/Cargo.toml >"$wo
     echo "0 passed, 1 failed"
     exit 1
 fi
-programs=$second
-if grep -q '^emtrun:' crates.txt; then
-    programs="$second target/bin/emtrun"
-else
-    echo "crate emtrun is not listed yet: the second program runs alone"
-fi
+[ -x target/bin/emtrun ] || rt check emtrun >"$work/rt" 2>&1 || tail -n 5 "$work/rt"
 
-for program in $programs; do
+for program in $second target/bin/emtrun; do
     for text in studies/*.txt; do
         name=$(basename "$text" .txt)
         "$program" <"$text" >"$work/$name.$(basename "$program")" 2>"$work/said"
