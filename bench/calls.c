@@ -1,5 +1,6 @@
 // A study on standard input, advanced area by area by emt_advance and, on memory of its own, by plain C (bench/lent.c); both must leave the same words.
-// callgrind counts the two (bench/calls.sh). With the argument `stack` it prints instead how many bytes of stack emt_advance has touched.
+// callgrind counts the two (bench/calls.sh). With the argument `judged` each call is refused by 11, so that it judges all that is lent and takes no step; with
+// `stack` it prints how many bytes of stack emt_advance has touched.
 #include <emt.h>
 #include <pthread.h>
 #include <stdio.h>
@@ -24,14 +25,11 @@ static int step(uint64_t area) {
     return a == 0;
 }
 
-// 100 rounds of one step of every area; in the first one 11 comes after the last area.
-static void run(void) {
-    uint64_t areas = 0;
-    while (step(areas + 1)) areas++;
+// What is counted: 99 rounds of one step of every area after the first, or of one call that is refused by 11.
+__attribute__((noinline)) static void counted(uint64_t first, uint64_t last, int taken) {
     for (int k = 1; k < 100; k++)
-        for (uint64_t area = 1; area <= areas; area++)
-            if (!step(area)) exit(1);
-    if (memcmp(&ours, &theirs, sizeof ours)) exit(1);
+        for (uint64_t area = first; area <= last; area++)
+            if (step(area) != taken) exit(1);
 }
 
 static void *advance_once(void *wanted) {
@@ -67,6 +65,11 @@ int main(int count, char **words) {
         printf("%zu\n", with - without);
         return 0;
     }
-    run();
-    return 0;
+    uint64_t areas = 0;
+    while (step(areas + 1)) areas++;
+    if (count > 1 && !strcmp(words[1], "judged"))
+        counted(EMT_NODES + 1, EMT_NODES + 1, 0);
+    else
+        counted(1, areas, 1);
+    return memcmp(&ours, &theirs, sizeof ours) != 0;
 }

@@ -1,6 +1,7 @@
 #!/usr/bin/env bash
 # Instructions of one call of emt_advance, counted by callgrind, beside plain C that judges the same lent words one by one and takes the same step (bench/lent.c),
-# averaged over 100 rounds of all areas of each bench study, and the bytes of stack that it touches. Both must leave the same words. A measurement and no test.
+# averaged over 99 rounds of all areas of each bench study; of the step alone, which is a call that takes it less one that is judged in full and then refused by 11; and the
+# bytes of stack that a call touches. Both programs must leave the same words. A measurement and no test.
 set -eu
 cd "$(dirname "$0")/.."
 
@@ -13,15 +14,20 @@ rt staticlib emt >"$work/rt" 2>&1 || { tail -n 5 "$work/rt"; exit 1; }
 gcc -O3 -ffp-contract=off -c -o "$work/lent.o" bench/lent.c
 gcc -O3 -Iinclude -o "$work/calls" bench/calls.c "$work/lent.o" target/staticlib/libemt.a -lpthread
 
-echo "| study | emt_advance | plain C | ratio | stack, bytes |"
-echo "|---|---|---|---|---|"
-for text in bench/studies/*.txt; do
-    name=$(basename "$text" .txt)
-    valgrind --tool=callgrind --compress-strings=no --callgrind-out-file="$work/count" "$work/calls" <"$text" 2>"$work/said" || { echo "$name: two answers or two states" >&2; exit 1; }
+# callgrind counts each byte that `rep stosb` clears as an instruction of its own; so libc is told to clear by ordinary stores, in both programs
+export GLIBC_TUNABLES=${GLIBC_TUNABLES-glibc.cpu.x86_rep_stosb_threshold=1000000}
+
+count() { # instructions of one call, ours and plain C's: a study and what is counted
+    valgrind --tool=callgrind --compress-strings=no --toggle-collect=counted --callgrind-out-file="$work/count" "$work/calls" $2 <"$1" 2>"$work/said" || { echo "$1: two answers or two states" >&2; exit 1; }
     callgrind_annotate --inclusive=yes --threshold=100 "$work/count" | tr -d , >"$work/table"
-    calls=$(awk -F'[= ]' '/^cfn=plain_advance$/ { getline; n += $2 } END { print n }' "$work/count")
-    awk -v name="$name" -v n="$calls" -v stack="$("$work/calls" stack <"$text")" '
+    awk -v n="$(awk -F'[= ]' '/^cfn=plain_advance$/ { getline; n += $2 } END { print n }' "$work/count")" '
         index($0, ":emt_advance ") { ours = $1 }
         index($0, ":plain_advance ") { plain = $1 }
-        END { printf "| %s | %.0f | %.0f | %.2f | %d |\n", name, ours / n, plain / n, ours / plain, stack }' "$work/table"
-done
+        END { print ours / n, plain / n }' "$work/table"
+}
+
+echo "| study | emt_advance | plain C | ratio | the step alone | plain C | ratio | stack, bytes |"
+echo "|---|---|---|---|---|---|---|---|"
+for text in bench/studies/*.txt; do
+    echo "$(basename "$text" .txt) $(count "$text" "") $(count "$text" judged) $("$work/calls" stack <"$text")"
+done | awk '{ printf "| %s | %.0f | %.0f | %.2f | %.0f | %.0f | %.2f | %d |\n", $1, $2, $3, $2 / $3, $2 - $4, $3 - $5, ($2 - $4) / ($3 - $5), $6 }'
