@@ -1,5 +1,5 @@
-//! The three calls over lent memory, as the paper states them: each answers its number and what the number
-//! carries, and every refusal leaves all lent memory unchanged.
+//! The paper's three calls over lent memory (the fourth is in list.rs): each answers its number and what the
+//! number carries, and every refusal leaves all lent memory unchanged.
 
 use crate::limits::Whole;
 use crate::network::Network;
@@ -54,7 +54,7 @@ pub fn advance(
 }
 
 /// 9 for a wrong length, then 8 for a record that the reader could not write.
-fn lent_network(words: &[i64], records: &[i64], froms: &[i64], tos: &[i64]) -> Result<Network, Stop> {
+pub fn lent_network(words: &[i64], records: &[i64], froms: &[i64], tos: &[i64]) -> Result<Network, Stop> {
     let lengths = [words.len(), records.len(), froms.len(), tos.len()];
     if lengths != [NETWORK_WORDS, RECORD_WORDS, STORE_WORDS, STORE_WORDS] {
         return Err(Stop::nowhere(Refusal::Store));

@@ -8,6 +8,7 @@ pub mod areas;
 pub mod calls;
 pub mod compare;
 pub mod limits;
+pub mod list;
 pub mod listing;
 pub mod network;
 pub mod reader;

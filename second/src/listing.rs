@@ -1,5 +1,6 @@
 //! The listing of `emtrun`: a study's run, or why its text was refused.
 
+use crate::limits::Whole;
 use crate::network::Network;
 use crate::reader;
 use crate::run::Run;
@@ -37,28 +38,46 @@ fn run_listing(mut run: Run) -> (String, Ending) {
         for area in 1..=run.network.area_count {
             if let Err(stop) = run.advance(area) {
                 let number = stop.refusal.number();
-                put(&mut listing, &format!("stop\t{step}\t{area}\t{number}\t{}", stop.place));
+                listing.push_str(&stop_line(step, area, number, stop.place as u64));
                 return (listing, Ending::Stop(number));
             }
         }
-        list_step(&mut listing, &run, step);
+        let (from_currents, to_currents) = (&run.from_currents, &run.to_currents);
+        listing.push_str(&step_lines(&run.network, step, &run.voltages, from_currents, to_currents));
     }
-    put(&mut listing, &format!("done\t{}", run.network.steps));
+    listing.push_str(&done_line(run.network.steps));
     (listing, Ending::Done)
 }
 
-fn list_step(listing: &mut String, run: &Run, step: i128) {
-    for (node, voltage) in run.voltages.iter().enumerate().skip(1) {
-        put(listing, &format!("v\t{step}\t{node}\t{voltage}"));
+/// A full step's lines. Voltages stand by node, ground's in place 0; currents by branch.
+pub fn step_lines(
+    network: &Network,
+    step: Whole,
+    voltages: &[Whole],
+    from_currents: &[Whole],
+    to_currents: &[Whole],
+) -> String {
+    let mut lines = String::new();
+    for (node, voltage) in voltages.iter().enumerate().skip(1) {
+        put(&mut lines, &format!("v\t{step}\t{node}\t{voltage}"));
     }
-    for (index, branch) in run.network.branches.iter().enumerate() {
-        let (number, current) = (index + 1, run.from_currents[index]);
+    for (index, branch) in network.branches.iter().enumerate() {
+        let (number, current) = (index + 1, from_currents[index]);
         if branch.is_line() {
-            put(listing, &format!("i\t{step}\t{number}\t{current}\t{}", run.to_currents[index]));
+            put(&mut lines, &format!("i\t{step}\t{number}\t{current}\t{}", to_currents[index]));
         } else {
-            put(listing, &format!("i\t{step}\t{number}\t{current}"));
+            put(&mut lines, &format!("i\t{step}\t{number}\t{current}"));
         }
     }
+    lines
+}
+
+pub fn stop_line(step: Whole, area: usize, number: u64, place: u64) -> String {
+    format!("stop\t{step}\t{area}\t{number}\t{place}\n")
+}
+
+pub fn done_line(steps: Whole) -> String {
+    format!("done\t{steps}\n")
 }
 
 fn put(listing: &mut String, line: &str) {

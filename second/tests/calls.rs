@@ -1,16 +1,19 @@
-//! The three calls over lent memory: the examples again, the rings against the whole run, and what makes
-//! lent memory fit.
+//! The four calls over lent memory: the examples again, the rings against the whole run, what makes lent
+//! memory fit, and the listing by pieces against the whole listing.
 
 use second::calls;
 use second::compare::dice::Dice;
 use second::compare::lent::Lent;
 use second::compare::moves::random_state;
 use second::compare::studies;
+use second::compare::widest;
+use second::list::{self, MORE, STEP_ROOM, STOPPED};
+use second::listing::listing_of;
 use second::network::Network;
 use second::reader::read_study;
 use second::record::{record_of, study_of_record, text_of, NETWORK_WORDS};
 use second::run::Run;
-use second::state::{self, RECORD_WORDS, STORE_WORDS};
+use second::state;
 
 fn network_words(text: &str) -> Vec<i64> {
     let mut words = vec![7; NETWORK_WORDS];
@@ -19,16 +22,21 @@ fn network_words(text: &str) -> Vec<i64> {
 }
 
 fn at_rest(text: &str) -> Lent {
-    Lent {
-        network: network_words(text),
-        records: vec![0; RECORD_WORDS],
-        froms: vec![0; STORE_WORDS],
-        tos: vec![0; STORE_WORDS],
-    }
+    Lent::at_rest(&network_words(text))
 }
 
 fn advance(lent: &mut Lent, area: u64) -> (u64, u64) {
     calls::advance(&lent.network, &mut lent.records, &mut lent.froms, &mut lent.tos, area)
+}
+
+/// The number and the lines listed into so many bytes; the bytes behind the lines must stay as they were.
+fn list(lent: &mut Lent, room: usize) -> (u64, String) {
+    let mut out = vec![b'?'; room];
+    let (number, written) =
+        list::list(&lent.network, &mut lent.records, &mut lent.froms, &mut lent.tos, &mut out);
+    let (lines, rest) = out.split_at(written as usize);
+    assert!(rest.iter().all(|byte| *byte == b'?'));
+    (number, String::from_utf8(lines.to_vec()).expect("plain text"))
 }
 
 fn words(lent: &Lent) -> [&Vec<i64>; 4] {
@@ -202,5 +210,117 @@ fn advance_depends_on_its_own_area_only() {
             assert_eq!(one.records[place], other.records[place], "seed {seed}");
         }
         assert_eq!((one.froms, one.tos), (other.froms, other.tos), "seed {seed}");
+    }
+}
+
+#[test]
+fn e1_in_one_piece() {
+    let text = "study\t1000\t1\t0\nVS\t1\t1000\t1\t0\nR\t1\t2\t2000\nR\t2\t0\t2000\n";
+    let mut lent = at_rest(text);
+    assert_eq!(list(&mut lent, STEP_ROOM), (0, listing_of(text.as_bytes())));
+    assert_eq!(lent.records[0], 1);
+    assert_eq!(list(&mut lent, STEP_ROOM), (0, "done\t1\n".to_string()));
+}
+
+#[test]
+fn a_study_without_areas_is_done() {
+    let mut lent = at_rest("study\t1000\t7\t0\n");
+    assert_eq!(list(&mut lent, STEP_ROOM), (0, "done\t7\n".to_string()));
+    assert_eq!(lent, at_rest("study\t1000\t7\t0\n"));
+}
+
+#[test]
+fn pieces_make_the_whole_listing() {
+    for seed in 0..200 {
+        let mut dice = Dice::new(seed);
+        let text = studies::random_text(&mut dice);
+        let mut lent = at_rest(std::str::from_utf8(&text).expect("plain text"));
+        let mut listing = String::new();
+        let mut number = MORE;
+        while number == MORE {
+            let room = dice.between(STEP_ROOM as i64, 6_000) as usize;
+            let (answer, piece) = list(&mut lent, room);
+            number = answer;
+            listing.push_str(&piece);
+        }
+        assert_eq!(listing, listing_of(&text), "seed {seed}");
+        assert_eq!(number == STOPPED, listing.contains("stop"), "seed {seed}");
+    }
+}
+
+/// A step begins only where 4,160 bytes are left, although its lines are far shorter.
+#[test]
+fn room_before_each_step() {
+    let first = "v\t1\t1\t1000\nv\t1\t2\t0\ni\t1\t1\t2500000000\t0\n";
+    let second = first.replace("\t1\t1\t", "\t2\t1\t").replace("\t1\t2\t", "\t2\t2\t");
+    assert_eq!(list(&mut at_rest(E5), STEP_ROOM), (MORE, first.to_string()));
+    assert_eq!(list(&mut at_rest(E5), STEP_ROOM + first.len() - 1), (MORE, first.to_string()));
+    assert_eq!(list(&mut at_rest(E5), STEP_ROOM + first.len()), (MORE, format!("{first}{second}")));
+    // `done` asks for no such room.
+    let whole = listing_of(E5.as_bytes());
+    let last_step = whole.find("v\t8\t1\t").expect("step 8 is listed");
+    assert_eq!(list(&mut at_rest(E5), STEP_ROOM + last_step), (0, whole));
+}
+
+#[test]
+fn a_refused_area_stops_the_listing() {
+    // Node 2, an area of its own, hangs at a switch that opens at step 2.
+    let text = "study\t1000\t5\t0\nVS\t1\t9\t1\t0\nR\t1\t0\t1000\nSW\t2\t0\t1000\t1\t2\n";
+    let mut lent = at_rest(text);
+    let (number, lines) = list(&mut lent, 65_536);
+    assert_eq!(number, STOPPED);
+    assert_eq!(lines, listing_of(text.as_bytes()));
+    assert!(lines.ends_with("i\t1\t2\t0\nstop\t2\t2\t14\t2\n"), "{lines}");
+    // Area 1 keeps the step that it took, so the areas have no full step in common any more.
+    assert_eq!(lent.records[..2], [2, 1]);
+    assert_eq!(list(&mut lent, 65_536), (10, String::new()));
+    // Where the first area is refused, the next call stops at the same place.
+    let mut lent = at_rest("study\t1000\t9\t0\nVS\t1\t1000\t1\t0\nSW\t1\t2\t1000\t5\t10\n");
+    for _ in 0..2 {
+        assert_eq!(list(&mut lent, STEP_ROOM), (STOPPED, "stop\t1\t1\t14\t2\n".to_string()));
+    }
+}
+
+#[test]
+fn refused_listings_write_nothing() {
+    let refused = |room: usize, change: &dyn Fn(&mut Lent)| {
+        let mut lent = at_rest(E5);
+        change(&mut lent);
+        let before = lent.clone();
+        let (number, lines) = list(&mut lent, room);
+        assert!(lines.is_empty() && lent == before);
+        number
+    };
+    let damage_network = |lent: &mut Lent| lent.network[4] = 1;
+    let damage_state = |lent: &mut Lent| lent.records[511] = 1;
+    assert_eq!(refused(0, &|_| ()), 9);
+    assert_eq!(refused(STEP_ROOM - 1, &damage_network), 9);
+    assert_eq!(refused(STEP_ROOM, &|lent| lent.froms.truncate(4_095)), 9);
+    assert_eq!(refused(STEP_ROOM, &|lent| lent.network.push(0)), 9);
+    assert_eq!(refused(STEP_ROOM, &damage_network), 8);
+    let damage_both = |lent: &mut Lent| {
+        damage_network(lent);
+        damage_state(lent);
+    };
+    assert_eq!(refused(STEP_ROOM, &damage_both), 8);
+    assert_eq!(refused(STEP_ROOM, &damage_state), 10);
+    assert_eq!(refused(STEP_ROOM, &|lent| lent.tos[4] = 1), 10);
+    assert_eq!(refused(STEP_ROOM, &|lent| lent.records[1] = 1), 10);
+}
+
+/// The longest lines of a step that we could bring about, and `done`, have room in the shortest buffer.
+#[test]
+fn the_widest_step_has_room() {
+    let study = read_study(&widest::text()).expect("a good text");
+    let mut lent = widest::state(&study);
+    let (number, lines) = list(&mut lent, STEP_ROOM);
+    assert_eq!((number, lines.len()), (0, 4_059));
+    for line in [
+        "v\t1000000\t32\t-20000000\n",
+        "i\t1000000\t32\t-100000000000000000\t-100000000000000000\n",
+        "i\t1000000\t63\t-100000000000000000\t-99999999980000000\n",
+        "i\t1000000\t64\t-100000000000000000\t99999999980000000\ndone\t1000000\n",
+    ] {
+        assert!(lines.contains(line), "{line}");
     }
 }

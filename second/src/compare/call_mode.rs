@@ -1,16 +1,19 @@
-//! `compare calls`: the proved library's three calls against ours, every lent word after every call.
+//! `compare calls`: the proved library's four calls against ours, every lent word after every call.
 
 use super::arguments::Arguments;
 use super::damage;
 use super::dice::Dice;
 use super::fixed;
 use super::foreign::{self, Calls};
+use super::list_slips;
+use super::listings;
 use super::moves::{self, Depth};
 use super::shrink;
 use super::slips;
 use super::studies;
 use super::tally::{Difference, Tally};
 use super::text_mode;
+use super::widest;
 
 const MOST_REPORTS: u64 = 10;
 const SHRINK_TRIES: usize = 3_000;
@@ -22,7 +25,9 @@ type Question<'a> = &'a dyn Fn(&[u8], &mut Tally) -> Result<(), Difference>;
 /// Compares the linked library; true where nothing differs.
 pub fn compare_calls(arguments: &Arguments) -> bool {
     let Some(calls) = foreign::proved_calls() else {
-        println!("built without the proved library: see README.md for the features read, reset, advance");
+        println!(
+            "built without the proved library: see README.md for the features read, reset, advance, list"
+        );
         return false;
     };
     let seed = arguments.number("--seed", 1);
@@ -59,6 +64,7 @@ impl Extent {
 fn compare_all(calls: &Calls, extent: &Extent, aloud: bool) -> Tally {
     let mut tally = Tally::default();
     compare_reading(calls, extent, aloud, &mut tally);
+    compare_fixed_listings(calls, aloud, &mut tally);
     for index in extent.first..extent.first + extent.studies {
         if stop_early(&tally, aloud) {
             break;
@@ -67,7 +73,10 @@ fn compare_all(calls: &Calls, extent: &Extent, aloud: bool) -> Tally {
         let text = studies::random_text(&mut Dice::new(seed));
         let depth = if index % EVERY_WORD_TURN == 0 { Depth::EveryWord } else { Depth::Usual };
         let failed = tally.failed;
-        ask(&text, aloud, &mut tally, &|text, tally| moves::ask_moves(calls, text, seed, depth, tally));
+        ask(&text, aloud, &mut tally, &|text, tally| {
+            moves::ask_moves(calls, text, seed, depth, tally)?;
+            listings::ask_listings(calls, text, seed, depth, tally)
+        });
         if aloud && tally.failed > failed {
             println!("found at study number {index}: --first {index} --count 1 asks it again\n");
         }
@@ -95,6 +104,16 @@ fn compare_reading(calls: &Calls, extent: &Extent, aloud: bool, tally: &mut Tall
     }
     for index in extent.first..extent.first + extent.texts {
         ask(&text_mode::numbered_text(extent.seed, index), aloud, tally, &read);
+    }
+}
+
+/// What random studies do not come to: the widest step, and a study without areas.
+fn compare_fixed_listings(calls: &Calls, aloud: bool, tally: &mut Tally) {
+    ask(&widest::text(), aloud, tally, &|text, tally| listings::ask_widest(calls, text, tally));
+    for text in ["study\t1000\t1\t0\n", "study\t1\t1000000\t0\n"] {
+        ask(text.as_bytes(), aloud, tally, &|text, tally| {
+            listings::ask_listings(calls, text, 0, Depth::Usual, tally)
+        });
     }
 }
 
@@ -127,7 +146,7 @@ pub fn compare_self(arguments: &Arguments) -> bool {
     let extent = Extent { seed, fixed_list: 1, edits: 1, texts: 2 * studies, studies, first: 0 };
     let mut tally = compare_all(&slips::own_calls(), &extent, true);
     // The planted ones need no list of texts but where the slip is the reader's.
-    for (name, calls, in_reader) in slips::planted() {
+    for (name, calls, in_reader) in slips::planted().into_iter().chain(list_slips::planted()) {
         let extent = Extent { fixed_list: usize::from(in_reader), edits: 0, texts: 50, ..extent };
         let found = compare_all(&calls, &extent, false).failed > 0;
         println!("{} planted slip: {name}", if found { "found" } else { "NOT FOUND" });

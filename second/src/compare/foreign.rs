@@ -3,6 +3,7 @@
 pub type ReadCall = fn(&[u8], &mut [i64]) -> (u64, u64);
 pub type ResetCall = fn(&[i64], &mut [i64], &mut [i64], &mut [i64]) -> u64;
 pub type AdvanceCall = fn(&[i64], &mut [i64], &mut [i64], &mut [i64], u64) -> (u64, u64);
+pub type ListCall = fn(&[i64], &mut [i64], &mut [i64], &mut [i64], &mut [u8]) -> (u64, u64);
 
 /// A later call is compared only together with the earlier ones.
 #[derive(Clone, Copy)]
@@ -10,6 +11,7 @@ pub struct Calls {
     pub read: ReadCall,
     pub reset: Option<ResetCall>,
     pub advance: Option<AdvanceCall>,
+    pub list: Option<ListCall>,
 }
 
 /// The proved calls, or none in a build without the library.
@@ -25,6 +27,10 @@ pub fn proved_calls() -> Option<Calls> {
         advance: Some(linked::advance),
         #[cfg(not(feature = "advance"))]
         advance: None,
+        #[cfg(feature = "list")]
+        list: Some(linked::list),
+        #[cfg(not(feature = "list"))]
+        list: None,
     });
     #[cfg(not(feature = "read"))]
     None
@@ -63,6 +69,20 @@ mod linked {
             tos_len: usize,
             area: u64,
             place: *mut u64,
+        ) -> u64;
+        #[cfg(feature = "list")]
+        fn emt_list(
+            network: *const i64,
+            network_len: usize,
+            records: *mut i64,
+            records_len: usize,
+            froms: *mut i64,
+            froms_len: usize,
+            tos: *mut i64,
+            tos_len: usize,
+            out: *mut u8,
+            out_len: usize,
+            written: *mut u64,
         ) -> u64;
     }
 
@@ -119,5 +139,33 @@ mod linked {
             )
         };
         (number, place)
+    }
+
+    #[cfg(feature = "list")]
+    pub fn list(
+        network: &[i64],
+        records: &mut [i64],
+        froms: &mut [i64],
+        tos: &mut [i64],
+        out: &mut [u8],
+    ) -> (u64, u64) {
+        let mut written = UNWRITTEN;
+        // SAFETY: every pair comes from a slice, no two slices overlap, `written` is one word of our own.
+        let number = unsafe {
+            emt_list(
+                network.as_ptr(),
+                network.len(),
+                records.as_mut_ptr(),
+                records.len(),
+                froms.as_mut_ptr(),
+                froms.len(),
+                tos.as_mut_ptr(),
+                tos.len(),
+                out.as_mut_ptr(),
+                out.len(),
+                &mut written,
+            )
+        };
+        (number, written)
     }
 }

@@ -1,43 +1,70 @@
 //! Lent memory for one question: our calls work on it directly, the others on a copy between guard words.
 
 use super::dice::Dice;
-use super::foreign::{AdvanceCall, ReadCall, ResetCall};
+use super::foreign::{AdvanceCall, ListCall, ReadCall, ResetCall};
 use super::tally::Difference;
 use crate::calls;
+use crate::list::{self, STEP_ROOM};
 use crate::state::{RECORD_WORDS, STORE_WORDS};
+use std::fmt::Display;
 
-const GUARD_WORDS: usize = 64;
-const GUARD: i64 = 0x5AFE_6A4D_0BAD_F00D;
-
-/// A copy of lent words with guard words on both sides that nobody may change.
-pub struct Guarded {
-    words: Vec<i64>,
+/// What is lent in slices, and what stands around them.
+pub trait Lendable: Copy + PartialEq + Display {
+    const NAME: &'static str;
+    const GUARD: Self;
+    /// On either side; wide enough that a whole step written too far is seen and does no harm.
+    const GUARDS: usize;
 }
 
-impl Guarded {
-    pub fn around(content: &[i64]) -> Guarded {
-        let guard = [GUARD; GUARD_WORDS];
-        Guarded { words: [&guard, content, &guard].concat() }
+impl Lendable for i64 {
+    const NAME: &'static str = "word";
+    const GUARD: i64 = 0x5AFE_6A4D_0BAD_F00D;
+    const GUARDS: usize = 64;
+}
+
+impl Lendable for u8 {
+    const NAME: &'static str = "byte";
+    const GUARD: u8 = 0xA5;
+    const GUARDS: usize = STEP_ROOM;
+}
+
+/// A copy of a lent slice with guards on both sides that nobody may change.
+pub struct Guarded<T> {
+    all: Vec<T>,
+}
+
+impl<T: Lendable> Guarded<T> {
+    pub fn around(content: &[T]) -> Guarded<T> {
+        let guard = vec![T::GUARD; T::GUARDS];
+        Guarded { all: [&guard, content, &guard].concat() }
     }
 
-    pub fn lent(&mut self) -> &mut [i64] {
-        let end = self.words.len() - GUARD_WORDS;
-        &mut self.words[GUARD_WORDS..end]
+    pub fn lent(&mut self) -> &mut [T] {
+        let end = self.all.len() - T::GUARDS;
+        &mut self.all[T::GUARDS..end]
     }
 
-    /// Where the copy differs from the wanted words, or a guard word was changed; empty if nowhere.
-    fn differences(&self, name: &str, wanted: &[i64]) -> Vec<String> {
-        let end = self.words.len() - GUARD_WORDS;
-        let (before, after) = (&self.words[..GUARD_WORDS], &self.words[end..]);
-        let content = &self.words[GUARD_WORDS..end];
+    fn content(&self) -> &[T] {
+        &self.all[T::GUARDS..self.all.len() - T::GUARDS]
+    }
+
+    fn intact(&self) -> bool {
+        let (before, rest) = self.all.split_at(T::GUARDS);
+        let after = &rest[rest.len() - T::GUARDS..];
+        before.iter().chain(after).all(|guard| *guard == T::GUARD)
+    }
+
+    /// Where the copy differs from what is wanted, or a guard was changed; empty if nowhere.
+    fn differences(&self, name: &str, wanted: &[T]) -> Vec<String> {
+        let content = self.content();
         let mut found = Vec::new();
-        if before.iter().chain(after).any(|word| *word != GUARD) {
-            found.push(format!("words around the lent {name} were changed"));
+        if !self.intact() {
+            found.push(format!("{}s around the lent {name} were changed", T::NAME));
         }
         if content != wanted {
             let places = (0..wanted.len()).filter(|place| content[*place] != wanted[*place]);
             let shown = places.take(6).map(|place| {
-                format!("{name} word {place}: wanted {}, found {}", wanted[place], content[place])
+                format!("{name} {} {place}: wanted {}, found {}", T::NAME, wanted[place], content[place])
             });
             found.extend(shown);
         }
@@ -46,7 +73,7 @@ impl Guarded {
 }
 
 /// Network, records and both line stores.
-#[derive(Clone)]
+#[derive(Clone, PartialEq, Debug)]
 pub struct Lent {
     pub network: Vec<i64>,
     pub records: Vec<i64>,
@@ -62,6 +89,26 @@ impl Lent {
             records: rubbish(dice, RECORD_WORDS),
             froms: rubbish(dice, STORE_WORDS),
             tos: rubbish(dice, STORE_WORDS),
+        }
+    }
+
+    /// The network given, at rest.
+    pub fn at_rest(network: &[i64]) -> Lent {
+        Lent {
+            network: network.to_vec(),
+            records: vec![0; RECORD_WORDS],
+            froms: vec![0; STORE_WORDS],
+            tos: vec![0; STORE_WORDS],
+        }
+    }
+
+    /// The lent slices by number: network, records, from-end store, to-end store.
+    pub fn slice(&mut self, number: usize) -> &mut Vec<i64> {
+        match number {
+            0 => &mut self.network,
+            1 => &mut self.records,
+            2 => &mut self.froms,
+            _ => &mut self.tos,
         }
     }
 }
@@ -83,17 +130,12 @@ pub fn same_read(call: ReadCall, text: &[u8], network: &mut [i64]) -> Result<(u6
     let mut copy = Guarded::around(network);
     let theirs = call(text, copy.lent());
     let ours = calls::read(text, network);
-    if ours == theirs && copy.words[GUARD_WORDS..][..network.len()] == *network && intact(&copy) {
+    if ours == theirs && copy.content() == network && copy.intact() {
         return Ok(ours);
     }
     let found = copy.differences("network", network);
     let question = format!("in reading, network of {} words", network.len());
     settle(question, shown_read(ours), shown_read(theirs), found).map(|()| ours)
-}
-
-fn intact(copy: &Guarded) -> bool {
-    let end = copy.words.len() - GUARD_WORDS;
-    copy.words[..GUARD_WORDS].iter().chain(&copy.words[end..]).all(|word| *word == GUARD)
 }
 
 fn shown_read(answer: (u64, u64)) -> String {
@@ -102,10 +144,10 @@ fn shown_read(answer: (u64, u64)) -> String {
 
 /// The guarded copies of all four lent slices.
 struct Copies {
-    network: Guarded,
-    records: Guarded,
-    froms: Guarded,
-    tos: Guarded,
+    network: Guarded<i64>,
+    records: Guarded<i64>,
+    froms: Guarded<i64>,
+    tos: Guarded<i64>,
 }
 
 impl Copies {
@@ -150,6 +192,40 @@ pub fn same_advance(call: AdvanceCall, lent: &mut Lent, area: u64) -> Result<(u6
     let question = format!("in advancing area {area}, records before the call: {}", nonzero(&before));
     let shown = |answer: (u64, u64)| format!("number {}, place or count {}", answer.0, answer.1);
     settle(question, shown(ours), shown(theirs), found).map(|()| ours)
+}
+
+/// Asks both to list into the buffer; answers ours, with `lent` and `out` as we leave them, where everything
+/// agrees, the bytes behind the listing too.
+pub fn same_list(call: ListCall, lent: &mut Lent, out: &mut [u8]) -> Result<(u64, u64), Difference> {
+    let mut copies = Copies::of(lent);
+    let mut buffer = Guarded::around(out);
+    let theirs = call(
+        copies.network.lent(),
+        copies.records.lent(),
+        copies.froms.lent(),
+        copies.tos.lent(),
+        buffer.lent(),
+    );
+    let before = lent.records.clone();
+    let ours = list::list(&lent.network, &mut lent.records, &mut lent.froms, &mut lent.tos, out);
+    let mut found = copies.differences(lent);
+    found.extend(buffer.differences("buffer", out));
+    if ours == theirs && found.is_empty() {
+        return Ok(ours);
+    }
+    let question = format!("in listing into {} bytes, records before: {}", out.len(), nonzero(&before));
+    let same = out.iter().zip(buffer.content()).take_while(|(our, their)| our == their).count();
+    let ours_shown = shown_list(ours, out, same);
+    settle(question, ours_shown, shown_list(theirs, buffer.content(), same), found).map(|()| ours)
+}
+
+/// The answer, and what is listed from the line on in which the two part.
+fn shown_list(answer: (u64, u64), out: &[u8], same: usize) -> String {
+    let listed = &out[..out.len().min(answer.1 as usize)];
+    let common = &listed[..same.min(listed.len())];
+    let start = common.iter().rposition(|byte| *byte == b'\n').map_or(0, |place| place + 1);
+    let lines = String::from_utf8_lossy(&listed[start..listed.len().min(start + 300)]).into_owned();
+    format!("number {}, {} bytes written; from byte {start} on:\n{lines}", answer.0, answer.1)
 }
 
 /// The words that are not zero, with their places, as far as a reader would follow.

@@ -90,12 +90,7 @@ impl Asker<'_> {
         let kept = self.lent.clone();
         for slice in 0..4 {
             let wrong = self.dice.below(5);
-            let words = match slice {
-                0 => &mut self.lent.network,
-                1 => &mut self.lent.records,
-                2 => &mut self.lent.froms,
-                _ => &mut self.lent.tos,
-            };
+            let words = self.lent.slice(slice);
             let right = words.len();
             words.resize([0, 1, right - 1, right + 1, 2 * right][wrong], 0);
             self.ask_reset()?;
@@ -139,7 +134,7 @@ impl Asker<'_> {
     fn damage_a_word(&mut self, network: &Network, area: u64) -> Result<(), Difference> {
         let kept = self.lent.clone();
         let used = state::used_slots(network).max(1);
-        let value = self.odd_word(0);
+        let value = odd_word(&mut self.dice, 0);
         match self.dice.below(4) {
             0 => {
                 let place = self.dice.below(self.lent.froms.len());
@@ -157,28 +152,6 @@ impl Asker<'_> {
         self.ask_advance(area)?;
         self.lent = kept;
         Ok(())
-    }
-
-    /// A word at or near an end of some range, or near the old word.
-    fn odd_word(&mut self, old: i64) -> i64 {
-        const ENDS: [i64; 9] = [
-            0,
-            20_000_000,
-            1_000_000,
-            100_000_000_000_000_000,
-            140_000_000_000_000_000,
-            1_000_000_000_000_000,
-            i64::MAX,
-            i64::MIN + 1,
-            1 << 32,
-        ];
-        let near = self.dice.between(-1, 1);
-        let end = self.dice.pick(&ENDS);
-        match self.dice.below(4) {
-            0 => old.wrapping_add(self.dice.pick(&[-1, 1])),
-            1 => end.wrapping_neg().wrapping_add(near),
-            _ => end.wrapping_add(near),
-        }
     }
 
     /// A well-formed state that no run need reach, at any step up to the millionth, and some advances on it.
@@ -234,7 +207,7 @@ impl Asker<'_> {
                     *word
                 };
                 let old = words(&mut self.lent, None);
-                let new = self.odd_word(old);
+                let new = odd_word(&mut self.dice, old);
                 words(&mut self.lent, Some(new));
                 let area = self.some_area();
                 if self.ask_advance(area)? {
@@ -257,7 +230,7 @@ impl Asker<'_> {
                 _ => self.dice.below(in_use + 8),
             };
             let small = self.dice.between(0, 9);
-            let odd = self.odd_word(kept.network[place]);
+            let odd = odd_word(&mut self.dice, kept.network[place]);
             self.lent.network[place] = if self.dice.one_in(3) { small } else { odd };
             let area = self.some_area();
             self.ask_advance(area)?;
@@ -268,6 +241,28 @@ impl Asker<'_> {
             self.lent = kept.clone();
         }
         Ok(())
+    }
+}
+
+/// A word at or near an end of some range, or near the old word.
+pub fn odd_word(dice: &mut Dice, old: i64) -> i64 {
+    const ENDS: [i64; 9] = [
+        0,
+        20_000_000,
+        1_000_000,
+        100_000_000_000_000_000,
+        140_000_000_000_000_000,
+        1_000_000_000_000_000,
+        i64::MAX,
+        i64::MIN + 1,
+        1 << 32,
+    ];
+    let near = dice.between(-1, 1);
+    let end = dice.pick(&ENDS);
+    match dice.below(4) {
+        0 => old.wrapping_add(dice.pick(&[-1, 1])),
+        1 => end.wrapping_neg().wrapping_add(near),
+        _ => end.wrapping_add(near),
     }
 }
 

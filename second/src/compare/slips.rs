@@ -3,12 +3,18 @@
 
 use super::foreign::Calls;
 use crate::calls;
+use crate::list;
 use crate::network::Network;
 use crate::record;
 use crate::state;
 
 pub fn own_calls() -> Calls {
-    Calls { read: calls::read, reset: Some(calls::reset), advance: Some(calls::advance) }
+    Calls {
+        read: calls::read,
+        reset: Some(calls::reset),
+        advance: Some(calls::advance),
+        list: Some(list::list),
+    }
 }
 
 /// Name, calls, and whether the slip is in the reader.
