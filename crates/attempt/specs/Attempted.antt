@@ -26,9 +26,11 @@ use Rattle.facts.specs.Nets.{NetSound, netIn, net-sound}
 use Rattle.rows.specs.Mapped.{Mapped}
 use Rattle.plan.specs.Planned.{Planned}
 use Rattle.endleg.specs.EndLeg.{Known, Kept}
+use Rattle.own.specs.Nexts.{Nexts}
 use Rattle.lay.specs.Laid.{Laid, Room, stepLeg}
-use Rattle.lay.specs.SizedLaws.{laid-legs, laid-sized, near-node, far-node}
+use Rattle.lay.specs.SizedLaws.{laid-legs, laid-sized, laid-resting, near-node, far-node}
 use Rattle.wires.specs.Wires.{legsIn, Sized}
+use Rattle.wires.specs.Resting.{Resting}
 use Rattle.wires.specs.Shares.{Volts}
 use Rattle.wires.specs.Free as Wires
 use Rattle.sources.specs.Values.{Injects}
@@ -147,6 +149,9 @@ module _ (net recs froms tos c : Words) (areas offsets delays : List ℕ) (rows 
 
   pub all-sized : Sized near far g h rows
   all-sized = laid-sized (netIn net) s a k (S .area-least) recs froms tos (S .kept) rows (S .row-count) near far g h L
+
+  pub all-resting : (next : List ℕ) → Nexts (netIn net) a next → Resting near next rows
+  all-resting = laid-resting (netIn net) s a k (S .area-least) recs froms tos (S .kept) rows (S .row-count) near far g h L
 
   wired : Wired near far g (netIn net .nodes) (2 * rows)
   wired =

@@ -4,6 +4,7 @@ ghost use Prim.Native.Nat.{_≤_};
 ghost use lib.ListN.{length};
 ghost use Rattle.facts.specs.Nets.{netIn};
 ghost use Rattle.alike.specs.Square.{Square};
+ghost use Rattle.own.specs.Nexts.{Nexts};
 ghost use Rattle.lay.specs.Laid.{Room};
 ghost use Rattle.attempt.specs.Attempted.{Stand, Attempted};
 use paper::Advance;
@@ -24,6 +25,7 @@ pub fn attempt<'a>(
     offsets: &[usize; 80],
     delays: &[usize; 80],
     rows: usize,
+    next: &[usize; 81],
     nodes: usize,
     area: usize,
     k: usize,
@@ -35,6 +37,7 @@ pub fn attempt<'a>(
     matrix: &mut [[f64; 32]; 32],
 ) -> Outcome
     requires { ⌜ Stand (now net) (now records) (now froms) (now tos) (now conductances) (now areas) (now offsets) (now delays) rows nodes area ⌝ }
+    requires { ⌜ Nexts (netIn (now net)) area (now next) ⌝ }
     requires { ⌜ Room (now near) (now far) (now g) (now h) ⌝ }
     requires { ⌜ (length (now joins) ≡ 1024) × Square (now matrix) ⌝ }
     ensures { λ r. ⌜ Attempted (now (net .entry)) area k (now (records .entry)) (now (froms .entry)) (now (tos .entry)) rows (now (near .exit)) (now (far .exit)) (now (g .exit)) (now (h .exit)) r ⌝ }
@@ -43,6 +46,7 @@ pub fn attempt<'a>(
     lay::lay(
         net,
         rows,
+        next,
         areas,
         conductances,
         offsets,
@@ -63,7 +67,7 @@ pub fn attempt<'a>(
     let fixed = free::fixed_nodes(net, rows);
     let mut free = [0; 32];
     let n = free::free_nodes(areas, &fixed, nodes, area, &mut free);
-    let node = floating::floating(near, far, g, rows, &fixed, &free, n);
+    let node = floating::floating(near, far, g, rows, next, &fixed, &free, n);
     if node != 0 {
         return Outcome {
             answer: Advance::Floating(node as u64),
@@ -77,6 +81,7 @@ pub fn attempt<'a>(
         g,
         h,
         rows,
+        next,
         &inject,
         &free,
         n,

@@ -12,6 +12,7 @@ ghost use Rattle.wires.specs.Wires.{legsIn, Sized};
 ghost use Rattle.wires.specs.Shares.{Volts};
 ghost use Rattle.wires.specs.Sums.{Sums};
 ghost use Rattle.wires.specs.Free.{Free, Injects};
+ghost use Rattle.wires.specs.Resting.{Resting};
 ghost use Rattle.balance.specs.Past.{Near, firstPast};
 
 // one leg more; at ground, where idle legs stand too, nothing is summed
@@ -35,24 +36,25 @@ fn add_current(
     }
 }
 
-// by node, the currents that leave it
+// By node, the currents that leave it. By a row that rests none does, so only the area's own rows are met.
 fn currents(
     near: &[usize; 160],
     far: &[usize; 160],
     g: &[i64; 160],
     h: &[i64; 160],
     rows: usize,
+    next: &[usize; 81],
     v: &[i64; 33],
 ) -> [i64; 33]
-    requires { ⌜ Sized (now near) (now far) (now g) (now h) rows × Volts (now v) ⌝ }
+    requires { ⌜ Sized (now near) (now far) (now g) (now h) rows × Volts (now v) ⌝ ∗ ⌜ Resting (now near) (now next) rows ⌝ }
     ensures { λ r. ⌜ Sums (current (now (v .entry))) (legsIn (now (near .entry)) (now (far .entry)) (now (g .entry)) (now (h .entry)) (2 * rows)) r ⌝ }
 {
     let mut sums = [0; 33];
-    let legs = 2 * rows;
-    let mut j = 0;
-    while j < legs {
-        add_current(near, far, g, h, rows, v, j, &mut sums);
-        j += 1;
+    let mut i = next[0];
+    while i < rows {
+        add_current(near, far, g, h, rows, v, 2 * i, &mut sums);
+        add_current(near, far, g, h, rows, v, 2 * i + 1, &mut sums);
+        i = next[i + 1];
     }
     sums
 }
@@ -81,15 +83,16 @@ pub fn balance(
     g: &[i64; 160],
     h: &[i64; 160],
     rows: usize,
+    next: &[usize; 81],
     v: &[i64; 33],
     inject: &[i64; 33],
     free: &[usize; 32],
     n: usize,
     limit: i64,
 ) -> usize
-    requires { ⌜ Sized (now near) (now far) (now g) (now h) rows × Volts (now v) ⌝ ∗ ⌜ Injects (now inject) ⌝ ∗ ⌜ Free (now free) n ⌝ ∗ ⌜ T (nonNeg limit) ⌝ }
+    requires { ⌜ Sized (now near) (now far) (now g) (now h) rows × Volts (now v) ⌝ ∗ ⌜ Injects (now inject) ⌝ ∗ ⌜ Free (now free) n ⌝ ∗ ⌜ T (nonNeg limit) ⌝ ∗ ⌜ Resting (now near) (now next) rows ⌝ }
     ensures { λ r. ⌜ r ≡ unbalanced (nat limit) (legsIn (now (near .entry)) (now (far .entry)) (now (g .entry)) (now (h .entry)) (2 * rows)) (λ p. word (now (inject .entry)) p) (now (v .entry)) (take n (now (free .entry))) ⌝ }
 {
-    let sums = currents(near, far, g, h, rows, v);
+    let sums = currents(near, far, g, h, rows, next, v);
     first_past(&sums, inject, free, n, limit)
 }

@@ -1,6 +1,6 @@
 -- What is known where a step is written, and that what is written is the definition's. Assumes nothing.
-use Prim.Native.Nat.{ℕ, _*_, _≤_, _<_}
-use mathlib.Core.Path.{_≡_, refl, sym, _∙_}
+use Prim.Native.Nat.{ℕ, _*_, _≤_}
+use mathlib.Core.Path.{_≡_}
 use mathlib.Core.Bool.{true}
 use mathlib.Core.List.{List}
 use lib.ListN.{length}
@@ -12,18 +12,20 @@ use Rattle.paper.specs.Legs.{Heard, legsOf, bothLegs}
 use Rattle.paper.specs.Advance.{Memory, memory, written}
 use Rattle.facts.specs.Nets.{netIn}
 use Rattle.rows.specs.Mapped.{Mapped}
+use Rattle.own.specs.Nexts.{Nexts}
 use Rattle.wires.specs.Wires.{legsIn, Sized}
 use Rattle.wires.specs.Shares.{Volts}
 use Rattle.writing.specs.Rows.{Writable, recordsPut, records-put-is}
 use Rattle.sending.specs.Sent.{Ringed, Sendable, sentOf, from-sent, to-sent}
 
-pub record Ready (net recs froms tos : Words) (areas : List ℕ) (area k : ℕ) (offsets delays near far : List ℕ) (g h : Words) (rows : ℕ) (v : Words) (nodes : ℕ) : Type 0 where
+pub record Ready (net recs froms tos : Words) (areas : List ℕ) (area k : ℕ) (offsets delays near far : List ℕ) (g h : Words) (rows : ℕ) (next : List ℕ) (v : Words) (nodes : ℕ) : Type 0 where
   pub network : isNetwork net ≡ true
   pub mapped : Mapped (netIn net) areas
   pub ringed : Ringed net offsets delays
   pub sized : Sized near far g h rows
   pub volts : Volts v
   pub all : rows ≡ length (netIn net .rows)
+  pub nexts : Nexts (netIn net) area next
   pub nodes-are : nodes ≡ netIn net .nodes
   pub area-least : 1 ≤ area
   pub area-most : area ≤ 32
@@ -33,13 +35,13 @@ pub record Ready (net recs froms tos : Words) (areas : List ℕ) (area k : ℕ) 
   pub tos-long : length tos ≡ Limits.storeWords
 
 -- the records may be written
-pub writable : {net recs froms tos : Words} {areas : List ℕ} {area k : ℕ} {offsets delays near far : List ℕ} {g h : Words} {rows : ℕ} {v : Words} {nodes : ℕ}
-    → Ready net recs froms tos areas area k offsets delays near far g h rows v nodes → Writable net areas near far g h rows v recs
+pub writable : {net recs froms tos : Words} {areas : List ℕ} {area k : ℕ} {offsets delays near far : List ℕ} {g h : Words} {rows : ℕ} {next : List ℕ} {v : Words} {nodes : ℕ}
+    → Ready net recs froms tos areas area k offsets delays near far g h rows next v nodes → Writable net areas near far g h rows v recs
 writable r = record { network = r .network; mapped = r .mapped; sized = r .sized; volts = r .volts; all = r .all; long = r .records-long }
 
 -- and either store
-pub sendable : {net recs froms tos : Words} {areas : List ℕ} {area k : ℕ} {offsets delays near far : List ℕ} {g h : Words} {rows : ℕ} {v : Words} {nodes : ℕ} {store : Words}
-    → Ready net recs froms tos areas area k offsets delays near far g h rows v nodes → length store ≡ Limits.storeWords
+pub sendable : {net recs froms tos : Words} {areas : List ℕ} {area k : ℕ} {offsets delays near far : List ℕ} {g h : Words} {rows : ℕ} {next : List ℕ} {v : Words} {nodes : ℕ} {store : Words}
+    → Ready net recs froms tos areas area k offsets delays near far g h rows next v nodes → length store ≡ Limits.storeWords
     → Sendable net areas offsets delays near far g h rows v store
 sendable r l = record { network = r .network; mapped = r .mapped; ringed = r .ringed; sized = r .sized; volts = r .volts; all = r .all; long = l }
 

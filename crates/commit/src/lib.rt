@@ -1,6 +1,5 @@
 // What an accepted step of one area writes: the records, then what its line ends send.
 ghost use mathlib.Core.Path.{_≡_};
-ghost use Prim.Native.Nat.{_≤_};
 ghost use Rattle.facts.specs.Nets.{netIn};
 ghost use Rattle.writing.specs.Rows.{recordsPut};
 ghost use Rattle.sending.specs.Sent.{sentOf};
@@ -21,10 +20,11 @@ pub fn commit(
     g: &[i64; 160],
     h: &[i64; 160],
     rows: usize,
+    next: &[usize; 81],
     v: &[i64; 33],
     nodes: usize,
 )
-    requires { ⌜ Ready (now net) (now records) (now froms) (now tos) (now areas) area k (now offsets) (now delays) (now near) (now far) (now g) (now h) rows (now v) nodes ⌝ }
+    requires { ⌜ Ready (now net) (now records) (now froms) (now tos) (now areas) area k (now offsets) (now delays) (now near) (now far) (now g) (now h) rows (now next) (now v) nodes ⌝ }
     ensures { λ _. ⌜ now (records .exit) ≡ recordsPut (netIn (now (net .entry))) area k (now (near .entry)) (now (far .entry)) (now (g .entry)) (now (h .entry)) (now (v .entry)) (now (records .entry)) ⌝ }
     ensures { λ _. ⌜ now (froms .exit) ≡ sentOf (netIn (now (net .entry))) area k (now (near .entry)) (now (far .entry)) (now (g .entry)) (now (h .entry)) (now (v .entry)) 1 (now (froms .entry)) ⌝ }
     ensures { λ _. ⌜ now (tos .exit) ≡ sentOf (netIn (now (net .entry))) area k (now (near .entry)) (now (far .entry)) (now (g .entry)) (now (h .entry)) (now (v .entry)) 2 (now (tos .entry)) ⌝ }
@@ -40,6 +40,7 @@ pub fn commit(
         g,
         h,
         rows,
+        next,
         v,
         nodes,
     );
@@ -56,6 +57,7 @@ pub fn commit(
         g,
         h,
         rows,
+        next,
         v,
         1,
     );
@@ -72,6 +74,7 @@ pub fn commit(
         g,
         h,
         rows,
+        next,
         v,
         2,
     );

@@ -1,8 +1,9 @@
 // The two ends of a row: which area each belongs to, and what a row passes on to a later step.
 ghost use mathlib.Core.Path.{_≡_};
-ghost use mathlib.Core.Bool.{true};
+ghost use mathlib.Core.Bool.{_&&_};
 ghost use Prim.Native.Nat.{_<_, _≤_};
-ghost use lib.ListN.{length};
+ghost use lib.Dec.{eqb};
+ghost use Rattle.paper.specs.Rows.{isLine};
 ghost use Rattle.paper.specs.Areas.{rowArea};
 ghost use Rattle.facts.specs.Nets.{netIn, rowAt};
 ghost use Rattle.ends.specs.Owners.{BranchIn, RowIn, ownerOf, passedBy, Small};
@@ -34,6 +35,18 @@ pub fn owner(net: &[i64], areas: &[usize; 33], i: usize, end: usize) -> usize
         return areas[rows::number(net, i, end)];
     }
     row_area(net, areas, i)
+}
+
+// Whether row i is a line whose one end is the area's: it is then the area's to send from there.
+pub fn line_end(net: &[i64], areas: &[usize; 33], area: usize, i: usize, end: usize) -> bool
+    requires { ⌜ RowIn (now net) (now areas) i ⌝ }
+    requires { ⌜ (1 ≤ end) × (end ≤ 2) ⌝ }
+    ensures { λ r. ⌜ r ≡ (isLine (rowAt (netIn (now (net .entry))) i) && eqb (ownerOf (netIn (now (net .entry))) (rowAt (netIn (now (net .entry))) i) end) area) ⌝ }
+{
+    if rows::kind(net, i) != 4 {
+        return false;
+    }
+    owner(net, areas, i, end) == area
 }
 
 // "L: next h is i + g·u"; "C: next h is -i - g·u"; LINE: "It then sends -(g·v + i)." Of i + g·u, by the row's kind.

@@ -1,5 +1,5 @@
 -- What the answer goes by: the legs that conduct and the fixed nodes within the node count, and nothing else. Assumes nothing.
-use Prim.Native.Nat.{ℕ, suc, _*_, _≤_, _<_}
+use Prim.Native.Nat.{ℕ, zero, suc, _+_, _*_, _/_, _%_, _≤_, _<_}
 use native.Mathlib.Omega.{arith}
 use mathlib.Core.Path.{_≡_, refl, sym, ap, _∙_}
 use mathlib.Core.Logic.{_⊎_, inl, inr}
@@ -9,7 +9,7 @@ use borrow.Author.Tests.{eqb-true, eqb-false, eq-eqb, ne-eqb}
 use lib.Dec.{eqb}
 use lib.ListN.{length, getD, take}
 use lib.Seq.{getD-take, length-take-le}
-use Rattle.whole.specs.Lists.{Words}
+use Rattle.whole.specs.Lists.{Words, z, word}
 use Rattle.paper.specs.Limits as Limits
 use Rattle.paper.specs.Legs.{Leg}
 use Rattle.paper.specs.Spread.{Join, mark}
@@ -17,11 +17,14 @@ use Rattle.paper.specs.Floating.{reached, floating}
 use Rattle.paths.specs.Paths.{Beside, Path, stay, hop}
 use Rattle.paths.specs.Rounds.{Inside}
 use Rattle.paths.specs.Meaning.{legJoins, Grounded, reached-sound, reached-complete}
-use Rattle.wires.specs.Wires.{legsIn, Sized}
+use Rattle.wires.specs.Wires.{legsIn, busy, Sized}
+use Rattle.wires.specs.Resting.{Resting}
 use Rattle.wires.specs.Free.{first-cong}
 use Rattle.floating.specs.Reach.{flag, Wired}
 use Rattle.floating.specs.Legs.{wires, joins-wires}
 use Rattle.floating.specs.Joins.{wired-inside}
+use Rattle.floating.specs.Search.{conductsAt}
+use Rattle.floating.specs.Going.{Quiet}
 
 -- ---- a path stays within the nodes of its joins
 
@@ -102,3 +105,21 @@ floating-is near far g h nodes legs w fixed f e free n l q =
     let b : i < n = rw (length-take-le n free l) at k in
     rw (getD-take n free i 0 b) (q i b))
     ∙ sym (floating-wires f nodes (take n free) near far g h legs)
+
+-- rows that rest conduct nothing
+pub quiet-resting : {near far : List ℕ} {g h : Words} {rows : ℕ} (next : List ℕ) → Sized near far g h rows → Resting near next rows → Quiet g next rows
+unfolding conductsAt
+quiet-resting {near} {far} {g} {h} {rows} next s r = record { least = r .least; most = r .most; quiet = λ i t l lo hi. by i t l lo hi (t % 2) refl }
+  where
+    off : (t : ℕ) → word g t ≡ z → conductsAt g t ≡ false
+    off t e = rw e
+
+    none : (i t : ℕ) → i ≤ rows → 2 * i ≤ t → t < 2 * getD next i 0 → (word g (2 * (t / 2)) ≡ z) × (word g (2 * (t / 2) + 1) ≡ z)
+    none i t l lo hi =
+        let m = r .most i l in
+        let e : busy near (t / 2) ≡ false = r .rest i (t / 2) l (omega arith) (omega arith) in
+        s .idle-g (t / 2) (omega arith) (rw e tt)
+
+    by : (i t : ℕ) → i ≤ rows → 2 * i ≤ t → t < 2 * getD next i 0 → (u : ℕ) → t % 2 ≡ u → conductsAt g t ≡ false
+    by i t l lo hi zero e = let d : 2 * (t / 2) ≡ t = omega arith in off t (rw d at (none i t l lo hi .0))
+    by i t l lo hi (suc u) e = let d : 2 * (t / 2) + 1 ≡ t = omega arith in off t (rw d at (none i t l lo hi .1))

@@ -71,12 +71,12 @@ module _ (near far : List ℕ) (g : Words) (legs : ℕ) (w : Wired near far g Li
           let k : i < count = omega (arith, length-take-le count free (nodes .long)) in
           rw (getD-take count free i 0 k) (reached-not m j calm (getD free i 0) s (nodes .node i k) (d .node i k))
 
-  pub one-floats : (m : List ℕ) (j p : ℕ) → State near far g legs (firstMarks flags) m j legs → Done free m p → p < count → (getD m (getD free p 0) 0 ≡ 0 → ⊥) → getD free p 0 ≡ Paper.floating (flag flags) Limits.nodeEnd (take count free) (wires near far g legs)
-  one-floats m j p s d h x =
+  pub one-floats : (m : List ℕ) (j calm p : ℕ) → legs ≤ calm → State near far g legs (firstMarks flags) m j calm → Done free m p → p < count → (getD m (getD free p 0) 0 ≡ 0 → ⊥) → getD free p 0 ≡ Paper.floating (flag flags) Limits.nodeEnd (take count free) (wires near far g legs)
+  one-floats m j calm p over s d h x =
       sym (first-at floats (take count free) p (rw (length-take-le count free (nodes .long)) h) before (rw (getD-take count free p 0 h) hit) ∙ getD-take count free p 0 h) ∙ search-is
     where
       before : (r : ℕ) → r < p → floats (getD (take count free) r 0) ≡ false
-      before r k = let u : r < count = omega arith in rw (getD-take count free r 0 u) (reached-not m j legs (getD free r 0) s (nodes .node r u) (d .node r k))
+      before r k = let u : r < count = omega arith in rw (getD-take count free r 0 u) (reached-not m j calm (getD free r 0) s (nodes .node r u) (d .node r k))
 
       hit : floats (getD free p 0) ≡ true
-      hit = rw (all-even near far g legs (firstMarks flags) w m j s (getD free p 0) (nodes .node p h), ne-eqb (getD m (getD free p 0) 0) 0 x)
+      hit = rw (all-even near far g legs (firstMarks flags) w m j calm over s (getD free p 0) (nodes .node p h), ne-eqb (getD m (getD free p 0) 0) 0 x)

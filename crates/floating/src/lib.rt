@@ -1,15 +1,15 @@
 // "A free node needs a path of conducting branches (R, L, C, closed SW) to ground, to a fixed node, or to a node with a line end, itself
 // included." A line's end is a leg to ground, and an open switch conducts nothing.
 ghost use mathlib.Core.Path.{_≡_};
-ghost use Prim.Native.Nat.{ℕ, _*_, _≤_, _<_};
-ghost use lib.ListN.{take};
+ghost use Prim.Native.Nat.{ℕ, _+_, _*_, _/_, _≤_, _<_};
+ghost use lib.ListN.{getD, take};
 ghost use Rattle.paper.specs.Limits as Limits;
 ghost use Rattle.paper.specs.Floating as Paper;
 ghost use Rattle.wires.specs.Free.{Free};
 ghost use Rattle.floating.specs.Reach.{flag, Wired, Loose};
 ghost use Rattle.floating.specs.Legs.{wires};
 ghost use Rattle.floating.specs.Search.{firstMark, firstMarks, Turn};
-ghost use Rattle.floating.specs.Going.{after};
+ghost use Rattle.floating.specs.Going.{around, onward, Quiet};
 
 fn first_mark(fixed: &[bool; 33], n: usize) -> usize
     requires { ⌜ n < 33 ⌝ }
@@ -66,12 +66,22 @@ fn spread_leg(
     calm + 1
 }
 
-fn after(j: usize, legs: usize) -> usize
-    requires { ⌜ (j < legs) × (legs ≤ 160) ⌝ }
-    ensures { λ r. ⌜ r ≡ after j legs ⌝ }
+// The leg after j: the other end of its row, or the first of the next row that carries something.
+fn onward(next: &[usize; 81], rows: usize, j: usize) -> usize
+    requires { ⌜ (rows ≤ Limits.rowEnd) × ((j < 2 * rows) × (getD (now next) ((j + 1) / 2) 0 ≤ rows)) ⌝ }
+    ensures { λ r. ⌜ r ≡ onward (now (next .entry)) j ⌝ }
 {
-    if j + 1 < legs {
+    if j % 2 == 0 {
         return j + 1;
+    }
+    2 * next[(j + 1) / 2]
+}
+
+fn around(j: usize, legs: usize) -> usize
+    ensures { λ r. ⌜ r ≡ around j legs ⌝ }
+{
+    if j < legs {
+        return j;
     }
     0
 }
@@ -82,11 +92,12 @@ pub fn floating(
     far: &[usize; 160],
     g: &[i64; 160],
     rows: usize,
+    next: &[usize; 81],
     fixed: &[bool; 33],
     free: &[usize; 32],
     n: usize,
 ) -> usize
-    requires { ⌜ (rows ≤ Limits.rowEnd) × Wired (now near) (now far) (now g) Limits.nodeEnd (2 * rows) ⌝ ∗ ⌜ Free (now free) n × Loose (now fixed) (now free) n ⌝ }
+    requires { ⌜ (rows ≤ Limits.rowEnd) × Wired (now near) (now far) (now g) Limits.nodeEnd (2 * rows) ⌝ ∗ ⌜ Free (now free) n × (Loose (now fixed) (now free) n × Quiet (now g) (now next) rows) ⌝ }
     ensures { λ r. ⌜ r ≡ Paper.floating (flag (now (fixed .entry))) Limits.nodeEnd (take n (now (free .entry))) (wires (now (near .entry)) (now (far .entry)) (now (g .entry)) (2 * rows)) ⌝ }
 {
     let legs = 2 * rows;
@@ -107,7 +118,9 @@ pub fn floating(
                 break 'nodes node;
             }
             calm = spread_leg(near, far, g, legs, j, calm, &mut marks);
-            j = after(j, legs);
+            let to = onward(next, rows, j);
+            calm += to - (j + 1);
+            j = around(to, legs);
         }
         place += 1;
     };

@@ -14,8 +14,9 @@ use Rattle.paper.specs.Limits as Limits
 use Rattle.paper.specs.Legs.{Leg}
 use Rattle.wires.specs.Wires.{legAt, legsIn, Sized}
 use Rattle.wires.specs.Leaving.{leaving, leaving-more}
-use Rattle.wires.specs.Shares.{Volts, conductance, toward, drawn}
+use Rattle.wires.specs.Shares.{Volts, conductance, toward, drawn, conductance-idle, toward-idle, drawn-idle}
 use Rattle.wires.specs.Sums.{Sums}
+use Rattle.wires.specs.Resting.{Resting, leaving-next, sums-next}
 use Rattle.gather.specs.Placed.{Placed, placed-is}
 
 abbrev pub cellOf : ℕ → ℕ → ℕ
@@ -115,3 +116,15 @@ pub record Met (near far : List ℕ) (g h : Words) (rows : ℕ) (still : Words) 
   pub placed : Placed free place n
   pub above : (p : ℕ) → p < n → 0 < getD free p 0
   pub few : n ≤ Limits.nodeEnd
+
+-- rows that rest add nothing
+pub gathered-next : {near far : List ℕ} {g h : Words} {rows : ℕ} {still : Words} {free place : List ℕ} {n : ℕ} → Met near far g h rows still free place n → {next : List ℕ} → Resting near next rows → (i : ℕ) → i ≤ rows
+    → {P R J : Words} → Gathered free n still (legsIn near far g h (2 * i)) P R J → Gathered free n still (legsIn near far g h (2 * getD next i 0)) P R J
+gathered-next {still = still} {free = free} m r i l a = record {
+  pivot = sums-next (m .sized) conductance conductance-idle r i l (a .pivot);
+  right = sums-next (m .sized) (drawn still) (drawn-idle still) r i l (a .right);
+  join = record {
+    long = a .join .long;
+    at = λ p q b c. a .join .at p q b c ∙ sym (leaving-next (m .sized) (toward (getD free q 0)) (toward-idle (getD free q 0)) (getD free p 0) r i l);
+  };
+}

@@ -1,6 +1,6 @@
 // The whole-number sums that the equations are made of: "each node's sum of conductances, lines included", "the sum of the joining
-// conductances", and what the right side has besides injection. One pass over the legs: free nodes have places among themselves, so that an area
-// of n free nodes has only its n lines of the table cleared and met.
+// conductances", and what the right side has besides injection. One pass over the area's rows: free nodes have places among themselves, so that
+// an area of n free nodes has only its n lines of the table cleared and met.
 ghost use Prim.Native.Nat.{_+_, _*_, _≤_, _<_};
 ghost use mathlib.Core.Path.{_≡_};
 ghost use lib.ListN.{length};
@@ -10,6 +10,7 @@ ghost use mir.Val.{SFits};
 ghost use Rattle.whole.specs.Lists.{word};
 ghost use Rattle.wires.specs.Wires.{legsIn};
 ghost use Rattle.wires.specs.Free.{Free};
+ghost use Rattle.wires.specs.Resting.{Resting};
 ghost use Rattle.gather.specs.Placed.{Placed, PlacedTo};
 ghost use Rattle.gather.specs.Joins.{Clear, joined, cellOf, Met, Gathered};
 
@@ -82,13 +83,14 @@ fn add_leg(
     }
 }
 
-// from the sums over no leg to the sums over all legs
+// From the sums over no leg to the sums over all legs. A row that rests adds nothing, so only the area's own rows are met.
 pub fn gather(
     near: &[usize; 160],
     far: &[usize; 160],
     g: &[i64; 160],
     h: &[i64; 160],
     rows: usize,
+    next: &[usize; 81],
     still: &[i64; 33],
     free: &[usize; 32],
     place: &[usize; 33],
@@ -97,12 +99,11 @@ pub fn gather(
     rights: &mut [i64; 33],
     joins: &mut [i64; 1024],
 )
-    requires { ⌜ Met (now near) (now far) (now g) (now h) rows (now still) (now free) (now place) n ⌝ ∗ ⌜ Gathered (now free) n (now still) (legsIn (now near) (now far) (now g) (now h) 0) (now pivots) (now rights) (now joins) ⌝ }
+    requires { ⌜ Met (now near) (now far) (now g) (now h) rows (now still) (now free) (now place) n ⌝ ∗ ⌜ Gathered (now free) n (now still) (legsIn (now near) (now far) (now g) (now h) 0) (now pivots) (now rights) (now joins) ⌝ ∗ ⌜ Resting (now near) (now next) rows ⌝ }
     ensures { λ _. ⌜ Gathered (now (free .entry)) n (now (still .entry)) (legsIn (now (near .entry)) (now (far .entry)) (now (g .entry)) (now (h .entry)) (2 * rows)) (now (pivots .exit)) (now (rights .exit)) (now (joins .exit)) ⌝ }
 {
-    let end = 2 * rows;
-    let mut j = 0;
-    while j < end {
+    let mut i = next[0];
+    while i < rows {
         add_leg(
             near,
             far,
@@ -113,11 +114,26 @@ pub fn gather(
             free,
             place,
             n,
-            j,
+            2 * i,
             pivots,
             rights,
             joins,
         );
-        j += 1;
+        add_leg(
+            near,
+            far,
+            g,
+            h,
+            rows,
+            still,
+            free,
+            place,
+            n,
+            2 * i + 1,
+            pivots,
+            rights,
+            joins,
+        );
+        i = next[i + 1];
     }
 }

@@ -1,8 +1,8 @@
 // 17 HISTORY: "a next history or sent value beyond 10^17"
 ghost use mathlib.Core.Path.{_≡_};
 ghost use Prim.Native.Nat.{_<_};
-ghost use lib.ListN.{length};
 ghost use Rattle.facts.specs.Nets.{netIn};
+ghost use Rattle.wires.specs.Resting.{Resting};
 ghost use Rattle.histories.specs.Beyond.{Passing, beyondAt, firstPlace};
 use paper::History;
 
@@ -28,7 +28,7 @@ pub fn beyond(
     !kept
 }
 
-// The place, from 1, of the first row whose is; 0 where there is none.
+// The place, from 1, of the first row whose is; 0 where there is none. A row that rests passes on nothing.
 pub fn first_beyond(
     net: &[i64],
     near: &[usize; 160],
@@ -36,17 +36,19 @@ pub fn first_beyond(
     g: &[i64; 160],
     h: &[i64; 160],
     rows: usize,
+    next: &[usize; 81],
     v: &[i64; 33],
 ) -> usize
     requires { ⌜ Passing (now net) (now near) (now far) (now g) (now h) rows (now v) ⌝ }
+    requires { ⌜ Resting (now near) (now next) rows ⌝ }
     ensures { λ r. ⌜ r ≡ firstPlace (beyondAt (netIn (now (net .entry))) (now (near .entry)) (now (far .entry)) (now (g .entry)) (now (h .entry)) (now (v .entry))) 0 rows ⌝ }
 {
-    let mut i = 0;
+    let mut i = next[0];
     while i < rows {
         if beyond(net, near, far, g, h, rows, v, i) {
             return i + 1;
         }
-        i += 1;
+        i = next[i + 1];
     }
     0
 }

@@ -1,4 +1,4 @@
--- The legs laid are the paper's, and are sized: sums over them fit a word. Assumes nothing.
+-- The legs laid are the paper's, and are sized: sums over them fit a word; and what the area's table leaves out rests. Assumes nothing.
 use Prim.Native.Nat.{ℕ, zero, suc, _+_, _*_, _/_, _%_, _≤_, _<_}
 use native.Mathlib.Omega.{arith}
 use native.Mathlib.Nat.{le-trans}
@@ -20,7 +20,10 @@ use Rattle.endleg.specs.EndLeg.{endLeg, Kept, EndOf}
 use Rattle.endleg.specs.Paper.{from-leg, to-leg}
 use Rattle.endleg.specs.EndSizes as Sizes
 use Rattle.wires.specs.Wires.{legAt, legsIn, busy, Sized}
-use Rattle.lay.specs.Laid.{Laid, stepLeg, map-numbers, both-legs}
+use Rattle.wires.specs.Resting.{Resting}
+use Rattle.own.specs.Nexts.{Nexts}
+use Rattle.lay.specs.Others.{between-idle}
+use Rattle.lay.specs.Laid.{Laid, stepLeg, step-from, step-to, map-numbers, both-legs}
 
 -- as many numbers pass as elements, where each number that passes has one
 count-places : {A : Type 0} (p : ℕ → Bool) (q : A → Bool) (d : A) (i : ℕ) (l : List A) → ((j : ℕ) → j < length l → p (i + j) ≡ true → q (getD l j d) ≡ true) → count p (numbers i (length l)) ≤ count q l
@@ -43,16 +46,10 @@ module _ (N : Net) (s : NetSound N) (a k : ℕ) (one : 1 ≤ a) (recs froms tos 
   end-of i e = endLeg N a k recs froms tos i e
 
   from-end : (i : ℕ) → leg-of (2 * i) ≡ end-of i 1
-  from-end i =
-      let e : 2 * i / 2 ≡ i = omega arith in
-      let f : 1 + 2 * i % 2 ≡ 1 = omega arith in
-      rw (e, f)
+  from-end i = step-from N a k recs froms tos i
 
   to-end : (i : ℕ) → leg-of (2 * i + 1) ≡ end-of i 2
-  to-end i =
-      let e : (2 * i + 1) / 2 ≡ i = omega arith in
-      let f : 1 + (2 * i + 1) % 2 ≡ 2 = omega arith in
-      rw (e, f)
+  to-end i = step-to N a k recs froms tos i
 
   -- ---- the paper's legs
   pub laid-legs : legsIn near far g h (2 * rows) ≡ bothLegs (legsOf N a k recs (heard N a k froms tos))
@@ -135,3 +132,18 @@ module _ (N : Net) (s : NetSound N) (a k : ℕ) (one : 1 ≤ a) (recs froms tos 
     where
       few-busy : count (busy near) (numbers 0 rows) ≤ count isBranch (N .rows)
       few-busy = rw all (count-places (busy near) isBranch [] 0 (N .rows) (λ j u b. let e : 0 + j ≡ j = omega arith in busy-branch j (omega arith) (rw e at b)))
+
+  -- the table's rows are all that carry something
+  pub laid-resting : (next : List ℕ) → Nexts N a next → Resting near next rows
+  laid-resting next n =
+      record {
+        long = n .long;
+        least = λ i u. n .least i (omega arith);
+        most = λ i u. rw all (n .most i (omega arith));
+        rest = λ i j u lo hi.
+            let m = n .most i (omega arith) in
+            let o = between-idle N s a k one recs froms tos kept next n i (omega arith) in
+            let p : getD near (2 * j) 0 ≡ 0 = near-is (2 * j) (omega arith) ∙ ap (λ (x : Leg). x .near) (o (2 * j) (omega arith) (omega arith)) in
+            let q : getD near (2 * j + 1) 0 ≡ 0 = near-is (2 * j + 1) (omega arith) ∙ ap (λ (x : Leg). x .near) (o (2 * j + 1) (omega arith) (omega arith)) in
+            rw (p, q);
+      }

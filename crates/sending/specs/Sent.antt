@@ -1,28 +1,29 @@
 -- What a line's ends send, from the arrays of a step. Assumes nothing.
 use Prim.Native.Nat.{ℕ, zero, suc, _+_, _-_, _*_, _%_, _≤_, _<_}
 use native.Mathlib.Omega.{arith}
-use mathlib.Core.Path.{_≡_, refl, sym, ap, _∙_}
-use mathlib.Core.Bool.{Bool, true, false, _&&_}
+use mathlib.Core.Path.{_≡_, ap, _∙_}
+use mathlib.Core.Bool.{true, _&&_, and-false}
 use mathlib.Core.List.{List}
+use borrow.Author.Tests.{ne-eqb}
 use lib.Dec.{eqb}
-use lib.IntN.{ℤ}
 use lib.ListN.{getD, length}
-use Rattle.whole.specs.Lists.{Words, word}
+use Rattle.whole.specs.Lists.{Words}
 use Rattle.whole.specs.Turns.{turns}
 use Rattle.whole.specs.TurnLaws.{turns-cong}
 use Rattle.paper.specs.Limits as Limits
-use Rattle.paper.specs.Rows.{Row, isLine}
+use Rattle.paper.specs.Rows.{isLine}
 use Rattle.paper.specs.Faults.{delay, slots}
 use Rattle.paper.specs.Network.{isNetwork}
 use Rattle.paper.specs.Areas.{Net, step}
 use Rattle.paper.specs.Records.{offset}
-use Rattle.paper.specs.Legs.{Leg, End, Branch, Heard, legsOf, bothLegs, passedOn}
+use Rattle.paper.specs.Legs.{Branch, Heard, legsOf, bothLegs, passedOn}
 use Rattle.paper.specs.Advance.{putIf, putSent, newStore, branchIn}
 use Rattle.facts.specs.Nets.{netIn, rowAt, net-sound, slots-within}
 use Rattle.rows.specs.Mapped.{Mapped}
 use Rattle.wires.specs.Wires.{legAt, legsIn, Sized}
 use Rattle.wires.specs.Shares.{Volts}
 use Rattle.ends.specs.Owners.{ownerOf}
+use Rattle.own.specs.Nexts.{Apart}
 use Rattle.writing.specs.Rows.{branch-at, legs-length, row-is, from-own, to-own, from-wire, to-wire}
 
 -- row i's part: end 1 is the from end and end 2 the to end
@@ -30,6 +31,17 @@ unfoldable pub sentPut : Net → ℕ → ℕ → List ℕ → List ℕ → Words
 sentPut N a k near far g h v end i w =
     putIf (isLine (rowAt N i) && eqb (ownerOf N (rowAt N i) end) a) w (offset N i + k % slots (step N) (rowAt N i))
     (passedOn v (rowAt N i) (legAt near far g h (2 * i + (end - 1))))
+
+unsent : (N : Net) (a k : ℕ) (near far : List ℕ) (g h v : Words) (end i : ℕ) (w : Words) → (ownerOf N (rowAt N i) end ≡ a → ⊥) → sentPut N a k near far g h v end i w ≡ w
+unfolding sentPut putIf
+unsent N a k near far g h v end i w n = rw (ne-eqb (ownerOf N (rowAt N i) end) a n, and-false)
+
+-- a row that has no end of the area's sends nothing
+pub sent-apart : (N : Net) (a k : ℕ) (near far : List ℕ) (g h v : Words) (end : ℕ) → 1 ≤ end → end ≤ 2 → (i : ℕ) (w : Words) → Apart N a i → sentPut N a k near far g h v end i w ≡ w
+sent-apart N a k near far g h v zero l m i w p = absurd (omega arith)
+sent-apart N a k near far g h v (suc zero) l m i w p = unsent N a k near far g h v 1 i w (p .from)
+sent-apart N a k near far g h v (suc (suc zero)) l m i w p = unsent N a k near far g h v 2 i w (p .to)
+sent-apart N a k near far g h v (suc (suc (suc n))) l m i w p = absurd (omega arith)
 
 unfoldable pub sentOf : Net → ℕ → ℕ → List ℕ → List ℕ → Words → Words → Words → ℕ → Words → Words
 sentOf N a k near far g h v end w = turns 0 (length (N .rows)) (sentPut N a k near far g h v end) w

@@ -60,6 +60,8 @@ pub fn ready(
     ensures { λ _. ⌜ Room (now (near .exit)) (now (far .exit)) (now (g .exit)) (now (h .exit)) ⌝ }
     ensures { λ _. ⌜ (length (now (joins .exit)) ≡ 1024) × Square (now (matrix .exit)) ⌝ }
 {
+    let mut next = [0; 81];
+    own::next_rows(net, areas, rows, area, &mut next);
     let tried = attempt::attempt(
         net,
         records,
@@ -70,6 +72,7 @@ pub fn ready(
         offsets,
         delays,
         rows,
+        &next,
         nodes,
         area,
         k,
@@ -100,6 +103,7 @@ pub fn ready(
         g,
         h,
         rows,
+        &next,
         &volts,
         nodes,
     );

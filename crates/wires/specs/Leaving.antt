@@ -101,29 +101,34 @@ module _ (B a b p : ℕ) {x y : ℤ} (X : ∣ x ∣≤ B) (Y : ∣ y ∣≤ B) w
       by-ends false f true k = rw (+ℤ-idl y) (at-most Y (omega arith))
       by-ends false f false k = none
 
+-- a share that an idle leg has none of, at both legs of a row that carries nothing
+abbrev pub Nothing : (Leg → ℤ) → Type 0
+Nothing f = (l : Leg) → l .g ≡ 0 → l .h ≡ z → f l ≡ z
+
+pub idle-row : {near far : List ℕ} {g h : Words} {rows : ℕ} → Sized near far g h rows → (f : Leg → ℤ) → Nothing f → (i : ℕ) → i < rows → busy near i ≡ false
+    → (f (legAt near far g h (2 * i)) ≡ z) × (f (legAt near far g h (2 * i + 1)) ≡ z)
+unfolding legAt
+idle-row {near} {far} {g} {h} s f idle i l e =
+    let t : T (not (busy near i)) = rw e tt in (
+      idle (legAt near far g h (2 * i)) (ap nat (s .idle-g i l t .0)) (s .idle-h i l t .0),
+      idle (legAt near far g h (2 * i + 1)) (ap nat (s .idle-g i l t .1)) (s .idle-h i l t .1),
+    )
+
 -- ---- the sum's size after any number of legs
 module _ {near far : List ℕ} {g h : Words} {rows : ℕ} (s : Sized near far g h rows) (p : ℕ) (f : Leg → ℤ) (B : ℕ)
-    (size : (j : ℕ) → j < 2 * rows → ∣ f (legAt near far g h j) ∣≤ B) (idle : (l : Leg) → l .g ≡ 0 → l .h ≡ z → f l ≡ z) where
+    (size : (j : ℕ) → j < 2 * rows → ∣ f (legAt near far g h j) ∣≤ B) (idle : Nothing f) where
   abbrev part : ℕ → ℤ
   part j = leaving p f (legsIn near far g h j)
 
   abbrev leg : ℕ → Leg
   leg j = legAt near far g h j
 
-  idle-row : (i : ℕ) → i < rows → busy near i ≡ false → (f (leg (2 * i)) ≡ z) × (f (leg (2 * i + 1)) ≡ z)
-  unfolding legAt
-  idle-row i l e =
-      let t : T (not (busy near i)) = rw e tt in (
-        idle (leg (2 * i)) (ap nat (s .idle-g i l t .0)) (s .idle-h i l t .0),
-        idle (leg (2 * i + 1)) (ap nat (s .idle-g i l t .1)) (s .idle-h i l t .1),
-      )
-
   first-leg : (i : ℕ) → i < rows → ∣ part (2 * i) ∣≤ (count (busy near) (numbers 0 i) * B) → ∣ part (2 * i + 1) ∣≤ (count (busy near) (numbers 0 (i + 1)) * B)
   first-leg i l q =
       let t = busy near i in
       let a = getD near (2 * i) 0 in
       let m : count (busy near) (numbers 0 i) * B + cond t 1 0 * B ≡ count (busy near) (numbers 0 (i + 1)) * B = rw (count-more (busy near) i) (sym (add-mul _ _ B)) in
-      same (rw m at (add q (one B a a p (size (2 * i) (omega arith)) none t (λ e. idle-row i l e .0)))) (leaving-more p f near far g h (2 * i))
+      same (rw m at (add q (one B a a p (size (2 * i) (omega arith)) none t (λ e. idle-row s f idle i l e .0)))) (leaving-more p f near far g h (2 * i))
 
   both-legs : (i : ℕ) → i < rows → ∣ part (2 * i) ∣≤ (count (busy near) (numbers 0 i) * B) → ∣ part (2 * i + 1 + 1) ∣≤ (count (busy near) (numbers 0 (i + 1)) * B)
   both-legs i l q =
@@ -132,7 +137,7 @@ module _ {near far : List ℕ} {g h : Words} {rows : ℕ} (s : Sized near far g 
       let b = getD near (2 * i + 1) 0 in
       let m : count (busy near) (numbers 0 i) * B + cond t 1 0 * B ≡ count (busy near) (numbers 0 (i + 1)) * B = rw (count-more (busy near) i) (sym (add-mul _ _ B)) in
       same
-      (rw m at (add q (two B a b p (size (2 * i) (omega arith)) (size (2 * i + 1) (omega arith)) t refl (λ e. idle-row i l e))))
+      (rw m at (add q (two B a b p (size (2 * i) (omega arith)) (size (2 * i + 1) (omega arith)) t refl (λ e. idle-row s f idle i l e))))
       (leaving-more p f near far g h (2 * i + 1) ∙ ap (λ (x : ℤ). x +ℤ cond (eqb b p) (f (leg (2 * i + 1))) z) (leaving-more p f near far g h (2 * i)) ∙ +ℤ-assoc (part (2 * i)) _ _)
 
   pairs : (i : ℕ) → i ≤ rows → ∣ part (2 * i) ∣≤ (count (busy near) (numbers 0 i) * B)

@@ -17,7 +17,7 @@ use Rattle.paper.specs.Limits as Limits
 use Rattle.paper.specs.Legs.{Leg, through, current, echo}
 use Rattle.paper.specs.Solve.{leaves, leads, entry, rightSide, imbalance}
 use Rattle.wires.specs.Wires.{legAt, legsIn, Sized}
-use Rattle.wires.specs.Leaving.{leaving, leaving-size}
+use Rattle.wires.specs.Leaving.{Nothing, leaving, leaving-size}
 
 -- ---- the shares
 
@@ -55,10 +55,10 @@ imbalance-is legs inject v p = refl
 
 -- ---- an idle leg adds nothing
 
-conductance-idle : (l : Leg) → l .g ≡ 0 → l .h ≡ z → conductance l ≡ z
+pub conductance-idle : Nothing conductance
 conductance-idle l e f = ap pos e
 
-toward-idle : (q : ℕ) (l : Leg) → l .g ≡ 0 → l .h ≡ z → toward q l ≡ z
+pub toward-idle : (q : ℕ) → Nothing (toward q)
 unfolding toward
 toward-idle q l e f = rw e (either (eqb (l .far) q))
   where
@@ -66,13 +66,17 @@ toward-idle q l e f = rw e (either (eqb (l .far) q))
     either true = refl
     either false = refl
 
-drawn-idle : (still : Words) (l : Leg) → l .g ≡ 0 → l .h ≡ z → drawn still l ≡ z
+pub drawn-idle : (still : Words) → Nothing (drawn still)
 unfolding drawn
 drawn-idle still l e f = rw (e, f, zero-*ℤ)
 
-current-idle : (v : Words) (l : Leg) → l .g ≡ 0 → l .h ≡ z → current v l ≡ z
+pub current-idle : (v : Words) → Nothing (current v)
 unfolding current through
 current-idle v l e f = rw (e, f, zero-*ℤ)
+
+pub echo-idle : (v : Words) → Nothing (echo v)
+unfolding echo current through
+echo-idle v l e f = rw (e, f, zero-*ℤ)
 
 -- ---- sizes
 

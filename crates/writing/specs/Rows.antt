@@ -2,20 +2,20 @@
 use Prim.Native.Nat.{ℕ, zero, suc, _+_, _*_, _≤_, _<_}
 use native.Mathlib.Omega.{arith}
 use mathlib.Core.Path.{_≡_, refl, sym, ap, _∙_}
-use mathlib.Core.Bool.{Bool, true, false, cond, _&&_, _||_}
-use mathlib.Core.List.{List, [], _∷_, map}
-use borrow.Author.Tests.{ne-eqb, eqb-true}
+use mathlib.Core.Bool.{Bool, true, false, cond, _&&_, _||_, and-false}
+use mathlib.Core.List.{List, [], _∷_}
+use borrow.Author.Tests.{ne-eqb}
 use lib.Dec.{eqb}
 use lib.IntN.{ℤ, pos}
 use lib.ListN.{getD, set, length, length-map}
-use Rattle.whole.specs.Lists.{Words, word, nat, numbers}
+use Rattle.whole.specs.Lists.{Words, numbers}
 use Rattle.whole.specs.Turns.{turns}
 use Rattle.whole.specs.TurnLaws.{turns-cong}
 use Rattle.whole.specs.Folds.{getD-map, getD-numbers, length-numbers}
-use Rattle.paper.specs.Rows.{Row, isLine, isL, isC, isBranch, from, to}
+use Rattle.paper.specs.Rows.{isLine, isL, isC, isBranch, from, to}
 use Rattle.paper.specs.Areas.{Net, areaOf, rowArea, nodesOf}
 use Rattle.paper.specs.Records.{countAt, currentAt, toCurrentAt, historyAt}
-use Rattle.paper.specs.Legs.{Leg, End, Branch, Heard, idle, here, legsBy, legsOf, lineLegs, lineEnd, plainLegs, bothLegs, current, passedOn}
+use Rattle.paper.specs.Legs.{Leg, Branch, Heard, idle, legsBy, legsOf, lineLegs, lineEnd, plainLegs, bothLegs, current, passedOn}
 use Rattle.paper.specs.Advance.{putIf, putRow, putVolts, newRecords, branchIn}
 use Rattle.paper.specs.Limits as Limits
 use Rattle.paper.specs.Network.{isNetwork}
@@ -24,8 +24,7 @@ use Rattle.rows.specs.Mapped.{Mapped}
 use Rattle.wires.specs.Wires.{legAt, legsIn, Sized}
 use Rattle.wires.specs.Shares.{Volts}
 use Rattle.ends.specs.Owners.{ownerOf}
-use Rattle.writing.specs.declared.RowWords.{RowWords}
-use Rattle.writing.specs.Writing.{put-length}
+use Rattle.own.specs.Nexts.{Apart}
 
 -- ---- a branch of the step, by its row
 
@@ -121,35 +120,24 @@ pub record Writable (net : Words) (areas near far : List ℕ) (g h : Words) (row
   pub all : rows ≡ length (netIn net .rows)
   pub long : length recs ≡ Limits.recordWords
 
--- row i's words, from the arrays of a step
-unfoldable pub wordsOf : Net → ℕ → List ℕ → List ℕ → Words → Words → Words → ℕ → RowWords
-wordsOf N a near far g h v i =
-    record {
-      from = eqb (ownerOf N (rowAt N i) 1) a;
-      to = isLine (rowAt N i) && eqb (ownerOf N (rowAt N i) 2) a;
-      held = (isL (rowAt N i) || isC (rowAt N i)) && eqb (ownerOf N (rowAt N i) 1) a;
-      current = current v (legAt near far g h (2 * i));
-      far = current v (legAt near far g h (2 * i + 1));
-      history = passedOn v (rowAt N i) (legAt near far g h (2 * i));
-    }
+-- row i's words, each where it is the area's to write: the current, a line's current at its to end, the history of an L or a C
+unfoldable pub rowPut : Net → ℕ → List ℕ → List ℕ → Words → Words → Words → ℕ → Words → Words
+rowPut N a near far g h v i w =
+    let r = rowAt N i in
+    let own = eqb (ownerOf N r 1) a in
+    let w₁ = putIf own w (currentAt i) (current v (legAt near far g h (2 * i))) in
+    let w₂ = putIf (isLine r && eqb (ownerOf N r 2) a) w₁ (toCurrentAt i) (current v (legAt near far g h (2 * i + 1))) in
+    putIf ((isL r || isC r) && own) w₂ (historyAt i) (passedOn v r (legAt near far g h (2 * i)))
 
-unfoldable pub wordsPut : ℕ → RowWords → Words → Words
-wordsPut i x w = putIf (x .held) (putIf (x .to) (putIf (x .from) w (currentAt i) (x .current)) (toCurrentAt i) (x .far)) (historyAt i) (x .history)
-
-abbrev pub rowPut : Net → ℕ → List ℕ → List ℕ → Words → Words → Words → ℕ → Words → Words
-rowPut N a near far g h v i w = wordsPut i (wordsOf N a near far g h v i) w
-
-pub words-length : (i : ℕ) (x : RowWords) (w : Words) → length (wordsPut i x w) ≡ length w
-unfolding wordsPut
-words-length i x w =
-    put-length (x .held) (putIf (x .to) (putIf (x .from) w (currentAt i) (x .current)) (toCurrentAt i) (x .far)) (historyAt i) (x .history)
-    ∙ put-length (x .to) (putIf (x .from) w (currentAt i) (x .current)) (toCurrentAt i) (x .far)
-    ∙ put-length (x .from) w (currentAt i) (x .current)
+-- a row that has no end of the area's is left as it is
+pub row-apart : (N : Net) (a : ℕ) (near far : List ℕ) (g h v : Words) (i : ℕ) (w : Words) → Apart N a i → rowPut N a near far g h v i w ≡ w
+unfolding rowPut putIf
+row-apart N a near far g h v i w k = rw (ne-eqb (ownerOf N (rowAt N i) 1) a (k .from), ne-eqb (ownerOf N (rowAt N i) 2) a (k .to), and-false (isLine (rowAt N i)), and-false (isL (rowAt N i) || isC (rowAt N i)))
 
 pub row-put-is : (N : Net) (a k : ℕ) (recs : Words) (ears : List Heard) (near far : List ℕ) (g h v : Words) → 1 ≤ a
     → legsIn near far g h (2 * length (N .rows)) ≡ bothLegs (legsOf N a k recs ears)
     → (i : ℕ) (w : Words) → i < length (N .rows) → rowPut N a near far g h v i w ≡ putRow (legsOf N a k recs ears) v i w
-unfolding wordsOf wordsPut putRow
+unfolding rowPut putRow
 row-put-is N a k recs ears near far g h v p e i w l =
     let bs = legsOf N a k recs ears in
     let n = legs-length N a k recs ears in

@@ -20,17 +20,20 @@ gather-requires c κs =
     let a = s .args in
     let f = s .pre .1 .1 .0 in (
       record { sized = s .pre .0 .0; volts = s .pre .0 .1; placed = c .before .before .before .before .before .before .places .ensures; above = f .above; few = f .few },
-      record {
-        pivot = sums-none conductance (a .near .now) (a .far .now) (a .g .now) (a .h .now);
-        right = sums-none (drawn (a .still .now)) (a .near .now) (a .far .now) (a .g .now) (a .h .now);
-        join = joins-none (a .free .now) (a .near .now) (a .far .now) (a .g .now) (a .h .now) (f .few) (c .before .before .before .before .clear .ensures);
-      },
+      (
+        record {
+          pivot = sums-none conductance (a .near .now) (a .far .now) (a .g .now) (a .h .now);
+          right = sums-none (drawn (a .still .now)) (a .near .now) (a .far .now) (a .g .now) (a .h .now);
+          join = joins-none (a .free .now) (a .near .now) (a .far .now) (a .g .now) (a .h .now) (f .few) (c .before .before .before .before .clear .ensures);
+        },
+        s .pre .1 .1 .1 .1,
+      ),
     )
 
 fill-requires : tie.Need-fill-requires
 fill-requires c κs =
     let p = c .before .before .before .before .before .before .before .before .before .before .before .before .before .pre in
-    (fitting (p .0 .0) (p .0 .1) (p .1 .0) (p .1 .1 .0) (c .before .before .before .before .gather .ensures), p .1 .1 .1 .1)
+    (fitting (p .0 .0) (p .0 .1) (p .1 .0) (p .1 .1 .0) (c .before .before .before .before .gather .ensures), p .1 .1 .1 .0 .1)
 
 returns : tie.Need-returns
 returns c =

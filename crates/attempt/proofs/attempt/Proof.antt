@@ -4,8 +4,8 @@ use mathlib.Core.Path.{_≡_, refl, sym, ap, _∙_}
 use native.Mathlib.Omega.{arith}
 use borrow.Author.Needs.{needs}
 use Rattle.facts.specs.Nets.{netIn, net-sound}
-use Rattle.floating.specs.Alike.{wired-sized}
-use Rattle.attempt.specs.Attempted.{still-volts, inject-small, all-legs, all-sized, free-nodes, loose, floating-stops, trial-is}
+use Rattle.floating.specs.Alike.{wired-sized, quiet-resting}
+use Rattle.attempt.specs.Attempted.{still-volts, inject-small, all-legs, all-sized, all-resting, free-nodes, loose, floating-stops, trial-is}
 use Rattle.attempt.proofs.attempt.Statement.{statement}
 use Rattle.attempt.proofs.attempt.Tie as tie
 
@@ -19,7 +19,7 @@ abbrev chosen : tie.After-floating → tie.After-free-nodes
 chosen c = c .before .before .before .before .before .before
 
 lay-requires : tie.Need-lay-requires
-lay-requires c κs = let s = c .before .before .before .before in ((s .pre .0 .known, s .pre .0 .kept), ((s .pre .0 .row-count, s .pre .0 .area-least), s .pre .1 .0))
+lay-requires c κs = let s = c .before .before .before .before in ((s .pre .0 .known, s .pre .0 .kept), ((s .pre .0 .row-count, s .pre .0 .area-least), (s .pre .1 .0, s .pre .1 .1 .0)))
 
 drive-requires : tie.Need-drive-requires
 drive-requires c κs =
@@ -42,7 +42,10 @@ floating-requires c κs =
       (z .rows-end, wired-sized z),
       (
         free-nodes _ _ _ _ _ _ _ _ _ _ _ _ S _ _ _ _ L _ (x .fixed-nodes .ensures) _ _ (f .free-nodes .ensures),
-        loose _ _ _ _ _ _ _ _ _ _ _ _ S _ _ _ _ L _ (x .fixed-nodes .ensures) _ _ (f .free-nodes .ensures) (x .fixed-nodes .ensures .long),
+        (
+          loose _ _ _ _ _ _ _ _ _ _ _ _ S _ _ _ _ L _ (x .fixed-nodes .ensures) _ _ (f .free-nodes .ensures) (x .fixed-nodes .ensures .long),
+          quiet-resting _ z (all-resting _ _ _ _ _ _ _ _ _ _ _ _ S _ _ _ _ L _ (start l .pre .1 .0)),
+        ),
       ),
     )
 
@@ -59,7 +62,7 @@ returns c =
         sized = all-sized _ _ _ _ _ _ _ _ _ _ _ _ S _ _ _ _ L;
         tried = floating-stops _ _ _ _ _ _ _ _ _ _ _ _ S _ _ _ _ L _ (x .fixed-nodes .ensures) _ _ (f .free-nodes .ensures) _ _ (c .before .floating .ensures) (c .if1 .taken);
       },
-      start l .pre .1 .1,
+      start l .pre .1 .1 .1,
     )
 
 trial-requires : tie.Need-trial-requires
@@ -76,7 +79,7 @@ trial-requires c κs =
       (S .known .passes, S .row-count),
       (
         (all-sized _ _ _ _ _ _ _ _ _ _ _ _ S _ _ _ _ L, rw (d .drive .ensures .0) (still-volts _ N _ _)),
-        ((inject-small _ N _ _ (d .drive .ensures .1), free-nodes _ _ _ _ _ _ _ _ _ _ _ _ S _ _ _ _ L _ (x .fixed-nodes .ensures) _ _ (f .free-nodes .ensures)), s .pre .1 .1),
+        ((inject-small _ N _ _ (d .drive .ensures .1), free-nodes _ _ _ _ _ _ _ _ _ _ _ _ S _ _ _ _ L _ (x .fixed-nodes .ensures) _ _ (f .free-nodes .ensures)), (s .pre .1 .1 .1, all-resting _ _ _ _ _ _ _ _ _ _ _ _ S _ _ _ _ L _ (s .pre .1 .0))),
       ),
     )
 

@@ -45,7 +45,7 @@ currents-requires c κs = search needs
 first-past-requires : tie.Need-first-past-requires
 first-past-requires c κs =
     let p = c .before .before .pre in
-    (close (p .0 .0) (p .0 .1) (p .1 .0) (c .before .currents .ensures), (p .1 .1 .0, simp (toZ-ofZ, c .before .before .fits .limit) (p .1 .1 .1)))
+    (close (p .0 .0) (p .0 .1) (p .1 .0) (c .before .currents .ensures), (p .1 .1 .0, simp (toZ-ofZ, c .before .before .fits .limit) (p .1 .1 .1 .0)))
 
 returns : tie.Need-returns
 returns c =

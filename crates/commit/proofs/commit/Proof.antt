@@ -1,5 +1,4 @@
 -- `commit::commit` meets its contract. Assumes nothing.
-use mathlib.Core.Path.{_≡_, refl, _∙_}
 use borrow.Author.Needs.{needs}
 use native.Mathlib.Omega.{arith}
 use Rattle.commit.specs.Commit.{writable, sendable}
@@ -7,13 +6,13 @@ use Rattle.commit.proofs.commit.Statement.{statement}
 use Rattle.commit.proofs.commit.Tie as tie
 
 put-records-requires : tie.Need-put-records-requires
-put-records-requires c κs = let r = c .before .pre in (writable r, (r .nodes-are, r .area-least, r .area-most, r .step-most))
+put-records-requires c κs = let r = c .before .pre in (writable r, ((r .nodes-are, r .area-least, r .area-most, r .step-most), r .nexts))
 
 send-rows-requires : tie.Need-send-rows-requires
-send-rows-requires c κs = let r = c .before .before .before .before .pre in (sendable r (r .froms-long), (omega arith, omega arith))
+send-rows-requires c κs = let r = c .before .before .before .before .pre in (sendable r (r .froms-long), ((omega arith, omega arith), r .nexts))
 
 send-rows-requires-2 : tie.Need-send-rows-requires-2
-send-rows-requires-2 c κs = let r = c .before .before .before .before .before .before .before .pre in (sendable r (r .tos-long), (omega arith, omega arith))
+send-rows-requires-2 c κs = let r = c .before .before .before .before .before .before .before .pre in (sendable r (r .tos-long), ((omega arith, omega arith), r .nexts))
 
 returns : tie.Need-returns
 returns c =

@@ -1,28 +1,28 @@
 -- `floating::floating` meets its contract. The nodes before `place` are reached, and the marks come in the end to what the paper's rounds come to;
 -- the last `calm` legs have reached nothing new. Assumes nothing.
-use Prim.Native.Nat.{ℕ, _+_, _-_, _*_, _≤_, _<_}
+use Prim.Native.Nat.{ℕ, _+_, _-_, _*_, _/_, _≤_, _<_}
 use mathlib.Core.Path.{_≡_, refl, sym, ap, _∙_}
 use native.Mathlib.Omega.{arith}
 use lib.ListN.{length, getD}
 use Rattle.floating.specs.Search.{firstMarks}
-use Rattle.floating.specs.Going.{after, State, state-start, state-next, turn-keeps, turn-less, left}
+use Rattle.floating.specs.Going.{around, onward, Quiet, Onward, onward-is, State, state-start, state-next, state-skip, turn-keeps, turn-most, turn-less, left}
 use Rattle.floating.specs.Answer.{Done, done-next, first-length, none-floats, one-floats}
 use Rattle.floating.proofs.floating.Statement.{statement}
 use Rattle.floating.proofs.floating.Tie as tie
 
 abbrev Inv-branches : tie.InvT-branches
-Inv-branches near far g rows fixed free n legs marks₀ j₀ calm₀ place node marks j calm =
+Inv-branches near far g rows next fixed free n legs marks₀ j₀ calm₀ place node marks j calm =
     State near far g legs (firstMarks fixed) marks j calm × Done free marks place
 
 abbrev μ-branches : tie.MeasureT-branches
-μ-branches near far g rows fixed free n legs marks₀ j₀ calm₀ place node marks j calm = left legs marks calm
+μ-branches near far g rows next fixed free n legs marks₀ j₀ calm₀ place node marks j calm = left legs marks calm
 
 abbrev Inv-nodes : tie.InvT-nodes
-Inv-nodes near far g rows fixed free n legs marks₀ j₀ calm₀ place₀ marks j calm place =
+Inv-nodes near far g rows next fixed free n legs marks₀ j₀ calm₀ place₀ marks j calm place =
     (place ≤ n) × (State near far g legs (firstMarks fixed) marks j calm × Done free marks place)
 
 abbrev μ-nodes : tie.MeasureT-nodes
-μ-nodes near far g rows fixed free n legs marks₀ j₀ calm₀ place₀ marks j calm place = n - place
+μ-nodes near far g rows next fixed free n legs marks₀ j₀ calm₀ place₀ marks j calm place = n - place
 
 mul-legs : tie.Need-mul-legs Inv-branches μ-branches Inv-nodes μ-nodes
 mul-legs c = omega (arith, c .pre .0 .0)
@@ -64,30 +64,68 @@ spread-leg-requires c κs =
     let s = start-of b in
     (omega (arith, s .pre .0 .0), (s .pre .0 .1, (b .branches .inv .0 .place (omega (arith, e .if2 .left)), e .if2 .left)))
 
-after-requires : tie.Need-after-requires Inv-branches μ-branches Inv-nodes μ-nodes
-after-requires c κs =
+-- the leg that is looked at is one of the legs
+leg-end : (c : tie.After-spread-leg Inv-branches μ-branches Inv-nodes μ-nodes)
+    → c .before .before .before .before .branches .j < 2 * start-of (c .before .before .before .before) .args .rows
+leg-end c =
     let e = c .before .before in
+    e .before .before .branches .inv .0 .place (omega (arith, e .if2 .left))
+
+onward-requires : tie.Need-onward-requires Inv-branches μ-branches Inv-nodes μ-nodes
+onward-requires c κs =
+    let b = c .before .before .before .before in
+    let s = start-of b in
+    let l = leg-end c in
+    (s .pre .0 .0, (l, s .pre .1 .1 .1 .most ((b .branches .j + 1) / 2) (omega arith)))
+
+-- what is left out on the way to the next leg
+ahead : (c : tie.After-onward Inv-branches μ-branches Inv-nodes μ-nodes)
+    → Onward (start-of (c .before .before .before .before .before) .args .g .now) (2 * start-of (c .before .before .before .before .before) .args .rows) (c .before .before .before .before .before .branches .j) (c .onward .result)
+ahead c =
+    let b = c .before .before .before .before .before in
+    let s = start-of b in
+    let a = s .args in
+    rw (c .onward .ensures) (onward-is (a .g .now) (a .next .now) (a .rows) (b .branches .j) (s .pre .1 .1 .1) (leg-end (c .before)))
+
+add-calm : tie.Need-add-calm Inv-branches μ-branches Inv-nodes μ-nodes
+add-calm c =
+    let s = start-of (c .before .before .before .before .before) in
+    let o = ahead c in
+    omega (arith, o .least, o .most, s .pre .0 .0)
+
+sub-calm : tie.Need-sub-calm Inv-branches μ-branches Inv-nodes μ-nodes
+sub-calm c = omega (arith, ahead c .least)
+
+add-calm-2 : tie.Need-add-calm-2 Inv-branches μ-branches Inv-nodes μ-nodes
+add-calm-2 c =
+    let e = c .before .before .before in
     let b = e .before .before in
     let s = start-of b in
-    (b .branches .inv .0 .place (omega (arith, e .if2 .left)), omega (arith, s .pre .0 .0))
+    let a = s .args in
+    let o = ahead c in
+    let t = turn-most (a .near .now) (a .far .now) (a .g .now) (2 * a .rows) (firstMarks (a .fixed .now)) (s .pre .0 .1) (b .branches .marks) _ (b .branches .j) (b .branches .calm) _ (c .before .spread-leg .ensures) in
+    omega (arith, o .most, t, e .if2 .left, s .pre .0 .0)
 
 branches-less : tie.Need-branches-less Inv-branches μ-branches Inv-nodes μ-nodes
 branches-less c =
-    let e = c .before .before .before in
+    let e = c .before .before .before .before in
     let b = e .before .before in
     let s = start-of b in
     let a = s .args in
-    turn-less (a .near .now) (a .far .now) (a .g .now) (2 * a .rows) (firstMarks (a .fixed .now)) (s .pre .0 .1) (b .branches .marks) _ (b .branches .j) (b .branches .calm) _ (b .branches .inv .0) (e .if2 .left) (c .before .spread-leg .ensures)
+    let t = turn-less (a .near .now) (a .far .now) (a .g .now) (2 * a .rows) (firstMarks (a .fixed .now)) (s .pre .0 .1) (b .branches .marks) _ (b .branches .j) (b .branches .calm) _ (b .branches .inv .0) (e .if2 .left) (c .before .before .spread-leg .ensures) in
+    omega (arith, t)
 
 branches-again : tie.Need-branches-again Inv-branches μ-branches Inv-nodes μ-nodes
 branches-again c =
-    let e = c .before .before .before in
+    let e = c .before .before .before .before in
     let b = e .before .before in
     let s = start-of b in
     let a = s .args in
-    let t = c .before .spread-leg .ensures in (
-      rw (c .after .ensures)
-          (state-next (a .near .now) (a .far .now) (a .g .now) (2 * a .rows) (firstMarks (a .fixed .now)) (s .pre .0 .1) (b .branches .marks) _ (b .branches .j) (b .branches .calm) _ (b .branches .inv .0) (e .if2 .left) t),
+    let o = ahead (c .before) in
+    let t = c .before .before .spread-leg .ensures in (
+      rw (c .around .ensures)
+          (state-skip (a .near .now) (a .far .now) (a .g .now) (2 * a .rows) (firstMarks (a .fixed .now)) _ (b .branches .j + 1) _ _ (o .least) (o .most) (o .quiet)
+          (state-next (a .near .now) (a .far .now) (a .g .now) (2 * a .rows) (firstMarks (a .fixed .now)) (s .pre .0 .1) (b .branches .marks) _ (b .branches .j) (b .branches .calm) _ (b .branches .inv .0) (e .if2 .left) t)),
       record {
         node = λ q h.
             turn-keeps (a .near .now) (a .far .now) (a .g .now) (2 * a .rows) (firstMarks (a .fixed .now)) (s .pre .0 .1) (b .branches .marks) _ (b .branches .j) (b .branches .calm) _ (getD (a .free .now) q 0) t
@@ -126,9 +164,8 @@ returns-2 c =
     let s = start-of b in
     let a = s .args in
     let i = b .branches .inv in
-    let e : b .branches .calm ≡ 2 * a .rows = omega (arith, i .0 .few, c .if2 .taken) in
     one-floats (a .near .now) (a .far .now) (a .g .now) (2 * a .rows) (s .pre .0 .1) (a .fixed .now) (a .free .now) (a .n) (s .pre .1 .0)
-    (b .branches .marks) (b .branches .j) (n .before .nodes .place) (rw e at (i .0)) (i .1) (n .if1 .left) (c .before .branches-test .left)
+    (b .branches .marks) (b .branches .j) (b .branches .calm) (n .before .nodes .place) (c .if2 .taken) (i .0) (i .1) (n .if1 .left) (c .before .branches-test .left)
 
 pub floating-spec : {M : Type 1} → statement M
 floating-spec =
@@ -147,7 +184,11 @@ floating-spec =
     mul-branches
     array-read-branches
     spread-leg-requires
-    after-requires
+    onward-requires
+    add-calm
+    sub-calm
+    add-calm-2
+    (λ c κs. tt)
     branches-less
     branches-again
     add-place

@@ -1,129 +1,119 @@
--- `lay::lay` meets its contract. The first j legs are laid. Assumes nothing.
-use Prim.Native.Nat.{ℕ, _+_, _-_, _*_, _/_, _%_, _≤_, _<_}
+-- `lay::lay` meets its contract. The legs of the rows before i are laid, the others idle. Assumes nothing.
+use Prim.Native.Nat.{ℕ, _+_, _-_, _*_, _≤_, _<_}
 use mathlib.Core.Path.{_≡_, refl, sym, ap, _∙_}
 use native.Mathlib.Omega.{arith}
-use lib.ListN.{length}
-use mir.Syntax.{w64}
-use mir.Val.{toZ, ofZ}
-use Rattle.whole.specs.Int.{read64}
+use lib.ListN.{length, getD}
 use Rattle.facts.specs.Nets.{netIn, net-sound}
-use Rattle.paper.specs.Areas.{Net}
-use Rattle.paper.specs.Legs.{Leg}
-use Rattle.endleg.specs.EndLeg.{wireOf}
-use Rattle.lay.specs.Laid.{Laid, stepLeg, laid-none, laid-put}
+use Rattle.paper.specs.Legs.{Leg, idle}
+use Rattle.lay.specs.Laid.{Laid, stepLeg, step-from, step-to, upTo, laid-idle, laid-skip, laid-ends, laid-all}
+use Rattle.lay.specs.Others.{between-idle}
 use Rattle.lay.proofs.lay.Statement.{statement}
 use Rattle.lay.proofs.lay.Tie as tie
 
 abbrev Inv-loop : tie.InvT-loop
-Inv-loop net rows area conductance offset delay records froms tos a k near₀ far₀ g₀ h₀ j₀ near far g h j =
-    (j ≤ 2 * rows) × Laid (stepLeg (netIn net) a k records froms tos) j near far g h
+Inv-loop net rows next area conductance offset delay records froms tos a k near₀ far₀ g₀ h₀ i₀ near far g h i =
+    (i ≤ rows) × Laid (upTo (stepLeg (netIn net) a k records froms tos) i) (2 * rows) near far g h
 
 abbrev μ-loop : tie.MeasureT-loop
-μ-loop net rows area conductance offset delay records froms tos a k near₀ far₀ g₀ h₀ j₀ near far g h j = 2 * rows - j
+μ-loop net rows next area conductance offset delay records froms tos a k near₀ far₀ g₀ h₀ i₀ near far g h i = rows - i
 
--- the network's legs, of which there are 160 at most
 abbrev leg-of : tie.Start Inv-loop μ-loop → ℕ → Leg
 leg-of s = let a = s .args in stepLeg (netIn (a .net .now)) (a .a) (a .k) (a .records .now) (a .froms .now) (a .tos .now)
 
 rows-end : (s : tie.Start Inv-loop μ-loop) → s .args .rows ≤ 80
 rows-end s = omega (arith, s .pre .1 .0 .0, net-sound (s .args .net .now) (s .pre .0 .0 .passes) .rowMost)
 
+-- the legs of the rows that the table leaves out
+idle-until : (s : tie.Start Inv-loop μ-loop) (i : ℕ) → i ≤ length (netIn (s .args .net .now) .rows) → (j : ℕ) → 2 * i ≤ j → j < 2 * getD (s .args .next .now) i 0 → leg-of s j ≡ idle
+idle-until s i few =
+    let a = s .args in
+    between-idle (netIn (a .net .now)) (net-sound (a .net .now) (s .pre .0 .0 .passes)) (a .a) (a .k) (s .pre .1 .0 .1) (a .records .now) (a .froms .now) (a .tos .now) (s .pre .0 .1) (a .next .now) (s .pre .1 .1 .0) i few
+
+abbrev entry : tie.At-loop Inv-loop μ-loop → tie.Start Inv-loop μ-loop
+entry l = l .before .before .before .before .before .before .before
+
+abbrev turn : tie.After-lay-end Inv-loop μ-loop → tie.In-loop Inv-loop μ-loop
+turn c = c .before .before .before .before .before
+
+abbrev first : tie.After-lay-end2 Inv-loop μ-loop → tie.After-lay-end Inv-loop μ-loop
+first c = c .before .before .before .before .before
+
+mul-idle-legs : tie.Need-mul-idle-legs Inv-loop μ-loop
+mul-idle-legs c = omega (arith, rows-end c)
+
+idle-legs-requires : tie.Need-idle-legs-requires Inv-loop μ-loop
+idle-legs-requires c κs =
+    let s = c .before .before .before .before in
+    (s .pre .1 .1 .1, omega (arith, rows-end s))
+
 loop-holds : tie.Need-loop-holds Inv-loop μ-loop
 loop-holds c =
-    let s = c in
-    (omega arith, laid-none (leg-of s) (s .args .near .now) (s .args .far .now) (s .args .g .now) (s .args .h .now) (s .pre .1 .1))
+    let s = c .before .before .before .before .before .before in
+    let a = s .args in
+    let x = s .pre .1 .1 .0 in
+    let few : 0 ≤ length (netIn (a .net .now) .rows) = omega arith in (
+      omega (arith, x .most 0 few, s .pre .1 .0 .0),
+      laid-skip (leg-of s) (2 * a .rows) _ _ _ _ 0 (getD (a .next .now) 0 0) (omega arith) (idle-until s 0 few) (laid-idle (leg-of s) (2 * a .rows) _ _ _ _ (c .before .idle-legs .ensures)),
+    )
 
-mul-loop : tie.Need-mul-loop Inv-loop μ-loop
-mul-loop c =
-    omega (arith, rows-end (c .before))
+lay-end-requires : tie.Need-lay-end-requires Inv-loop μ-loop
+lay-end-requires c κs =
+    let t = c .before .before .before .before in
+    let s = entry (t .before) in
+    (s .pre .0, (omega (arith, s .pre .1 .0 .0, t .loop-test .taken), record { least = omega arith; most = omega arith }, s .pre .1 .0 .1))
 
-add-end-leg : tie.Need-add-end-leg Inv-loop μ-loop
-add-end-leg c =
-    omega (arith, rows-end (c .before .before))
+lay-end-requires-2 : tie.Need-lay-end-requires-2 Inv-loop μ-loop
+lay-end-requires-2 c κs =
+    let t = turn (c .before .before .before .before) in
+    let s = entry (t .before) in
+    (s .pre .0, (omega (arith, s .pre .1 .0 .0, t .loop-test .taken), record { least = omega arith; most = omega arith }, s .pre .1 .0 .1))
 
-end-leg-requires : tie.Need-end-leg-requires Inv-loop μ-loop
-end-leg-requires c κs =
-    let l = c .before in
-    let s = l .before in
-    (s .pre .0, (omega (arith, s .pre .1 .0 .0), record { least = omega arith; most = omega arith }, s .pre .1 .0 .1))
+-- the row after this one is one of the 80, or the end
+after : (c : tie.After-lay-end2 Inv-loop μ-loop) → turn (first c) .before .loop .i + 1 ≤ 80
+after c = omega (arith, turn (first c) .loop-test .taken, rows-end (entry (turn (first c) .before)))
 
-j-end : (c : tie.In-loop Inv-loop μ-loop) → c .before .loop .j < 160
-j-end c = omega (arith, rows-end (c .before .before), c .loop-test .taken)
+add-i : tie.Need-add-i Inv-loop μ-loop
+add-i c = omega (arith, after c)
 
-mul-near : tie.Need-mul-near Inv-loop μ-loop
-mul-near c =
-    omega (arith, j-end (c .before .before .before))
+mul-i : tie.Need-mul-i Inv-loop μ-loop
+mul-i c = omega (arith, after c)
 
-element-write-near : tie.Need-element-write-near Inv-loop μ-loop
-element-write-near c =
-    omega (arith, j-end (c .before .before .before))
-
-mul-far : tie.Need-mul-far Inv-loop μ-loop
-mul-far c =
-    omega (arith, j-end (c .before .before .before))
-
-element-write-far : tie.Need-element-write-far Inv-loop μ-loop
-element-write-far c =
-    omega (arith, j-end (c .before .before .before))
-
-mul-conducts : tie.Need-mul-conducts Inv-loop μ-loop
-mul-conducts c =
-    omega (arith, j-end (c .before .before .before))
-
-element-set-from-conducts : tie.Need-element-set-from-conducts Inv-loop μ-loop
-element-set-from-conducts c =
-    omega (arith, j-end (c .before .before .before))
-
-mul-history : tie.Need-mul-history Inv-loop μ-loop
-mul-history c =
-    omega (arith, j-end (c .before .before .before))
-
-element-set-from-history : tie.Need-element-set-from-history Inv-loop μ-loop
-element-set-from-history c =
-    omega (arith, j-end (c .before .before .before))
-
-add-j : tie.Need-add-j Inv-loop μ-loop
-add-j c =
-    omega (arith, j-end (c .before .before .before))
+element-copy-out-i-2 : tie.Need-element-copy-out-i-2 Inv-loop μ-loop
+element-copy-out-i-2 c = omega (arith, after c)
 
 loop-less : tie.Need-loop-less Inv-loop μ-loop
 loop-less c =
-    omega arith
+    let t = turn (first (c .before)) in
+    let s = entry (t .before) in
+    let i = t .before .loop .i in
+    let few : i + 1 ≤ length (netIn (s .args .net .now) .rows) = omega (arith, s .pre .1 .0 .0, t .loop-test .taken) in
+    let x = s .pre .1 .1 .0 .least (i + 1) few in
+    omega (arith, x, t .loop-test .taken)
 
 loop-again : tie.Need-loop-again Inv-loop μ-loop
 loop-again c =
-    let e = c .before .before in
-    let l = e .before .before in
-    let s = l .before in
-    let w = e .end-leg .result in
-    (omega (arith, e .before .loop-test .taken), laid-put (leg-of s) (l .loop .j) (l .loop .near) (l .loop .far) (l .loop .g) (l .loop .h) (l .loop .inv .1) (j-end (e .before)) w (toZ w64 (ofZ w64 (w .g))) (toZ w64 (ofZ w64 (w .h))) (e .end-leg .ensures) (read64 (w .g) (c .before .struct-told .given .1 .1 .0 .1)) (read64 (w .h) (c .before .struct-told .given .1 .1 .1 .0 .1)))
+    let d = c .before in
+    let t = turn (first d) in
+    let l = t .before in
+    let s = entry l in
+    let a = s .args in
+    let i = l .loop .i in
+    let x = s .pre .1 .1 .0 in
+    let few : i + 1 ≤ length (netIn (a .net .now) .rows) = omega (arith, s .pre .1 .0 .0, t .loop-test .taken) in (
+      omega (arith, x .most (i + 1) few, s .pre .1 .0 .0),
+      laid-skip (leg-of s) (2 * a .rows) _ _ _ _ (i + 1) (getD (a .next .now) (i + 1) 0) (x .least (i + 1) few) (idle-until s (i + 1) few)
+          (laid-ends (leg-of s) (2 * a .rows) i _ _ _ _ _ _ _ _ _ _ _ _ _ _ _ _ (omega (arith, rows-end s))
+          (sym (step-from (netIn (a .net .now)) (a .a) (a .k) (a .records .now) (a .froms .now) (a .tos .now) i)) (omega arith)
+          (sym (step-to (netIn (a .net .now)) (a .a) (a .k) (a .records .now) (a .froms .now) (a .tos .now) i)) (omega arith)
+          (l .loop .inv .1) (first d .lay-end .ensures) (d .lay-end2 .ensures)),
+    )
 
 returns : tie.Need-returns Inv-loop μ-loop
 returns c =
     let l = c .before in
-    let s = l .before in
-    let e : l .loop .j ≡ 2 * s .args .rows = omega arith in
-    rw e at (l .loop .inv .1)
+    laid-all (leg-of (entry l)) (entry l .args .rows) (l .loop .i) _ _ _ _ (c .loop-test .left) (l .loop .inv .1)
 
 pub lay-spec : {M : Type 1} → statement M
 lay-spec =
     tie.close
-    (tie.spec
-    Inv-loop
-    μ-loop
-    loop-holds
-    mul-loop
-    add-end-leg
-    end-leg-requires
-    mul-near
-    element-write-near
-    mul-far
-    element-write-far
-    mul-conducts
-    element-set-from-conducts
-    mul-history
-    element-set-from-history
-    add-j
-    loop-less
-    loop-again
-    returns)
+    (tie.spec Inv-loop μ-loop mul-idle-legs idle-legs-requires (λ c. omega arith) loop-holds lay-end-requires lay-end-requires-2 add-i mul-i element-copy-out-i-2 loop-less loop-again returns)

@@ -15,15 +15,25 @@ use Rattle.step.specs.Next.{Taken, not-taken, taken, taken-memory}
 use Rattle.step.proofs.ready.Statement.{statement}
 use Rattle.step.proofs.ready.Tie as tie
 
+abbrev tabled : tie.After-attempt → tie.After-next-rows
+tabled c = c .before .before .before .before .before .before .before .before .before .before .before
+
 abbrev start : tie.After-attempt → tie.Start
-start c = c .before .before .before .before .before .before .before .before .before .before
+start c = tabled c .before .before
+
+next-rows-requires : tie.Need-next-rows-requires
+next-rows-requires c κs =
+    let s = c .before in
+    let X = s .pre .1 .0 in
+    ((s .pre .0 .planned .network, mapped (s .pre .0 .planned)), ((X .row-count, X .area-least), refl))
 
 attempt-requires : tie.Need-attempt-requires
 attempt-requires c κs =
-    let s = c .before .before .before .before .before .before .before .before .before in
+    let n = c .before .before .before .before .before .before .before .before .before .before in
+    let s = n .before .before in
     let G = s .pre .0 in
     let X = s .pre .1 .0 in
-    (record { known = known (G .planned); kept = kept G; row-count = X .row-count; node-count = X .node-count; area-least = X .area-least }, s .pre .1 .1)
+    (record { known = known (G .planned); kept = kept G; row-count = X .row-count; node-count = X .node-count; area-least = X .area-least }, (n .next-rows .ensures, s .pre .1 .1))
 
 returns : tie.Need-returns
 returns c =
@@ -36,7 +46,7 @@ returns c =
     )
 
 abbrev wrote : tie.After-volts2 → tie.Else1
-wrote c = c .before .before .before .before .before .before .before .before .before
+wrote c = c .before .before .before .before .before .before .before .before .before .before
 
 accepts : (e : tie.Else1) → Taken (start (e .before .before) .args .k) (e .before .before .attempt .result .answer) (e .before .before .attempt .result .volts) (solve (netIn (start (e .before .before) .args .net .now)) (start (e .before .before) .args .area) (start (e .before .before) .args .k) (branches (netIn (start (e .before .before) .args .net .now)) (start (e .before .before) .args .area) (start (e .before .before) .args .k) (start (e .before .before) .args .records .now) (start (e .before .before) .args .froms .now) (start (e .before .before) .args .tos .now)))
 accepts e =
@@ -58,6 +68,7 @@ commit-requires c κs =
       sized = A .sized;
       volts = accepts e .volts;
       all = X .row-count;
+      nexts = tabled (e .before .before) .next-rows .ensures;
       nodes-are = X .node-count;
       area-least = X .area-least;
       area-most = le-trans (X .area-most) (le-trans (area-count-most _ N) (N .nodeMost));
@@ -82,4 +93,4 @@ returns-2 c =
 pub ready-spec : {M : Type 1} → statement M
 ready-spec =
     tie.close
-    (tie.spec attempt-requires (λ c κs. search needs) (λ c. search needs) (λ c. search needs) (λ c. search needs) returns commit-requires (λ c. search needs) (λ c. search needs) (λ c. search needs) returns-2)
+    (tie.spec next-rows-requires attempt-requires (λ c κs. search needs) (λ c. search needs) (λ c. search needs) (λ c. search needs) returns commit-requires (λ c. search needs) (λ c. search needs) (λ c. search needs) returns-2)

@@ -4,7 +4,6 @@ use mathlib.Core.Path.{_≡_, sym, ap, subst, _∙_}
 use mathlib.Core.Bool.{Bool, true}
 use mathlib.Core.List.{List}
 use native.Mathlib.Omega.{arith}
-use borrow.Author.Needs.{needs}
 use lib.Dec.{T}
 use lib.ListN.{length, take}
 use lib.Signed.{nonNeg}
@@ -52,7 +51,7 @@ all c = start c .pre .0 .1
 
 -- the voltages after solving, and what solving says with the network's own count of rows
 abbrev after : tie.After-solving → Words
-after c = c .solving .last .1 .1 .1 .1 .1 .1 .1 .1 .1 .1 .0
+after c = c .solving .last .1 .1 .1 .1 .1 .1 .1 .1 .1 .1 .1 .0
 
 abbrev legs : tie.Start → ℕ → List Leg
 legs s r = legsIn (s .args .near .now) (s .args .far .now) (s .args .g .now) (s .args .h .now) (2 * r)
@@ -67,7 +66,7 @@ found : (c : tie.After-solving) → outcome c (length (netIn (start c .args .net
 found c = subst (outcome c) (all c) (c .solving .ensures .0)
 
 solving-requires : tie.Need-solving-requires
-solving-requires c κs = search needs
+solving-requires c κs = let p = c .before .before .before .pre .1 in (p .0, (p .1 .0 .0, (p .1 .0 .1, (p .1 .1 .0, p .1 .1 .1))))
 
 returns : tie.Need-returns
 returns c =
@@ -91,7 +90,7 @@ balance-requires c κs =
     let d = c .before .before .before in
     let s = start d in
     let net = s .args .net .now in
-    ((s .pre .1 .0 .0, in-volts d (c .before .before .if1 .left)), (s .pre .1 .1 .0 .0, (s .pre .1 .1 .0 .1, simp (toZ-ofZ, limit-fits net (s .pre .0 .0)) (limit-sign net (s .pre .0 .0)))))
+    ((s .pre .1 .0 .0, in-volts d (c .before .before .if1 .left)), (s .pre .1 .1 .0 .0, (s .pre .1 .1 .0 .1, (simp (toZ-ofZ, limit-fits net (s .pre .0 .0)) (limit-sign net (s .pre .0 .0)), s .pre .1 .1 .1 .1))))
 
 abbrev solved : tie.After-balance → tie.After-solving
 solved c = c .before .before .before .before
@@ -118,7 +117,7 @@ first-beyond-requires c κs =
     let b = c .before .before in
     let d = solved b in
     let s = start d in
-    record { network = s .pre .0 .0; sized = s .pre .1 .0 .0; volts = in-volts d (b .before .before .before .if1 .left); all = s .pre .0 .1 }
+    (record { network = s .pre .0 .0; sized = s .pre .1 .0 .0; volts = in-volts d (b .before .before .before .if1 .left); all = s .pre .0 .1 }, s .pre .1 .1 .1 .1)
 
 -- the place that the search for a history found
 abbrev passed : tie.After-first-beyond → tie.After-solving

@@ -1,5 +1,5 @@
 -- `writing::put_records` meets its contract. Assumes nothing.
-use mathlib.Core.Path.{_≡_, refl, sym, ap, _∙_}
+use mathlib.Core.Path.{_≡_, refl, _∙_}
 use Prim.Native.Nat.{_-_}
 use native.Mathlib.Omega.{arith}
 use lib.IntN.{pos}
@@ -19,20 +19,22 @@ use Rattle.writing.proofs.put_records.Tie as tie
 put-volts-requires : tie.Need-put-volts-requires
 put-volts-requires c κs =
     let k = c .before .pre in
-    (simp length-set (k .0 .long), omega (arith, k .1 .0, net-sound (c .before .args .net .now) (k .0 .network) .nodeMost))
+    (simp length-set (k .0 .long), omega (arith, k .1 .0 .0, net-sound (c .before .args .net .now) (k .0 .network) .nodeMost))
 
 put-rows-requires : tie.Need-put-rows-requires
 put-rows-requires c κs =
     let s = c .before .before .before .before in
-    let k = s .pre .0 in
-    record {
-      network = k .network;
-      mapped = k .mapped;
-      sized = k .sized;
-      volts = k .volts;
-      all = k .all;
-      long = c .before .before .put-volts .kept .0 ∙ simp length-set (k .long);
-    }
+    let k = s .pre .0 in (
+      record {
+        network = k .network;
+        mapped = k .mapped;
+        sized = k .sized;
+        volts = k .volts;
+        all = k .all;
+        long = c .before .before .put-volts .kept .0 ∙ simp length-set (k .long);
+      },
+      s .pre .1 .1,
+    )
 
 same-length : tie.Need-same-length
 same-length c = c .before .put-rows .kept .1 .0 ∙ c .before .before .before .before .put-volts .kept .0 ∙ simp length-set refl
@@ -43,9 +45,9 @@ returns c =
     let s = c .before .before .before .before .before .before in
     let k = s .pre in
     let w = set (s .args .records .now) (s .args .area - 1) (pos (s .args .k)) in
-    let one : toZ w64 (s .args .k) ≡ pos (s .args .k) = toZ-pos w64 (omega (arith, k .1 .3)) in
+    let one : toZ w64 (s .args .k) ≡ pos (s .args .k) = toZ-pos w64 (omega (arith, k .1 .0 .3)) in
     let two : c .before .before .before .before .put-volts .last .0 ≡ putVolts (s .args .v .now) (nodesOf (netIn (s .args .net .now)) (s .args .area)) w =
-    rw (one, k .1 .0) at (c .before .before .before .before .put-volts .ensures)
+    rw (one, k .1 .0 .0) at (c .before .before .before .before .put-volts .ensures)
     ∙ volts-are (netIn (s .args .net .now)) (s .args .area) (s .args .v .now) (s .args .areas .now) w (λ n l. k .0 .mapped .area-at n (omega (arith, net-sound (s .args .net .now) (k .0 .network) .nodeMost))) in
     rw (two, k .0 .all) at (c .before .put-rows .ensures)
 
