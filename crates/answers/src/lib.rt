@@ -1,7 +1,54 @@
 // "When an answer is an enum, a definition gives this paper's number and values for each of its cases": the same in code.
 ghost use mathlib.Core.Path.{_≡_};
-ghost use Rattle.paper.specs.Answers.{advanceNumber, advancePlace};
+ghost use Rattle.paper.specs.Answers.{readingNumber, readingLine, resettingNumber, advanceNumber, advancePlace};
+ghost use Rattle.paper.specs.Pieces.{listingNumber};
 use paper::Advance;
+use paper::Listing;
+use paper::Reading;
+use paper::Resetting;
+
+pub fn reading_number(answer: Reading) -> u64
+    ensures { λ r. ⌜ r ≡ readingNumber answer ⌝ }
+{
+    match answer {
+        Reading::Read => 0,
+        Reading::Form(_) => 1,
+        Reading::Node(_) => 2,
+        Reading::Value(_) => 3,
+        Reading::Travel(_) => 4,
+        Reading::Double(_) => 5,
+        Reading::Full(_) => 6,
+        Reading::Size => 7,
+        Reading::Store => 9,
+    }
+}
+
+// "the answer carries the line number (0 for 7 and 9)"
+pub fn reading_line(answer: Reading) -> u64
+    ensures { λ r. ⌜ r ≡ readingLine answer ⌝ }
+{
+    match answer {
+        Reading::Read => 0,
+        Reading::Form(line) => line,
+        Reading::Node(line) => line,
+        Reading::Value(line) => line,
+        Reading::Travel(line) => line,
+        Reading::Double(line) => line,
+        Reading::Full(line) => line,
+        Reading::Size => 0,
+        Reading::Store => 0,
+    }
+}
+
+pub fn resetting_number(answer: Resetting) -> u64
+    ensures { λ r. ⌜ r ≡ resettingNumber answer ⌝ }
+{
+    match answer {
+        Resetting::Reset => 0,
+        Resetting::Network => 8,
+        Resetting::Store => 9,
+    }
+}
 
 pub fn advance_number(answer: Advance) -> u64
     ensures { λ r. ⌜ r ≡ advanceNumber answer ⌝ }
@@ -37,5 +84,19 @@ pub fn advance_place(answer: Advance) -> u64
         Advance::Range(node) => node,
         Advance::Unbalanced(node) => node,
         Advance::History(branch) => branch,
+    }
+}
+
+// Beside the paper's numbers, two for a listing that goes on and one that a refused area has ended.
+pub fn listing_number(answer: Listing) -> u64
+    ensures { λ r. ⌜ r ≡ listingNumber answer ⌝ }
+{
+    match answer {
+        Listing::Done => 0,
+        Listing::Network => 8,
+        Listing::Store => 9,
+        Listing::State => 10,
+        Listing::More => 100,
+        Listing::Stopped => 101,
     }
 }

@@ -63,8 +63,17 @@ pub fn attempt<'a>(
     );
     let mut volts = [0; 33];
     let mut inject = [0; 33];
-    sources::drive(net, rows, areas, area, k, &mut volts, &mut inject);
-    let fixed = free::fixed_nodes(net, rows);
+    let mut fixed = [false; 33];
+    sources::drive(
+        net,
+        rows,
+        areas,
+        area,
+        k,
+        &mut volts,
+        &mut inject,
+        &mut fixed,
+    );
     let mut free = [0; 32];
     let n = free::free_nodes(areas, &fixed, nodes, area, &mut free);
     let node = floating::floating(near, far, g, rows, next, &fixed, &free, n);

@@ -1,12 +1,10 @@
 // What a customer links: the calls over lent memory, for Rattle and for C. None has a `requires`; each refuses instead.
 ghost use mathlib.Core.Path.{_≡_};
-ghost use Rattle.paper.specs.Answers.{readingNumber, readingLine, resettingNumber, advanceNumber};
 ghost use Rattle.paper.specs.Advance.{memory};
 ghost use Rattle.paper.specs.One.{Reads, Resets, Advances};
-ghost use Rattle.paper.specs.Pieces.{Lists, listingNumber};
+ghost use Rattle.paper.specs.Pieces.{Lists};
 ghost use Rattle.emt.specs.Numbered.{ReadsBy, ResetsBy, AdvancesBy, ListsBy, placeOrCount};
 use paper::Advance;
-use paper::Listing;
 use paper::Reading;
 use paper::Resetting;
 use steplist::Piece;
@@ -18,46 +16,14 @@ pub fn read(text: &[u8], network: &mut [i64]) -> Reading
     reading::read(text, network)
 }
 
-pub fn reading_number(answer: Reading) -> u64
-    ensures { λ r. ⌜ r ≡ readingNumber answer ⌝ }
-{
-    match answer {
-        Reading::Read => 0,
-        Reading::Form(_) => 1,
-        Reading::Node(_) => 2,
-        Reading::Value(_) => 3,
-        Reading::Travel(_) => 4,
-        Reading::Double(_) => 5,
-        Reading::Full(_) => 6,
-        Reading::Size => 7,
-        Reading::Store => 9,
-    }
-}
-
-pub fn reading_line(answer: Reading) -> u64
-    ensures { λ r. ⌜ r ≡ readingLine answer ⌝ }
-{
-    match answer {
-        Reading::Read => 0,
-        Reading::Form(line) => line,
-        Reading::Node(line) => line,
-        Reading::Value(line) => line,
-        Reading::Travel(line) => line,
-        Reading::Double(line) => line,
-        Reading::Full(line) => line,
-        Reading::Size => 0,
-        Reading::Store => 0,
-    }
-}
-
 // "the answer carries the line number (0 for 7 and 9)": it is written whatever the answer is.
 #[no_mangle]
 pub extern "C" fn emt_read(text: &[u8], network: &mut [i64], line: &mut u64) -> u64
     ensures { λ r. ⌜ ReadsBy (now (text .entry)) (now (network .entry)) r (now (line .exit)) (now (network .exit)) ⌝ }
 {
     let answer = reading::read(text, network);
-    *line = reading_line(answer);
-    reading_number(answer)
+    *line = answers::reading_line(answer);
+    answers::reading_number(answer)
 }
 
 // "Resetting gives 9 or 8, or writes the records and both line stores all zero and answers 0."
@@ -65,16 +31,6 @@ pub fn reset(network: &[i64], records: &mut [i64], froms: &mut [i64], tos: &mut 
     ensures { λ r. ⌜ Resets (now (network .entry)) (memory (now (records .entry)) (now (froms .entry)) (now (tos .entry))) r (memory (now (records .exit)) (now (froms .exit)) (now (tos .exit))) ⌝ }
 {
     resetting::reset(network, records, froms, tos)
-}
-
-fn resetting_number(answer: Resetting) -> u64
-    ensures { λ r. ⌜ r ≡ resettingNumber answer ⌝ }
-{
-    match answer {
-        Resetting::Reset => 0,
-        Resetting::Network => 8,
-        Resetting::Store => 9,
-    }
 }
 
 #[no_mangle]
@@ -86,7 +42,7 @@ pub extern "C" fn emt_reset(
 ) -> u64
     ensures { λ r. ⌜ ResetsBy (now (network .entry)) (memory (now (records .entry)) (now (froms .entry)) (now (tos .entry))) r (memory (now (records .exit)) (now (froms .exit)) (now (tos .exit))) ⌝ }
 {
-    resetting_number(resetting::reset(network, records, froms, tos))
+    answers::resetting_number(resetting::reset(network, records, froms, tos))
 }
 
 // "Advancing: 9, 8, then 10 to 17"; "an accepted advance answers the area's new count". An area number of any size is answered.
@@ -100,24 +56,6 @@ pub fn advance(
     ensures { λ r. ⌜ Advances (now (network .entry)) area (memory (now (records .entry)) (now (froms .entry)) (now (tos .entry))) r (memory (now (records .exit)) (now (froms .exit)) (now (tos .exit))) ⌝ }
 {
     advancing::advance(network, records, froms, tos, area)
-}
-
-fn advance_number(answer: Advance) -> u64
-    ensures { λ r. ⌜ r ≡ advanceNumber answer ⌝ }
-{
-    match answer {
-        Advance::Took(_) => 0,
-        Advance::Network => 8,
-        Advance::Store => 9,
-        Advance::State => 10,
-        Advance::Area => 11,
-        Advance::Done => 12,
-        Advance::Wait(_) => 13,
-        Advance::Floating(_) => 14,
-        Advance::Range(_) => 15,
-        Advance::Unbalanced(_) => 16,
-        Advance::History(_) => 17,
-    }
 }
 
 fn advance_place(answer: Advance) -> u64
@@ -152,7 +90,7 @@ pub extern "C" fn emt_advance(
 {
     let answer = advancing::advance(network, records, froms, tos, area);
     *place = advance_place(answer);
-    advance_number(answer)
+    answers::advance_number(answer)
 }
 
 // Advances all areas in rising order, full step after full step, and lists each, until the next might not fit into the buffer, an area is refused or all
@@ -167,19 +105,6 @@ pub fn list(
     ensures { λ r. ⌜ Lists (now (network .entry)) (memory (now (records .entry)) (now (froms .entry)) (now (tos .entry))) (now (out .entry)) (r .answer) (r .count) (now (out .exit)) (memory (now (records .exit)) (now (froms .exit)) (now (tos .exit))) ⌝ }
 {
     list::list(network, records, froms, tos, out)
-}
-
-fn listing_number(answer: Listing) -> u64
-    ensures { λ r. ⌜ r ≡ listingNumber answer ⌝ }
-{
-    match answer {
-        Listing::Done => 0,
-        Listing::Network => 8,
-        Listing::Store => 9,
-        Listing::State => 10,
-        Listing::More => 100,
-        Listing::Stopped => 101,
-    }
 }
 
 // How many bytes are listed: it is written whatever the answer is.
@@ -197,5 +122,5 @@ pub extern "C" fn emt_list(
     let piece = list::list(network, records, froms, tos, out);
     let answer = piece.answer;
     *written = piece.count as u64;
-    listing_number(answer)
+    answers::listing_number(answer)
 }

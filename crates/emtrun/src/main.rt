@@ -61,8 +61,8 @@ fn put_refusal(answer: Reading, out: &mut [u8]) -> usize
     lines::put_bad(
         out,
         0,
-        emt::reading_line(answer),
-        emt::reading_number(answer),
+        answers::reading_line(answer),
+        answers::reading_number(answer),
     )
 }
 

@@ -7,9 +7,10 @@ ghost use lib.ListN.{length};
 ghost use Rattle.paper.specs.Limits as Limits;
 ghost use Rattle.paper.specs.Network.{isNetwork};
 ghost use Rattle.facts.specs.Nets.{netIn};
-ghost use Rattle.free.specs.Free.{Flagged, flagRow, freeBy, freeIn, Put, Listed};
+ghost use Rattle.free.specs.Free.{flagRow, freeBy, freeIn, Put, Listed};
 
-fn flag_row(net: &[i64], i: usize, flags: &mut [bool; 33])
+// row i's flag, where it is a VS
+pub fn flag_row(net: &[i64], i: usize, flags: &mut [bool; 33])
     requires { ⌜ (isNetwork (now net) ≡ true) × (i < length (netIn (now net) .rows)) ⌝ }
     ensures { λ _. ⌜ now (flags .exit) ≡ flagRow (netIn (now (net .entry))) i (now (flags .entry)) ⌝ }
 {
@@ -17,20 +18,6 @@ fn flag_row(net: &[i64], i: usize, flags: &mut [bool; 33])
         let node = rows::number(net, i, 1);
         flags[node] = true;
     }
-}
-
-// the fixed nodes, by node: they are the same at every step
-pub fn fixed_nodes(net: &[i64], rows: usize) -> [bool; 33]
-    requires { ⌜ (isNetwork (now net) ≡ true) × (rows ≡ length (netIn (now net) .rows)) ⌝ }
-    ensures { λ r. ⌜ Flagged (netIn (now (net .entry))) r ⌝ }
-{
-    let mut flags = [false; 33];
-    let mut i = 0;
-    while i < rows {
-        flag_row(net, i, &mut flags);
-        i += 1;
-    }
-    flags
 }
 
 // node n behind the first m free nodes, where it is one; how many there are then

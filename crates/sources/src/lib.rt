@@ -10,6 +10,8 @@ ghost use Rattle.paper.specs.Rows.{isIS};
 ghost use Rattle.paper.specs.Sources.{source};
 ghost use Rattle.paper.specs.Solve.{stillOf};
 ghost use Rattle.facts.specs.Nets.{netIn, rowAt};
+ghost use Rattle.free.specs.Free.{Flagged};
+ghost use Rattle.free.specs.FlagLaws.{noFlags};
 ghost use Rattle.sources.specs.Values.{valueOf, added, givenRow, holds, none, SourceIn, Room, Driven, Driving, Injects};
 
 // "it is peak · n / rise rounded toward zero while n < rise; at or after the rise it is the peak"
@@ -73,7 +75,7 @@ fn drive_row(
     }
 }
 
-// What the area's VS hold by node, 0 elsewhere, and what the IS inject by node, at step k: one pass over the rows.
+// What the area's VS hold by node, 0 elsewhere, what the IS inject by node, at step k, and the nodes that a VS fixes: one pass over the rows.
 pub fn drive(
     net: &[i64],
     rows: usize,
@@ -82,16 +84,19 @@ pub fn drive(
     k: usize,
     still: &mut [i64; 33],
     inject: &mut [i64; 33],
+    fixed: &mut [bool; 33],
 )
     requires { ⌜ Driven (now net) (now area) ⌝ }
     requires { ⌜ (rows ≡ length (netIn (now net) .rows)) × (1 ≤ a) ⌝ }
-    requires { ⌜ (now still ≡ none) × (now inject ≡ none) ⌝ }
+    requires { ⌜ (now still ≡ none) × ((now inject ≡ none) × (now fixed ≡ noFlags)) ⌝ }
     ensures { λ _. ⌜ now (still .exit) ≡ stillOf (netIn (now (net .entry))) a k ⌝ }
     ensures { λ _. ⌜ Injects (netIn (now (net .entry))) k (now (inject .exit)) ⌝ }
+    ensures { λ _. ⌜ Flagged (netIn (now (net .entry))) (now (fixed .exit)) ⌝ }
 {
     let mut i = 0;
     while i < rows {
         drive_row(net, area, a, k, i, still, inject);
+        free::flag_row(net, i, fixed);
         i += 1;
     }
 }

@@ -2,7 +2,6 @@
 use Prim.Native.Nat.{ℕ, _*_, _≤_}
 use mathlib.Core.Path.{_≡_, refl, sym, ap, _∙_}
 use native.Mathlib.Omega.{arith}
-use borrow.Author.Needs.{needs}
 use Rattle.facts.specs.Nets.{netIn, net-sound}
 use Rattle.floating.specs.Alike.{wired-sized, quiet-resting}
 use Rattle.attempt.specs.Attempted.{still-volts, inject-small, all-legs, all-sized, all-resting, free-nodes, loose, floating-stops, trial-is}
@@ -23,8 +22,8 @@ lay-requires c κs = let s = c .before .before .before .before in ((s .pre .0 .k
 
 drive-requires : tie.Need-drive-requires
 drive-requires c κs =
-    let s = start (c .before .before) in
-    (record { passes = s .pre .0 .known .passes; mapped = s .pre .0 .known .mapped }, ((s .pre .0 .row-count, s .pre .0 .area-least), (refl, refl)))
+    let s = start (c .before .before .before) in
+    (record { passes = s .pre .0 .known .passes; mapped = s .pre .0 .known .mapped }, ((s .pre .0 .row-count, s .pre .0 .area-least), (refl, (refl, refl))))
 
 free-nodes-requires : tie.Need-free-nodes-requires
 free-nodes-requires c κs =
@@ -41,9 +40,9 @@ floating-requires c κs =
     let z = all-sized _ _ _ _ _ _ _ _ _ _ _ _ S _ _ _ _ L in (
       (z .rows-end, wired-sized z),
       (
-        free-nodes _ _ _ _ _ _ _ _ _ _ _ _ S _ _ _ _ L _ (x .fixed-nodes .ensures) _ _ (f .free-nodes .ensures),
+        free-nodes _ _ _ _ _ _ _ _ _ _ _ _ S _ _ _ _ L _ (x .drive .ensures .1 .1) _ _ (f .free-nodes .ensures),
         (
-          loose _ _ _ _ _ _ _ _ _ _ _ _ S _ _ _ _ L _ (x .fixed-nodes .ensures) _ _ (f .free-nodes .ensures) (x .fixed-nodes .ensures .long),
+          loose _ _ _ _ _ _ _ _ _ _ _ _ S _ _ _ _ L _ (x .drive .ensures .1 .1) _ _ (f .free-nodes .ensures) (x .drive .ensures .1 .1 .long),
           quiet-resting _ z (all-resting _ _ _ _ _ _ _ _ _ _ _ _ S _ _ _ _ L _ (start l .pre .1 .0)),
         ),
       ),
@@ -60,7 +59,7 @@ returns c =
         room = L .room;
         legs = all-legs _ _ _ _ _ _ _ _ _ _ _ _ S _ _ _ _ L;
         sized = all-sized _ _ _ _ _ _ _ _ _ _ _ _ S _ _ _ _ L;
-        tried = floating-stops _ _ _ _ _ _ _ _ _ _ _ _ S _ _ _ _ L _ (x .fixed-nodes .ensures) _ _ (f .free-nodes .ensures) _ _ (c .before .floating .ensures) (c .if1 .taken);
+        tried = floating-stops _ _ _ _ _ _ _ _ _ _ _ _ S _ _ _ _ L _ (x .drive .ensures .1 .1) _ _ (f .free-nodes .ensures) _ _ (c .before .floating .ensures) (c .if1 .taken);
       },
       start l .pre .1 .1 .1,
     )
@@ -74,12 +73,11 @@ trial-requires c κs =
     let S = s .pre .0 in
     let L = l .lay .ensures in
     let x = f .before .before .before in
-    let d = x .before in
     let N = net-sound (s .args .net .now) (S .known .passes) in (
       (S .known .passes, S .row-count),
       (
-        (all-sized _ _ _ _ _ _ _ _ _ _ _ _ S _ _ _ _ L, rw (d .drive .ensures .0) (still-volts _ N _ _)),
-        ((inject-small _ N _ _ (d .drive .ensures .1), free-nodes _ _ _ _ _ _ _ _ _ _ _ _ S _ _ _ _ L _ (x .fixed-nodes .ensures) _ _ (f .free-nodes .ensures)), (s .pre .1 .1 .1, all-resting _ _ _ _ _ _ _ _ _ _ _ _ S _ _ _ _ L _ (s .pre .1 .0))),
+        (all-sized _ _ _ _ _ _ _ _ _ _ _ _ S _ _ _ _ L, rw (x .drive .ensures .0) (still-volts _ N _ _)),
+        ((inject-small _ N _ _ (x .drive .ensures .1 .0), free-nodes _ _ _ _ _ _ _ _ _ _ _ _ S _ _ _ _ L _ (x .drive .ensures .1 .1) _ _ (f .free-nodes .ensures)), (s .pre .1 .1 .1, all-resting _ _ _ _ _ _ _ _ _ _ _ _ S _ _ _ _ L _ (s .pre .1 .0))),
       ),
     )
 
@@ -90,19 +88,18 @@ returns-2 c =
     let l = laid f in
     let S = start l .pre .0 in
     let L = l .lay .ensures in
-    let x = f .before .before .before in
-    let d = x .before in (
+    let x = f .before .before .before in (
       record {
         room = L .room;
         legs = all-legs _ _ _ _ _ _ _ _ _ _ _ _ S _ _ _ _ L;
         sized = all-sized _ _ _ _ _ _ _ _ _ _ _ _ S _ _ _ _ L;
         tried =
-            trial-is _ _ _ _ _ _ _ _ _ _ _ _ S _ _ _ _ L _ (x .fixed-nodes .ensures) _ _ (f .free-nodes .ensures) _ _ _ _ _ (e .before .floating .ensures) (e .if1 .left)
-            (d .drive .ensures .1) (d .drive .ensures .0) (c .trial .ensures .0);
+            trial-is _ _ _ _ _ _ _ _ _ _ _ _ S _ _ _ _ L _ (x .drive .ensures .1 .1) _ _ (f .free-nodes .ensures) _ _ _ _ _ (e .before .floating .ensures) (e .if1 .left)
+            (x .drive .ensures .1 .0) (x .drive .ensures .0) (c .trial .ensures .0);
       },
       c .trial .ensures .1,
     )
 
 pub attempt-spec : {M : Type 1} → statement M
 attempt-spec =
-    tie.close (tie.spec lay-requires drive-requires (λ c κs. search needs) free-nodes-requires floating-requires returns trial-requires returns-2)
+    tie.close (tie.spec lay-requires drive-requires free-nodes-requires floating-requires returns trial-requires returns-2)
