@@ -2,6 +2,7 @@
 ghost use mathlib.Core.Path.{_≡_};
 ghost use Rattle.paper.specs.Answers.{readingNumber, readingLine, resettingNumber, advanceNumber, advancePlace};
 ghost use Rattle.paper.specs.Pieces.{listingNumber};
+ghost use Rattle.answers.specs.Places.{placeOrCount};
 use paper::Advance;
 use paper::Listing;
 use paper::Reading;
@@ -74,6 +75,25 @@ pub fn advance_place(answer: Advance) -> u64
 {
     match answer {
         Advance::Took(_) => 0,
+        Advance::Network => 0,
+        Advance::Store => 0,
+        Advance::State => 0,
+        Advance::Area => 0,
+        Advance::Done => 0,
+        Advance::Wait(branch) => branch,
+        Advance::Floating(node) => node,
+        Advance::Range(node) => node,
+        Advance::Unbalanced(node) => node,
+        Advance::History(branch) => branch,
+    }
+}
+
+// The new count of an area that has advanced, or the place.
+pub fn place_or_count(answer: Advance) -> u64
+    ensures { λ r. ⌜ r ≡ placeOrCount answer ⌝ }
+{
+    match answer {
+        Advance::Took(count) => count,
         Advance::Network => 0,
         Advance::Store => 0,
         Advance::State => 0,

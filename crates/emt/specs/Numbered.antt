@@ -3,14 +3,13 @@ use Prim.Native.Nat.{ℕ}
 use mathlib.Core.Path.{_≡_}
 use mathlib.Core.List.{List, _++_}
 use lib.ListN.{length, drop}
-use Rattle.paper.specs.declared.Advance.{Advance}
-use Rattle.paper.specs.declared.Advance.the-variants.{Took, Network, Store, State, Area, Done, Wait, Floating, Range, Unbalanced, History}
 use Rattle.whole.specs.Lists.{Words}
 use Rattle.paper.specs.Answers.{readingNumber, readingLine, resettingNumber, advanceNumber}
 use Rattle.paper.specs.Reading.{readOf}
 use Rattle.paper.specs.Advance.{Memory, advanceOf}
 use Rattle.paper.specs.Resetting.{resetOf}
 use Rattle.paper.specs.Pieces.{listingNumber, listOf}
+use Rattle.answers.specs.Places.{placeOrCount}
 
 pub record ReadsBy (text : List ℕ) (net : Words) (number line : ℕ) (after : Words) : Type 0 where
   pub answer : number ≡ readingNumber (readOf text net .answer)
@@ -20,20 +19,6 @@ pub record ReadsBy (text : List ℕ) (net : Words) (number line : ℕ) (after : 
 pub record ResetsBy (net : Words) (m : Memory) (number : ℕ) (after : Memory) : Type 0 where
   pub answer : number ≡ resettingNumber (resetOf net m .answer)
   pub memory : after ≡ resetOf net m .after
-
--- the paper's place where a refusal has one, and the new count where the advance is accepted
-abbrev pub placeOrCount : Advance → ℕ
-placeOrCount (Took k) = k
-placeOrCount Network = 0
-placeOrCount Store = 0
-placeOrCount State = 0
-placeOrCount Area = 0
-placeOrCount Done = 0
-placeOrCount (Wait b) = b
-placeOrCount (Floating n) = n
-placeOrCount (Range n) = n
-placeOrCount (Unbalanced n) = n
-placeOrCount (History b) = b
 
 pub record AdvancesBy (net : Words) (a : ℕ) (m : Memory) (number place : ℕ) (after : Memory) : Type 0 where
   pub answer : number ≡ advanceNumber (advanceOf net a m .answer)

@@ -3,7 +3,7 @@ ghost use mathlib.Core.Path.{_≡_};
 ghost use Rattle.paper.specs.Advance.{memory};
 ghost use Rattle.paper.specs.One.{Reads, Resets, Advances};
 ghost use Rattle.paper.specs.Pieces.{Lists};
-ghost use Rattle.emt.specs.Numbered.{ReadsBy, ResetsBy, AdvancesBy, ListsBy, placeOrCount};
+ghost use Rattle.emt.specs.Numbered.{ReadsBy, ResetsBy, AdvancesBy, ListsBy};
 use paper::Advance;
 use paper::Reading;
 use paper::Resetting;
@@ -58,24 +58,6 @@ pub fn advance(
     advancing::advance(network, records, froms, tos, area)
 }
 
-fn advance_place(answer: Advance) -> u64
-    ensures { λ r. ⌜ r ≡ placeOrCount answer ⌝ }
-{
-    match answer {
-        Advance::Took(count) => count,
-        Advance::Network => 0,
-        Advance::Store => 0,
-        Advance::State => 0,
-        Advance::Area => 0,
-        Advance::Done => 0,
-        Advance::Wait(branch) => branch,
-        Advance::Floating(node) => node,
-        Advance::Range(node) => node,
-        Advance::Unbalanced(node) => node,
-        Advance::History(branch) => branch,
-    }
-}
-
 // The new count of an area that has advanced, the node or branch that a refusal names, or 0: it is written whatever the answer is.
 #[no_mangle]
 pub extern "C" fn emt_advance(
@@ -89,7 +71,7 @@ pub extern "C" fn emt_advance(
     ensures { λ r. ⌜ AdvancesBy (now (network .entry)) area (memory (now (records .entry)) (now (froms .entry)) (now (tos .entry))) r (now (place .exit)) (memory (now (records .exit)) (now (froms .exit)) (now (tos .exit))) ⌝ }
 {
     let answer = advancing::advance(network, records, froms, tos, area);
-    *place = advance_place(answer);
+    *place = answers::place_or_count(answer);
     answers::advance_number(answer)
 }
 

@@ -2,14 +2,14 @@
 use mathlib.Core.Path.{_≡_, ap, _∙_}
 use borrow.Author.Needs.{needs}
 use Rattle.paper.specs.Answers.{advanceNumber}
-use Rattle.emt.specs.Numbered.{placeOrCount}
+use Rattle.answers.specs.Places.{placeOrCount}
 use Rattle.emt.proofs.emt_advance.Statement.{statement}
 use Rattle.emt.proofs.emt_advance.Tie as tie
 
 returns : tie.Need-returns
 returns c =
     let r = c .before .before .before .before .before .advance .ensures in
-    record { answer = c .advance-number .ensures ∙ ap advanceNumber (r .answer); place-of = c .before .advance-place .ensures ∙ ap placeOrCount (r .answer); memory = r .memory }
+    record { answer = c .advance-number .ensures ∙ ap advanceNumber (r .answer); place-of = c .before .place-or-count .ensures ∙ ap placeOrCount (r .answer); memory = r .memory }
 
 pub emt-advance-spec : {M : Type 1} → statement M
 emt-advance-spec =
