@@ -13,7 +13,8 @@ use lib.Ieee.{Float, nan}
 use Rattle.paper.specs.declared.Equation.{Equation}
 use Rattle.whole.specs.Lists.{Words, word}
 use Rattle.whole.specs.Size.{sub, fits}
-use Rattle.whole.specs.Folds.{getD-map, filled-at, filled-least}
+use Rattle.whole.specs.Folds.{getD-map}
+use Rattle.whole.specs.Filled.{getD-filled-in, filled-least}
 use Rattle.paper.specs.Limits as Limits
 use Rattle.paper.specs.Legs.{Leg}
 use Rattle.paper.specs.Solve.{nought, entry, matrixRow, equation, system}
@@ -23,7 +24,7 @@ use Rattle.alike.specs.Alike.{Alike, Roomy}
 use Rattle.alike.specs.Square.{Square}
 use Rattle.wires.specs.Wires.{legsIn, Sized}
 use Rattle.wires.specs.Shares.{Volts, entry-same, entry-other, right-is, conductance-size, toward-size, drawn-sum}
-use Rattle.wires.specs.Free.{Free, Injects, inject-size}
+use Rattle.wires.specs.Free.{Free, InjectsWithin, inject-size}
 use Rattle.gather.specs.Joins.{cellOf, Gathered}
 use Rattle.assemble.specs.Filled.{Filled, Fitting, equationAt}
 
@@ -36,14 +37,14 @@ module _ (legs : List Leg) (free : List ℕ) (still : Words) (inject : ℕ → �
   unfolding system
   system-line p h =
       let k : p < length (map (matrixRow legs free) free) = rw (length-map free (matrixRow legs free)) h in
-      filled-at Limits.nodeEnd _ (map (matrixRow legs free) free) p [] k ∙ getD-map (matrixRow legs free) free p 0 [] h
+      getD-filled-in Limits.nodeEnd _ (map (matrixRow legs free) free) p [] k ∙ getD-map (matrixRow legs free) free p 0 [] h
 
   row-cell : (n q : ℕ) → q < length free → cell (matrixRow legs free n) q ≡ double (entry legs n (getD free q 0))
   unfolding matrixRow
   row-cell n q h =
       let f : ℕ → Float = λ m. double (entry legs n m) in
       let k : q < length (map f free) = rw (length-map free f) h in
-      filled-at Limits.nodeEnd nought (map f free) q nan k ∙ getD-map f free q 0 nan h
+      getD-filled-in Limits.nodeEnd nought (map f free) q nan k ∙ getD-map f free q 0 nan h
 
   row-long : (n : ℕ) → length free ≤ length (matrixRow legs free n)
   unfolding matrixRow
@@ -53,7 +54,7 @@ module _ (legs : List Leg) (free : List ℕ) (still : Words) (inject : ℕ → �
   unfolding system
   system-row p h =
       let k : p < length (map (equation legs still inject) free) = rw (length-map free (equation legs still inject)) h in
-      filled-at Limits.nodeEnd _ (map (equation legs still inject) free) p _ k ∙ getD-map (equation legs still inject) free p 0 _ h
+      getD-filled-in Limits.nodeEnd _ (map (equation legs still inject) free) p _ k ∙ getD-map (equation legs still inject) free p 0 _ h
 
   system-roomy : Roomy (length free) (system legs free still inject)
   unfolding system
@@ -72,7 +73,7 @@ free-apart {free} f p q l m e = ne-eqb (getD free p 0) (getD free q 0) (λ d. by
     by-order d false a false b = eqb-false p q e (omega (arith, ltb-false p q a, ltb-false q p b))
 
 module _ {near far : List ℕ} {g h : Words} {rows : ℕ} {still inject : Words} {free : List ℕ} {n : ℕ} {pivots rights joins : Words}
-    (s : Sized near far g h rows) (u : Volts still) (i : Injects inject) (f : Free free n) (m : Gathered free n still (legsIn near far g h (2 * rows)) pivots rights joins) where
+    (s : Sized near far g h rows) (u : Volts still) (i : InjectsWithin inject) (f : Free free n) (m : Gathered free n still (legsIn near far g h (2 * rows)) pivots rights joins) where
   abbrev all : List Leg
   all = legsIn near far g h (2 * rows)
 

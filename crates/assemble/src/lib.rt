@@ -10,7 +10,7 @@ ghost use Rattle.paper.specs.Solve.{system};
 ghost use Rattle.alike.specs.Square.{Square};
 ghost use Rattle.wires.specs.Wires.{legsIn, Sized};
 ghost use Rattle.wires.specs.Shares.{Volts};
-ghost use Rattle.wires.specs.Free.{Free, Injects};
+ghost use Rattle.wires.specs.Free.{Free, InjectsWithin};
 ghost use Rattle.wires.specs.Resting.{Resting};
 ghost use Rattle.gather.specs.Joins.{cellOf};
 ghost use Rattle.assemble.specs.Filled.{LineOf, Fitting, Filled};
@@ -78,7 +78,7 @@ pub fn assemble(
     joins: &mut [i64; 1024],
     a: &mut [[f64; 32]; 32],
 ) -> [Equation; 32]
-    requires { ⌜ Sized (now near) (now far) (now g) (now h) rows × Volts (now still) ⌝ ∗ ⌜ Injects (now inject) ⌝ ∗ ⌜ Free (now free) n ⌝ ∗ ⌜ (length (now joins) ≡ 1024) × Square (now a) ⌝ ∗ ⌜ Resting (now near) (now next) rows ⌝ }
+    requires { ⌜ Sized (now near) (now far) (now g) (now h) rows × Volts (now still) ⌝ ∗ ⌜ InjectsWithin (now inject) ⌝ ∗ ⌜ Free (now free) n ⌝ ∗ ⌜ (length (now joins) ≡ 1024) × Square (now a) ⌝ ∗ ⌜ Resting (now near) (now next) rows ⌝ }
     ensures { λ r. ⌜ Assembled n (system (legsIn (now (near .entry)) (now (far .entry)) (now (g .entry)) (now (h .entry)) (2 * rows)) (take n (now (free .entry))) (now (still .entry)) (λ p. word (now (inject .entry)) p)) (now (a .exit)) r (now (joins .exit)) ⌝ }
 {
     let mut place = [32; 33];

@@ -1,30 +1,23 @@
 -- What a try starts from and comes to. Assumes nothing.
-use Prim.Native.Nat.{ℕ, zero, suc, _+_, _*_, _≤_, _<_}
+use Prim.Native.Nat.{ℕ, zero, suc, _*_, _≤_, _<_}
 use native.Mathlib.Nat.{le-trans}
 use native.Mathlib.Omega.{arith}
 use native.Mathlib.Decide.{decLe}
-use mathlib.Core.Path.{_≡_, refl, sym, ap, _∙_}
-use mathlib.Core.Bool.{Bool, true, false, not, cond}
-use mathlib.Core.List.{List, [], _∷_}
-use borrow.Author.Tests.{leb-true, le-leb, not-true}
-use lib.Dec.{leb}
+use mathlib.Core.Path.{_≡_, refl, sym, _∙_}
+use mathlib.Core.Bool.{Bool}
+use mathlib.Core.List.{List}
 use lib.IntN.{natAbs}
 use lib.ListN.{getD, length, take, List·getD-eq-default}
 use lib.Seq.{getD-take, length-take-le}
 use Rattle.paper.specs.declared.Advance.{Advance}
-use Rattle.paper.specs.declared.Advance.the-variants.{Took, Floating, Range, Unbalanced, History}
-use Rattle.whole.specs.Lists.{Words, word, keep, every, numbers}
-use Rattle.whole.specs.Folds.{and-left, and-right, both, every-if, every-at, every-keep, length-numbers, getD-numbers}
-use Rattle.whole.specs.Rising.{Rising, rising-numbers, rising-keep}
+use Rattle.paper.specs.declared.Advance.the-variants.{Floating}
+use Rattle.whole.specs.Lists.{Words, word}
 use Rattle.paper.specs.Limits as Limits
-use Rattle.paper.specs.Areas.{Net, areaCount, freeOf, nodesOf, fixed}
-use Rattle.paper.specs.Sources.{injected}
-use Rattle.paper.specs.Legs.{Leg, Branch, legsOf, heard, bothLegs}
+use Rattle.paper.specs.Areas.{Net, freeOf, fixed}
+use Rattle.paper.specs.Legs.{Branch, legsOf, heard, bothLegs}
 use Rattle.paper.specs.Floating as Paper
-use Rattle.paper.specs.Solve.{Step, stop, move, solve, solvedStep, stillOf, andFloating}
+use Rattle.paper.specs.Solve.{stop, solve, solvedStep, stillOf, andFloating}
 use Rattle.facts.specs.Nets.{NetSound, netIn, net-sound}
-use Rattle.rows.specs.Mapped.{Mapped}
-use Rattle.plan.specs.Planned.{Planned}
 use Rattle.endleg.specs.EndLeg.{Known, Kept}
 use Rattle.own.specs.Nexts.{Nexts}
 use Rattle.lay.specs.Laid.{Laid, Room, stepLeg}
@@ -38,10 +31,11 @@ use Rattle.sources.specs.Sizes.{still-end, injected-end}
 use Rattle.sources.specs.Still.{still-length}
 use Rattle.free.specs.Free.{Flagged, Listed, freeIn}
 use Rattle.free.specs.FreeLaws.{free-is}
-use Rattle.floating.specs.Reach.{flag, Wired, Loose}
+use Rattle.floating.specs.Reach.{flag, Wired}
 use Rattle.floating.specs.Legs.{wires}
 use Rattle.floating.specs.Alike.{floating-is}
-use Rattle.trial.specs.Trial.{Tried, answered, tried, tried-stop}
+use Rattle.floating.specs.Listed.{listed-node, listed-free}
+use Rattle.trial.specs.Trial.{Tried, tried, tried-stop}
 use Rattle.trial.specs.Solves as Solves
 use Rattle.trial.specs.Solves.{tried-is}
 use Rattle.attempt.specs.declared.Outcome.{Outcome}
@@ -69,67 +63,12 @@ pub record Attempted (net : Words) (a k : ℕ) (recs froms tos : Words) (rows : 
 pub still-volts : (N : Net) → NetSound N → (a k : ℕ) → Volts (stillOf N a k)
 still-volts N s a k = record { long = still-length N k a; end = still-end N s k a }
 
-pub inject-small : (N : Net) → NetSound N → (k : ℕ) (w : Words) → Injects N k w → Wires.Injects w
+pub inject-small : (N : Net) → NetSound N → (k : ℕ) (w : Words) → Injects N k w → Wires.InjectsWithin w
 inject-small N s k w i = record { end = λ n. go n (decLe n Limits.nodeEnd) }
   where
     go : (n : ℕ) → Dec (n ≤ Limits.nodeEnd) → natAbs (word w n) ≤ Limits.sourceEnd * Limits.injectionEnd
     go n (yes h) = rw (i .at n h) (injected-end N s k n h)
     go n (no h) = let l : length w ≤ n = omega (arith, i .long) in rw (List·getD-eq-default w _ l) (omega arith)
-
--- ---- the free nodes, "in rising order"
-
-rising-at : (b : ℕ) (l : List ℕ) → Rising b l → (i : ℕ) → i < length l → b < getD l i 0
-rising-at b [] r i h = absurd (omega arith)
-rising-at b (x ∷ l) r zero h = r .0
-rising-at b (x ∷ l) r (suc i) h = let q = rising-at x l (r .1) i (omega arith) in omega (arith, r .0)
-
-rising-two : (b : ℕ) (l : List ℕ) → Rising b l → (i k : ℕ) → i < k → k < length l → getD l i 0 < getD l k 0
-rising-two b [] r i k h m = absurd (omega arith)
-rising-two b (x ∷ l) r i zero h m = absurd (omega arith)
-rising-two b (x ∷ l) r zero (suc k) h m = rising-at x l (r .1) k (omega arith)
-rising-two b (x ∷ l) r (suc i) (suc k) h m = rising-two x l (r .1) i k (omega arith) (omega arith)
-
-every-kept : (p q : ℕ → Bool) (l : List ℕ) → every p l ≡ true → every p (keep q l) ≡ true
-unfolding every keep
-every-kept p q [] e = refl
-every-kept p q (x ∷ l) e = by (q x) (every-kept p q l (and-right (p x) (every p l) e))
-  where
-    by : (t : Bool) → every p (keep q l) ≡ true → every p (cond t (x ∷ keep q l) (keep q l)) ≡ true
-    by true f = both (and-left (p x) (every p l) e) f
-    by false f = f
-
-free-rising : (N : Net) (a : ℕ) → Rising 0 (freeOf N a)
-unfolding freeOf nodesOf
-free-rising N a = rising-keep _ 0 _ (rising-keep _ 0 _ (rising-numbers 0 (N .nodes)))
-
-free-most : (N : Net) (a : ℕ) → every (λ n. leb n (N .nodes)) (freeOf N a) ≡ true
-unfolding freeOf nodesOf
-free-most N a =
-    every-kept (λ n. leb n (N .nodes)) _ _
-    (every-kept (λ n. leb n (N .nodes)) _ (numbers 1 (N .nodes))
-    (every-if (λ n. leb n (N .nodes)) (numbers 1 (N .nodes)) 0
-    (λ i h.
-    let k : i < N .nodes = rw (length-numbers 1 (N .nodes)) at h in
-    rw (getD-numbers 1 (N .nodes) i 0 k) (le-leb (1 + i) (N .nodes) (omega arith)))))
-
-module _ (N : Net) (s : NetSound N) (a n : ℕ) (free : List ℕ) (l : Listed (freeOf N a) n free) where
-  free-at : (i : ℕ) → i < n → getD free i 0 ≡ getD (freeOf N a) i 0
-  free-at i h = sym (getD-take n free i 0 h) ∙ ap (λ (w : List ℕ). getD w i 0) (l .are)
-
-  pub free-node : (i : ℕ) → i < n → getD free i 0 ≤ N .nodes
-  free-node i h =
-      let k : i < length (freeOf N a) = omega (arith, l .count) in
-      rw (free-at i h) (leb-true (getD (freeOf N a) i 0) (N .nodes) (every-at (λ m. leb m (N .nodes)) (freeOf N a) 0 i (free-most N a) k))
-
-  pub free-given : Wires.Free free n
-  free-given =
-      record {
-        few = l .few;
-        long = omega (arith, l .few, l .long);
-        above = λ i h. rw (free-at i h) (rising-at 0 (freeOf N a) (free-rising N a) i (omega (arith, l .count)));
-        node = λ i h. le-trans (free-node i h) (s .nodeMost);
-        rising = λ i k h m. rw (free-at i (omega arith), free-at k m) (rising-two 0 (freeOf N a) (free-rising N a) i k h (omega (arith, l .count)));
-      }
 
 -- ---- the parts put together
 
@@ -168,26 +107,14 @@ module _ (net recs froms tos c : Words) (areas offsets delays : List ℕ) (rows 
     listed = let e : freeIn areas flags nodes a ≡ freeOf (netIn net) a = rw (S .node-count) (free-is (netIn net) areas flags a s (S .known .mapped) F) in rw e at G
 
     pub free-nodes : Wires.Free free n
-    free-nodes = free-given (netIn net) s a n free listed
-
-    pub loose : length flags ≡ suc Limits.nodeEnd → Loose flags free n
-    unfolding freeOf
-    loose long =
-        record {
-          long = long;
-          loose = λ i h.
-              let m = getD free i 0 in
-              let e : m ≡ getD (freeOf (netIn net) a) i 0 = sym (getD-take n free i 0 h) ∙ ap (λ (w : List ℕ). getD w i 0) (listed .are) in
-              let q : not (fixed (netIn net) (getD (freeOf (netIn net) a) i 0)) ≡ true = every-at (λ p. not (fixed (netIn net) p)) (freeOf (netIn net) a) 0 i (every-keep (λ p. not (fixed (netIn net) p)) (nodesOf (netIn net) a)) (omega (arith, listed .count)) in
-              F .flag-at m (free-nodes .node i h) ∙ ap (fixed (netIn net)) e ∙ not-true (fixed (netIn net) (getD (freeOf (netIn net) a) i 0)) q;
-        }
+    free-nodes = listed-free areas flags nodes a n free G (omega (arith, S .node-count, s .nodeMost))
 
     pub floats-are : (node : ℕ) → node ≡ Paper.floating (flag flags) Limits.nodeEnd (take n free) (wires near far g (2 * rows))
         → node ≡ Paper.floating (fixed (netIn net)) (netIn net .nodes) (freeOf (netIn net) a) (bothLegs (branches (netIn net) a k recs froms tos))
     floats-are node e =
         e
         ∙ floating-is near far g h (netIn net .nodes) (2 * rows) wired flags (fixed (netIn net)) (λ m l. F .flag-at m (le-trans l (s .nodeMost))) free n (free-nodes .long)
-        (free-node (netIn net) s a n free listed)
+        (λ i q. omega (arith, listed-node areas flags nodes a n free G i q, S .node-count))
         ∙ rw (listed .are, all-legs)
 
     -- 14

@@ -11,7 +11,7 @@ ghost use Rattle.paper.specs.Solve.{unbalanced};
 ghost use Rattle.wires.specs.Wires.{legsIn, Sized};
 ghost use Rattle.wires.specs.Shares.{Volts};
 ghost use Rattle.wires.specs.Sums.{Sums};
-ghost use Rattle.wires.specs.Free.{Free, Injects};
+ghost use Rattle.wires.specs.Free.{Free, InjectsWithin};
 ghost use Rattle.wires.specs.Resting.{Resting};
 ghost use Rattle.balance.specs.Past.{Near, firstPast};
 
@@ -90,7 +90,7 @@ pub fn balance(
     n: usize,
     limit: i64,
 ) -> usize
-    requires { ⌜ Sized (now near) (now far) (now g) (now h) rows × Volts (now v) ⌝ ∗ ⌜ Injects (now inject) ⌝ ∗ ⌜ Free (now free) n ⌝ ∗ ⌜ T (nonNeg limit) ⌝ ∗ ⌜ Resting (now near) (now next) rows ⌝ }
+    requires { ⌜ Sized (now near) (now far) (now g) (now h) rows × Volts (now v) ⌝ ∗ ⌜ InjectsWithin (now inject) ⌝ ∗ ⌜ Free (now free) n ⌝ ∗ ⌜ T (nonNeg limit) ⌝ ∗ ⌜ Resting (now near) (now next) rows ⌝ }
     ensures { λ r. ⌜ r ≡ unbalanced (nat limit) (legsIn (now (near .entry)) (now (far .entry)) (now (g .entry)) (now (h .entry)) (2 * rows)) (λ p. word (now (inject .entry)) p) (now (v .entry)) (take n (now (free .entry))) ⌝ }
 {
     let sums = currents(near, far, g, h, rows, next, v);

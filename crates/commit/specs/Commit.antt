@@ -11,17 +11,17 @@ use Rattle.paper.specs.Areas.{Net}
 use Rattle.paper.specs.Legs.{Heard, legsOf, bothLegs}
 use Rattle.paper.specs.Advance.{Memory, memory, written}
 use Rattle.facts.specs.Nets.{netIn}
-use Rattle.rows.specs.Mapped.{Mapped}
+use Rattle.rows.specs.Mapped.{Mapped, Ringed}
 use Rattle.own.specs.Nexts.{Nexts}
 use Rattle.wires.specs.Wires.{legsIn, Sized}
 use Rattle.wires.specs.Shares.{Volts}
 use Rattle.writing.specs.Rows.{Writable, recordsPut, records-put-is}
-use Rattle.sending.specs.Sent.{Ringed, Sendable, sentOf, from-sent, to-sent}
+use Rattle.sending.specs.Sent.{Sendable, sentOf, from-sent, to-sent}
 
 pub record Ready (net recs froms tos : Words) (areas : List ℕ) (area k : ℕ) (offsets delays near far : List ℕ) (g h : Words) (rows : ℕ) (next : List ℕ) (v : Words) (nodes : ℕ) : Type 0 where
   pub network : isNetwork net ≡ true
   pub mapped : Mapped (netIn net) areas
-  pub ringed : Ringed net offsets delays
+  pub ringed : Ringed (netIn net) offsets delays
   pub sized : Sized near far g h rows
   pub volts : Volts v
   pub all : rows ≡ length (netIn net .rows)

@@ -1,7 +1,6 @@
 // A number's digits, put into a lent buffer from a place on, four at a time; each function answers the next place.
 ghost use mathlib.Core.Path.{_≡_};
 ghost use Prim.Native.Nat.{_+_, _^_, _≤_, _<_};
-ghost use lib.IntN.{natAbs};
 ghost use lib.ListN.{length};
 ghost use Rattle.paper.specs.Listing.{shownNat, shown};
 ghost use Rattle.digits.specs.Puts.{Puts};
@@ -115,21 +114,11 @@ pub fn put_natural(out: &mut [u8], at: usize, n: u64) -> usize
     put_sixteen(out, next, n % 10_000_000_000_000_000)
 }
 
-// |x|, also of the least number
-fn magnitude(x: i64) -> u64
-    ensures { λ r. ⌜ r ≡ natAbs x ⌝ }
-{
-    if 0 <= x {
-        return x as u64;
-    }
-    (-(x + 1)) as u64 + 1
-}
-
 pub fn put_number(out: &mut [u8], at: usize, x: i64) -> usize
     requires { ⌜ at + length (shown x) ≤ length (now out) ⌝ }
     ensures { λ r. ⌜ Puts (now (out .entry)) at (shown x) r (now (out .exit)) ⌝ }
 {
-    let n = magnitude(x);
+    let n = whole::magnitude(x);
     if 0 <= x {
         return put_natural(out, at, n);
     }

@@ -1,22 +1,21 @@
 -- One end of a row at a step, as a leg: 1 the from end, 2 the to end. Assumes nothing.
 use Prim.Native.Nat.{ℕ, _-_, _≤_, _<_}
 use mathlib.Core.Path.{_≡_}
-use mathlib.Core.Bool.{Bool, true, false, cond}
+use mathlib.Core.Bool.{true, cond}
 use mathlib.Core.List.{List}
 use lib.Dec.{eqb}
-use lib.ListN.{length, getD}
+use lib.ListN.{length}
 use lib.IntN.{ℤ, pos, negℤ, natAbs}
-use Rattle.whole.specs.Lists.{Words, z, word, nat}
+use Rattle.whole.specs.Lists.{Words, word, nat}
 use Rattle.paper.specs.Limits as Limits
-use Rattle.paper.specs.Rows.{Row, isBranch, isLine}
+use Rattle.paper.specs.Rows.{isBranch, isLine}
 use Rattle.paper.specs.Conductance.{conductance}
-use Rattle.paper.specs.Faults as Faults
 use Rattle.paper.specs.Network.{isNetwork}
 use Rattle.paper.specs.Areas.{Net, step}
 use Rattle.paper.specs.Records as Records
 use Rattle.paper.specs.Legs.{Leg, leg, idle, conducts, sentTo}
 use Rattle.facts.specs.Nets.{netIn, rowAt}
-use Rattle.rows.specs.Mapped.{Mapped}
+use Rattle.rows.specs.Mapped.{Mapped, Ringed}
 use Rattle.ends.specs.Owners.{ownerOf}
 use Rattle.received.specs.declared.Side.{Side}
 use Rattle.received.specs.declared.Side.the-variants.{From, To}
@@ -56,11 +55,6 @@ endLeg N a k recs froms tos i e =
 -- conductances by row
 pub record Rated (N : Net) (g : Words) : Type 0 where
   pub g-at : (i : ℕ) → i < length (N .rows) → isBranch (rowAt N i) ≡ true → word g i ≡ pos (conductance (step N) (rowAt N i))
-
--- where a line's slots begin, and its delay, by row
-pub record Ringed (N : Net) (offset delay : List ℕ) : Type 0 where
-  pub offset-at : (i : ℕ) → i < length (N .rows) → getD offset i 0 ≡ Records.offset N i
-  pub delay-at : (i : ℕ) → i < length (N .rows) → isLine (rowAt N i) ≡ true → getD delay i 0 ≡ Faults.delay (step N) (rowAt N i)
 
 -- the lent memory has its lengths, and histories and sent values their range
 pub record Kept (records froms tos : Words) : Type 0 where

@@ -12,8 +12,9 @@ ghost use Rattle.paper.specs.Areas.{step};
 ghost use Rattle.paper.specs.Records as Records;
 ghost use Rattle.paper.specs.Legs.{isOpen, conducts, sentTo};
 ghost use Rattle.facts.specs.Nets.{netIn, rowAt};
+ghost use Rattle.rows.specs.Mapped.{Ringed};
 ghost use Rattle.received.specs.Received.{farStore};
-ghost use Rattle.endleg.specs.EndLeg.{wireOf, sideOf, facing, lineLeg, plainLeg, endLeg, Rated, Ringed, Known, Kept, BranchAt, LineAt, EndOf};
+ghost use Rattle.endleg.specs.EndLeg.{wireOf, sideOf, facing, lineLeg, plainLeg, endLeg, Rated, Known, Kept, BranchAt, LineAt, EndOf};
 use received::Side;
 
 // One end of a row: from its node to another, with conductance g and history h.

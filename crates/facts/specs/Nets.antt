@@ -9,17 +9,18 @@ use mathlib.Core.Logic.{_↔_}
 use mathlib.Core.Bool.{Bool, true, false}
 use mathlib.Core.List.{List, [], _∷_}
 use lib.ListN.{length, getD, take, List·getD-eq-default}
-use lib.Dec.{eqb, lit≤}
+use lib.Dec.{lit≤}
 use borrow.Author.Tests.{ne-eqb}
 use lib.IntN.{ℤ, pos}
-use Rattle.whole.specs.Lists.{Words, z, word, nat, count, sum}
+use Rattle.whole.specs.Lists.{Words, z, word, nat, count}
 use Rattle.whole.specs.Folds.{count-next}
 use Rattle.whole.specs.Most.{most-at, most-least}
-use Rattle.whole.specs.Prefix.{sum-below, sum-within, total-alone, count-part}
+use Rattle.whole.specs.Prefix.{sum-below, sum-within, total-alone}
+use Rattle.whole.specs.Written.{count-take}
 use Rattle.paper.specs.Limits as Limits
 use Rattle.paper.specs.Rows.{Row, kinds, fieldsOf, kind, isBranch, isSource, isLine, from, to, travel}
 use Rattle.paper.specs.Faults.{fixes, slots}
-use Rattle.paper.specs.Network.{Table, tableOf, passes, isNetwork}
+use Rattle.paper.specs.Network.{tableOf, passes, isNetwork}
 use Rattle.paper.specs.Areas.{Net, netOf, netOn, step, areaOf, areaCount, rowArea, joins, branchNumber}
 use Rattle.paper.specs.Records.{offset, slotCount}
 use Rattle.paper.specs.Sources.{source, held}
@@ -157,7 +158,7 @@ module _ (N : Net) (s : NetSound N) (i : ℕ) (h : i < length (N .rows)) (b : is
 
 pub branch-number-most : (N : Net) → NetSound N → (i : ℕ) → branchNumber N i ≤ Limits.branchEnd
 unfolding branchNumber
-branch-number-most N s i = omega (arith, count-part [] isBranch (N .rows) i, s .branchMost)
+branch-number-most N s i = omega (arith, count-take isBranch (N .rows) i, s .branchMost)
 
 pub branch-number-next : (N : Net) (i : ℕ) → i < length (N .rows) → isBranch (rowAt N i) ≡ true → branchNumber N (suc i) ≡ suc (branchNumber N i)
 unfolding branchNumber

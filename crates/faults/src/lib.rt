@@ -35,21 +35,12 @@ pub fn nothing_seen() -> Seen
     }
 }
 
-pub fn magnitude(x: i64) -> u64
-    ensures { λ r. ⌜ r ≡ natAbs x ⌝ }
-{
-    if x < 0 {
-        return (-(x + 1)) as u64 + 1;
-    }
-    x as u64
-}
-
 // The magnitude of the word i of a row.
 fn field(row: [i64; 8], i: usize) -> u64
     requires { ⌜ i < 8 ⌝ }
     ensures { λ r. ⌜ r ≡ natAbs (word row i) ⌝ }
 {
-    magnitude(row[i])
+    whole::magnitude(row[i])
 }
 
 pub fn kind_of(row: [i64; 8]) -> usize

@@ -11,7 +11,8 @@ use lib.ListN.{length, getD, set, length-set, length-map}
 use lib.Seq.{getD-set-same, getD-set-other}
 use lib.Ieee.{Float, nan}
 use Rattle.whole.specs.Lists.{Words}
-use Rattle.whole.specs.Folds.{getD-map, filled-at, filled-least}
+use Rattle.whole.specs.Folds.{getD-map}
+use Rattle.whole.specs.Filled.{getD-filled-in, filled-least}
 use Rattle.paper.specs.Limits.{nodeEnd}
 use Rattle.whole.specs.TurnLaws.{turns-keeps}
 use Rattle.paper.specs.declared.Equation.{Equation}
@@ -67,7 +68,7 @@ system-aligned legs free still inject =
           let in-rows : r < length (map own free) = rw (length-map free own) h in
           let in-lines : r < length lines = rw (length-map free (matrixRow legs free)) h in
           let in-cells : r < length cells = rw (length-map free (λ q. double (entry legs node q))) h in
-          ap (λ (e : Equation). e .pivot) (filled-at nodeEnd _ (map own free) r none in-rows ∙ getD-map own free r 0 none h)
-          ∙ sym (filled-at nodeEnd _ cells r nan in-cells ∙ getD-map (λ q. double (entry legs node q)) free r 0 nan h)
-          ∙ sym (ap (λ (l : List Float). getD l r nan) (filled-at nodeEnd _ lines r [] in-lines ∙ getD-map (matrixRow legs free) free r 0 [] h));
+          ap (λ (e : Equation). e .pivot) (getD-filled-in nodeEnd _ (map own free) r none in-rows ∙ getD-map own free r 0 none h)
+          ∙ sym (getD-filled-in nodeEnd _ cells r nan in-cells ∙ getD-map (λ q. double (entry legs node q)) free r 0 nan h)
+          ∙ sym (ap (λ (l : List Float). getD l r nan) (getD-filled-in nodeEnd _ lines r [] in-lines ∙ getD-map (matrixRow legs free) free r 0 [] h));
     }

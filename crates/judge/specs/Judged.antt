@@ -24,7 +24,7 @@ use Rattle.rows.specs.Mapped.{Mapped}
 use Rattle.counts.specs.Counted.{Counted}
 use Rattle.state.specs.Judged.{rowFormed, tailsFormed, countsFormed}
 use Rattle.state.specs.Formed.{well-formed-is, storeIs}
-use Rattle.state.specs.Within.{none-same}
+use Rattle.whole.specs.Within.{none-same}
 
 -- the network's plan, and memory of the right lengths
 pub record Lent (net recs froms tos : Words) (areas delays : List ℕ) (rows nodes count slots : ℕ) : Type 0 where

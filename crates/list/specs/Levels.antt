@@ -3,15 +3,14 @@ use Prim.Native.Nat.{ℕ, _+_, _-_, _≤_, _<_}
 use native.Mathlib.Nat.{le-trans}
 use native.Mathlib.Decide.{ℕ-discrete}
 use native.Mathlib.Omega.{arith}
-use mathlib.Core.Path.{_≡_, refl, sym, ap, _∙_}
-use mathlib.Core.Bool.{Bool, true, false, cond, _&&_}
-use mathlib.Core.List.{List, [], _∷_}
+use mathlib.Core.Path.{_≡_, sym}
+use mathlib.Core.Bool.{Bool, true, cond}
 use borrow.Author.Tests.{eq-eqb, ne-eqb, eqb-true}
 use lib.Dec.{eqb}
 use lib.IntN.{ℤ, pos, negsuc, natAbs}
 use lib.ListN.{length}
 use Rattle.whole.specs.Lists.{Words, word, nat, every, numbers}
-use Rattle.whole.specs.Folds.{every-append, every-at, numbers-more, length-numbers, getD-numbers}
+use Rattle.whole.specs.Folds.{every-at, length-numbers, getD-numbers}
 use Rattle.paper.specs.Rows.{steps}
 use Rattle.paper.specs.Areas.{Net, areaCount}
 use Rattle.paper.specs.Records.{countAt, countOf, wellFormed}
@@ -40,17 +39,6 @@ taken-none recs count n h = rw (eq-eqb count 0 (omega arith))
 
 pub taken-first : (recs : Words) (count n t : ℕ) → 1 ≤ count → t ≡ countOf recs 1 → t ≡ takenBy recs count n
 taken-first recs count n t h e = rw (ne-eqb count 0 (λ x. omega arith)) e
-
--- one area further
-pub took-next : (p : ℕ → Bool) (n : ℕ) → every p (numbers 1 (n + 1)) ≡ (every p (numbers 1 n) && p (n + 1))
-unfolding every
-took-next p n =
-    let e : 1 + n ≡ n + 1 = omega arith in
-    ap (every p) (numbers-more 1 n) ∙ every-append p (numbers 1 n) ((1 + n) ∷ []) ∙ rw e (and-true (every p (numbers 1 n)) (p (n + 1)))
-  where
-    and-true : (a b : Bool) → (a && (b && true)) ≡ (a && b)
-    and-true a true = refl
-    and-true a false = refl
 
 -- the same by what the code has found
 module _ (N : Net) (recs : Words) (count most taken : ℕ) (c : count ≡ areaCount N) (m : most ≡ steps (N .head)) (t : taken ≡ takenBy recs count most) where

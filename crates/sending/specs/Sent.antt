@@ -12,14 +12,14 @@ use Rattle.whole.specs.Turns.{turns}
 use Rattle.whole.specs.TurnLaws.{turns-cong}
 use Rattle.paper.specs.Limits as Limits
 use Rattle.paper.specs.Rows.{isLine}
-use Rattle.paper.specs.Faults.{delay, slots}
+use Rattle.paper.specs.Faults.{slots}
 use Rattle.paper.specs.Network.{isNetwork}
 use Rattle.paper.specs.Areas.{Net, step}
 use Rattle.paper.specs.Records.{offset}
 use Rattle.paper.specs.Legs.{Branch, Heard, legsOf, bothLegs, passedOn}
 use Rattle.paper.specs.Advance.{putIf, putSent, newStore, branchIn}
 use Rattle.facts.specs.Nets.{netIn, rowAt, net-sound, slots-within}
-use Rattle.rows.specs.Mapped.{Mapped}
+use Rattle.rows.specs.Mapped.{Mapped, Ringed}
 use Rattle.wires.specs.Wires.{legAt, legsIn, Sized}
 use Rattle.wires.specs.Shares.{Volts}
 use Rattle.ends.specs.Owners.{ownerOf}
@@ -46,16 +46,11 @@ sent-apart N a k near far g h v (suc (suc (suc n))) l m i w p = absurd (omega ar
 unfoldable pub sentOf : Net → ℕ → ℕ → List ℕ → List ℕ → Words → Words → Words → ℕ → Words → Words
 sentOf N a k near far g h v end w = turns 0 (length (N .rows)) (sentPut N a k near far g h v end) w
 
--- where each line's slots stand, and how far its ends are apart
-pub record Ringed (net : Words) (offsets delays : List ℕ) : Type 0 where
-  pub offset-at : (i : ℕ) → i < length (netIn net .rows) → isLine (rowAt (netIn net) i) ≡ true → getD offsets i 0 ≡ offset (netIn net) i
-  pub delay-at : (i : ℕ) → i < length (netIn net .rows) → isLine (rowAt (netIn net) i) ≡ true → getD delays i 0 ≡ delay (step (netIn net)) (rowAt (netIn net) i)
-
 -- the arrays of a step, the voltages it found, and a store to be written
 pub record Sendable (net : Words) (areas offsets delays near far : List ℕ) (g h : Words) (rows : ℕ) (v store : Words) : Type 0 where
   pub network : isNetwork net ≡ true
   pub mapped : Mapped (netIn net) areas
-  pub ringed : Ringed net offsets delays
+  pub ringed : Ringed (netIn net) offsets delays
   pub sized : Sized near far g h rows
   pub volts : Volts v
   pub all : rows ≡ length (netIn net .rows)

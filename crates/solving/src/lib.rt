@@ -8,7 +8,7 @@ ghost use Rattle.paper.specs.Solve.{settle, proposed};
 ghost use Rattle.alike.specs.Square.{Square};
 ghost use Rattle.wires.specs.Wires.{legsIn, Sized};
 ghost use Rattle.wires.specs.Shares.{Volts};
-ghost use Rattle.wires.specs.Free.{Free, Injects};
+ghost use Rattle.wires.specs.Free.{Free, InjectsWithin};
 ghost use Rattle.wires.specs.Resting.{Resting};
 ghost use Rattle.solving.specs.Settling.{Solved, rounded};
 use paper::Rounded;
@@ -61,7 +61,7 @@ pub fn solving(
     a: &mut [[f64; 32]; 32],
     v: &mut [i64; 33],
 ) -> usize
-    requires { ⌜ Sized (now near) (now far) (now g) (now h) rows × Volts (now v) ⌝ ∗ ⌜ Injects (now inject) ⌝ ∗ ⌜ Free (now free) n ⌝ ∗ ⌜ (length (now joins) ≡ 1024) × Square (now a) ⌝ ∗ ⌜ Resting (now near) (now next) rows ⌝ }
+    requires { ⌜ Sized (now near) (now far) (now g) (now h) rows × Volts (now v) ⌝ ∗ ⌜ InjectsWithin (now inject) ⌝ ∗ ⌜ Free (now free) n ⌝ ∗ ⌜ (length (now joins) ≡ 1024) × Square (now a) ⌝ ∗ ⌜ Resting (now near) (now next) rows ⌝ }
     ensures { λ r. ⌜ Solved (take n (now (free .entry))) (proposed (legsIn (now (near .entry)) (now (far .entry)) (now (g .entry)) (now (h .entry)) (2 * rows)) (take n (now (free .entry))) (now (v .entry)) (λ p. word (now (inject .entry)) p)) (now (v .entry)) (now (v .exit)) r ⌝ }
     ensures { λ _. ⌜ (length (now (joins .exit)) ≡ 1024) × Square (now (a .exit)) ⌝ }
 {

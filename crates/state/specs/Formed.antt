@@ -1,27 +1,32 @@
 -- 10 STATE, part by part: what the judge decides is `wellFormed`. Assumes nothing.
-use Prim.Native.Nat.{ℕ, zero, suc, _+_, _-_, _*_, _≤_, _<_}
+use Prim.Native.Nat.{ℕ, suc, _+_, _-_, _*_, _≤_, _<_}
 use native.Mathlib.Omega.{arith}
 use mathlib.Core.Path.{_≡_, refl, sym, ap, _∙_}
 use mathlib.Core.Bool.{Bool, true, false, _&&_, and-assoc, and-comm}
 use mathlib.Core.List.{List, [], _∷_, _++_, map, append-nil}
 use lib.ListN.{length, getD, take, drop, replicate, length-take, length-drop, length-map, length-append, length-replicate, take-append-drop}
-use lib.Seq.{take-add, drop-drop, getD-take, getD-drop, take-all}
+use lib.Seq.{drop-drop, getD-take, getD-drop, take-all}
 use lib.IntN.{ℤ}
-use lib.Signed.{nonNeg}
 use Rattle.whole.specs.Lists.{Words, z, word, upTo, every, within, filled, numbers}
+use Rattle.whole.specs.Within.{within-join, within-nothing, within-filled}
 use Rattle.paper.specs.Limits as Limits
 use Rattle.paper.specs.Rows.{Row, steps}
 use Rattle.paper.specs.Areas.{Net, areaCount}
 use Rattle.paper.specs.Records.{currentEndOf, toCurrentEndOf, historyEndOf, ends, near, storeFormed, slotCount, wellFormed, currentAt, toCurrentAt, historyAt}
-use Rattle.state.specs.Within.{within-join, within-equal, within-nothing, within-filled, piece-ends, and-swap}
+use Rattle.state.specs.Pieces.{piece-ends}
 use Rattle.state.specs.Judged.{rowFormed, kindOnly, tailsFormed, countsFormed}
+
+and-swap : (a b c : Bool) → (a && (b && c)) ≡ (b && (a && c))
+and-swap true b c = refl
+and-swap false true c = refl
+and-swap false false c = refl
 
 -- ---- a row's end by its place
 
 every-both : {A : Type 0} (p q : A → Bool) (l : List A) → every (λ a. p a && q a) l ≡ (every p l && every q l)
 unfolding every
 every-both p q [] = refl
-every-both p q (a ∷ l) = rw (every-both p q l) (simp (and-assoc, and-comm, and-swap))
+every-both p q (a ∷ l) = rw (every-both p q l) (simp (and-assoc, and-comm))
 
 by-place : (f : Row → ℕ) (rows : List Row) (w : Words) (p : ℕ → Bool) (k : ℕ) → length w ≡ length rows
     → ((j : ℕ) → j < length rows → p (k + j) ≡ upTo (f (getD rows j [])) (word w j)) → within (map f rows) w ≡ every p (numbers k (length rows))

@@ -1,13 +1,10 @@
 -- What each part of the judge of records decides. Assumes nothing.
-use Prim.Native.Nat.{ℕ, zero, suc, _+_, _-_, _*_}
+use Prim.Native.Nat.{ℕ, _+_, _-_, _*_}
 use lib.ListN.{take, drop, replicate}
 use lib.Signed.{nonNeg}
-use mathlib.Core.Path.{_≡_, refl, ap, _∙_}
-use mathlib.Core.Bool.{Bool, true, false, _&&_}
-use mathlib.Core.List.{[], _∷_, _++_}
-use native.Mathlib.Omega.{arith}
-use Rattle.whole.specs.Lists.{Words, word, upTo, every, within, filled, numbers}
-use Rattle.whole.specs.Folds.{every-append, numbers-more}
+use mathlib.Core.Bool.{Bool, _&&_}
+use mathlib.Core.List.{[], _∷_}
+use Rattle.whole.specs.Lists.{Words, word, upTo, every, within, filled}
 use Rattle.paper.specs.Rows.{Row}
 use Rattle.paper.specs.Records.{currentAt, toCurrentAt, historyAt, currentEndOf, toCurrentEndOf, historyEndOf}
 
@@ -29,15 +26,3 @@ tailsFormed recs rows =
 -- "counts are 0 to steps"
 unfoldable pub countsFormed : Words → ℕ → ℕ → Bool
 countsFormed recs areas steps = every nonNeg (take 32 recs) && within (filled 32 0 (replicate areas steps)) (take 32 recs)
-
--- one number more
-and-true : (a b : Bool) → (a && (b && true)) ≡ (a && b)
-and-true a true = refl
-and-true a false = refl
-
-pub every-next : (p : ℕ → Bool) (n : ℕ) → every p (numbers 0 (n + 1)) ≡ (every p (numbers 0 n) && p n)
-unfolding every
-every-next p n =
-    let e : 0 + n ≡ n = omega arith in
-    ap (every p) (numbers-more 0 n) ∙ every-append p (numbers 0 n) ((0 + n) ∷ []) ∙ and-true (every p (numbers 0 n)) (p (0 + n))
-    ∙ ap (λ (m : ℕ). every p (numbers 0 n) && p m) e

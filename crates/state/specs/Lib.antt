@@ -1,4 +1,4 @@
-pub mod Within
+pub mod Pieces
 pub mod Kinds
 pub mod Judged
 pub mod Formed

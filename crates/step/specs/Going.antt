@@ -1,29 +1,28 @@
 -- A well-formed state with its network's plan, and what each part of a step takes from it. Assumes nothing.
-use Prim.Native.Nat.{ℕ, suc, _+_, _≤_, _<_}
+use Prim.Native.Nat.{ℕ, _≤_, _<_}
 use native.Mathlib.Nat.{le-trans}
 use native.Mathlib.Omega.{arith}
 use native.Mathlib.Decide.{decLt}
-use mathlib.Core.Path.{_≡_, refl, sym, ap, _∙_}
+use mathlib.Core.Path.{_≡_, refl}
 use mathlib.Core.Bool.{Bool, true, false, cond, _||_}
 use mathlib.Core.List.{List, map}
 use lib.IntN.{natAbs}
-use lib.ListN.{getD, length, replicate, getD-replicate, length-replicate, length-map, List·getD-eq-default}
+use lib.ListN.{length, replicate, getD-replicate, length-replicate, length-map, List·getD-eq-default}
 use Rattle.whole.specs.Lists.{Words, word}
 use Rattle.paper.specs.Limits as Limits
-use Rattle.paper.specs.Rows.{Row, isLine, isL, isC}
-use Rattle.paper.specs.Areas.{Net, areaOf, areaCount}
+use Rattle.paper.specs.Rows.{Row, isL, isC}
+use Rattle.paper.specs.Areas.{Net, areaCount}
 use Rattle.paper.specs.Records.{slotCount, historyAt, historyEndOf, wellFormed}
-use Rattle.paper.specs.Advance.{Memory, memory}
-use Rattle.facts.specs.Nets.{netIn, rowAt, net-sound, area-count-most}
-use Rattle.rows.specs.Mapped.{Mapped}
+use Rattle.paper.specs.Advance.{memory}
+use Rattle.facts.specs.Nets.{netIn, rowAt, net-sound}
+use Rattle.rows.specs.Mapped.{Mapped, Ringed}
 use Rattle.plan.specs.Planned.{Planned}
 use Rattle.plan.specs.Laws.{area-at, g-branch}
 use Rattle.local.specs.Sound.{Sound, sound}
-use Rattle.stays.specs.Formed.{endAt, slotEnd, Formed, formed, end-history, past-tos}
+use Rattle.stays.specs.Formed.{slotEnd, Formed, formed, end-history, past-tos}
 use Rattle.judge.specs.Judged.{Lent, formed-counted}
 use Rattle.counts.specs.Counted.{Counted}
 use Rattle.endleg.specs.EndLeg.{Known, Kept}
-use Rattle.sending.specs.Sent as Sent
 
 pub record Going (net recs froms tos g : Words) (areas offsets delays : List ℕ) : Type 0 where
   pub planned : Planned net g areas offsets delays
@@ -36,6 +35,10 @@ pub record Going (net recs froms tos g : Words) (areas offsets delays : List ℕ
 pub mapped : {net g : Words} {areas offsets delays : List ℕ} → Planned net g areas offsets delays → Mapped (netIn net) areas
 mapped p = record { area-at = λ n h. area-at p n }
 
+-- where each line's slots stand, and its delay
+pub ringed : {net g : Words} {areas offsets delays : List ℕ} → Planned net g areas offsets delays → Ringed (netIn net) offsets delays
+ringed p = record { offset-at = λ i h l. p .offset-at i h; delay-at = λ i h l. p .delay-at i h }
+
 -- what a leg is laid from
 pub known : {net g : Words} {areas offsets delays : List ℕ} → Planned net g areas offsets delays → Known net areas g offsets delays
 known p =
@@ -43,11 +46,8 @@ known p =
       passes = p .network;
       mapped = mapped p;
       rated = record { g-at = g-branch p };
-      ringed = record { offset-at = p .offset-at; delay-at = λ i h l. p .delay-at i h };
+      ringed = ringed p;
     }
-
-pub ringed : {net g : Words} {areas offsets delays : List ℕ} → Planned net g areas offsets delays → Sent.Ringed net offsets delays
-ringed p = record { offset-at = λ i h l. p .offset-at i h; delay-at = λ i h l. p .delay-at i h }
 
 -- ---- sizes of a well-formed state's words
 

@@ -8,7 +8,7 @@ ghost use Rattle.alike.specs.Square.{Square};
 ghost use Rattle.wires.specs.Wires.{Sized};
 ghost use Rattle.wires.specs.Shares.{Volts};
 ghost use Rattle.wires.specs.Resting.{Resting};
-ghost use Rattle.wires.specs.Free.{Free, Injects};
+ghost use Rattle.wires.specs.Free.{Free, InjectsWithin};
 ghost use Rattle.trial.specs.Trial.{tried, Tried};
 use paper::Advance;
 
@@ -31,7 +31,7 @@ pub fn trial(
 ) -> Advance
     requires { ⌜ (isNetwork (now net) ≡ true) × (rows ≡ length (netIn (now net) .rows)) ⌝ }
     requires { ⌜ Sized (now near) (now far) (now g) (now h) rows × Volts (now v) ⌝ }
-    requires { ⌜ Injects (now inject) × Free (now free) n ⌝ }
+    requires { ⌜ InjectsWithin (now inject) × Free (now free) n ⌝ }
     requires { ⌜ (length (now joins) ≡ 1024) × Square (now a) ⌝ }
     requires { ⌜ Resting (now near) (now next) rows ⌝ }
     ensures { λ r. ⌜ Tried k (tried (netIn (now (net .entry))) (now (near .entry)) (now (far .entry)) (now (g .entry)) (now (h .entry)) (now (inject .entry)) (take n (now (free .entry))) (now (v .entry))) (now (v .exit)) r ⌝ }

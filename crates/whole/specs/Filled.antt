@@ -1,5 +1,5 @@
 -- Laws of `filled`: a list filled up with d has the list's own places, and d past them. Assumes nothing.
-use Prim.Native.Nat.{ℕ, zero, suc, _+_, _-_, _≤_, _<_}
+use Prim.Native.Nat.{ℕ, zero, suc, _-_, _≤_, _<_}
 use mathlib.Core.Path.{_≡_, refl, sym, _∙_}
 use mathlib.Core.List.{List, [], _∷_, _++_}
 use native.Mathlib.Omega.{arith}
@@ -11,6 +11,10 @@ module _ {A : Type 0} where
   pub length-filled : (n : ℕ) (d : A) (l : List A) → length l ≤ n → length (filled n d l) ≡ n
   unfolding filled
   length-filled n d l h = length-append l (replicate (n - length l) d) ∙ rw length-replicate (omega arith)
+
+  pub filled-least : (n : ℕ) (d : A) (l : List A) → length l ≤ length (filled n d l)
+  unfolding filled
+  filled-least n d l = simp (length-append, length-replicate) (omega arith)
 
   pub getD-same : (m k : ℕ) (d : A) → getD (replicate m d) k d ≡ d
   getD-same zero k d = refl

@@ -1,15 +1,15 @@
 -- Laws of the folds of specs/Lists: over append, map and one more place; where a test fails or passes. Assumes nothing.
-use Prim.Native.Nat.{ℕ, zero, suc, _+_, _-_, _<_, _≤_}
+use Prim.Native.Nat.{ℕ, zero, suc, _+_, _<_, _≤_}
 use mathlib.Core.Path.{_≡_, refl, sym, ap, _∙_}
-use mathlib.Core.Bool.{Bool, true, false, cond, not, _&&_, _||_, and-assoc, or-assoc}
+use mathlib.Core.Bool.{Bool, true, false, cond, not, _&&_, _||_, and-assoc, and-true, or-assoc}
 use mathlib.Core.List.{List, [], _∷_, _++_, map}
 use native.Mathlib.Omega.{arith}
 use native.Mathlib.Numerals.{add-one}
-use lib.ListN.{length, getD, take, drop, replicate, drop-of-length-le, length-append, length-replicate, List·getD-append}
+use lib.ListN.{length, getD, take, drop, drop-of-length-le}
 use lib.Seq.{drop-cons, take-suc}
 use lib.Dec.{ltb}
 use borrow.Author.Tests.{ltb-true}
-use Rattle.whole.specs.Lists.{filled, every, any, count, keep, sum, fold, numbers, first}
+use Rattle.whole.specs.Lists.{every, any, count, keep, sum, fold, numbers, first}
 
 -- ---- tests
 pub and-left : (a b : Bool) → (a && b) ≡ true → a ≡ true
@@ -169,20 +169,6 @@ module _ {A : Type 0} where
   pub sum-next : (f : A → ℕ) (l : List A) (i : ℕ) (d : A) → i < length l → sum f (take (i + 1) l) ≡ sum f (take i l) + f (getD l i d)
   sum-next f l i d h = rw (add-one i, take-suc l i d, sum-append) (last-sum f (sum f (take i l)) (getD l i d))
 
--- ---- filled up
-module _ {A : Type 0} where
-  pub filled-at : (n : ℕ) (d : A) (l : List A) (i : ℕ) (e : A) → i < length l → getD (filled n d l) i e ≡ getD l i e
-  unfolding filled
-  filled-at n d l i e h = List·getD-append l (replicate (n - length l) d) e i h
-
-  pub filled-length : (n : ℕ) (d : A) (l : List A) → length l ≤ n → length (filled n d l) ≡ n
-  unfolding filled
-  filled-length n d l h = simp (length-append, length-replicate) (omega arith)
-
-  pub filled-least : (n : ℕ) (d : A) (l : List A) → length l ≤ length (filled n d l)
-  unfolding filled
-  filled-least n d l = simp (length-append, length-replicate) (omega arith)
-
 -- ---- each in turn
 module _ {A B : Type 0} where
   pub fold-append : (f : B → A → B) (b : B) (l m : List A) → fold f b (l ++ m) ≡ fold f (fold f b l) m
@@ -281,6 +267,11 @@ numbers-append i (suc m) n =
 pub numbers-more : (i n : ℕ) → numbers i (n + 1) ≡ numbers i n ++ ((i + n) ∷ [])
 unfolding numbers
 numbers-more i n = numbers-append i n 1
+
+-- a test of all so far, and of one number more
+pub every-numbers : (p : ℕ → Bool) (i n : ℕ) → every p (numbers i (n + 1)) ≡ (every p (numbers i n) && p (i + n))
+unfolding every
+every-numbers p i n = rw (numbers-more i n, every-append, and-true)
 
 -- ---- the first that passes
 pub first-none : (p : ℕ → Bool) (l : List ℕ) → any p l ≡ false → first p l ≡ 0

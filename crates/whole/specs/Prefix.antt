@@ -1,17 +1,18 @@
 -- Counts and sums over the first i of a list: they grow with i, and stay where each one more was tested. Assumes nothing.
 use Prim.Native.Nat.{ℕ, zero, suc, _+_, _≤_, _<_}
-use mathlib.Core.Path.{_≡_, refl, sym, ap, _∙_}
-use mathlib.Core.Bool.{Bool, true, false, cond, not, _&&_}
+use mathlib.Core.Path.{_≡_, refl}
+use mathlib.Core.Bool.{Bool, true, false, cond, _&&_}
 use mathlib.Core.List.{List, [], _∷_}
 use native.Mathlib.Omega.{arith}
 use native.Mathlib.Numerals.{add-one}
 use lib.ListN.{length, getD, take}
 use lib.Seq.{take-length}
 use lib.Dec.{leb, ltb}
-use lib.IntN.{ℤ, _+ℤ_, +ℤ-idl, +ℤ-idr}
+use lib.IntN.{ℤ, +ℤ-idl, +ℤ-idr}
 use borrow.Author.Tests.{leb-false, ltb-false}
 use Rattle.whole.specs.Lists.{z, count, sum, total}
-use Rattle.whole.specs.Folds.{count-next, sum-next}
+use Rattle.whole.specs.Folds.{count-next, sum-next, none-if}
+use Rattle.whole.specs.Written.{total-none}
 
 module _ {A : Type 0} (d : A) where
   pub sum-grows : (f : A → ℕ) (l : List A) (i j : ℕ) → i ≤ j → sum f (take i l) ≤ sum f (take j l)
@@ -29,12 +30,6 @@ module _ {A : Type 0} (d : A) where
   count-grows p [] (suc i) (suc j) h = omega arith
   count-grows p (a ∷ l) (suc i) zero h = absurd (omega arith)
   count-grows p (a ∷ l) (suc i) (suc j) h = omega (arith, count-grows p l i j (omega arith))
-
-  pub count-part : (p : A → Bool) (l : List A) (i : ℕ) → count p (take i l) ≤ count p l
-  unfolding count
-  count-part p l zero = omega arith
-  count-part p [] (suc i) = omega arith
-  count-part p (a ∷ l) (suc i) = omega (arith, count-part p l i)
 
   -- what one place adds stands before every later place
   pub sum-below : (f : A → ℕ) (l : List A) (i j : ℕ) → i < j → i < length l → sum f (take i l) + f (getD l i d) ≤ sum f (take j l)
@@ -66,15 +61,10 @@ module _ {A : Type 0} (d : A) where
   count-parts p q (a ∷ l) h = omega (arith, h 0 (omega arith), count-parts p q l (λ i k. h (suc i) (omega arith)))
 
   -- a total whose terms but one are left out
-  total-none : (p : A → Bool) (f : A → ℤ) (l : List A) → ((i : ℕ) → i < length l → p (getD l i d) ≡ false) → total (λ a. cond (p a) (f a) z) l ≡ z
-  unfolding total
-  total-none p f [] h = refl
-  total-none p f (a ∷ l) h = rw (h 0 (omega arith), total-none p f l (λ i k. h (suc i) (omega arith)))
-
   pub total-alone : (p : A → Bool) (f : A → ℤ) (l : List A) (i : ℕ) → i < length l → p (getD l i d) ≡ true
       → ((j : ℕ) → j < length l → (i ≡ j → ⊥) → p (getD l j d) ≡ false) → total (λ a. cond (p a) (f a) z) l ≡ f (getD l i d)
   unfolding total
   total-alone p f [] i h e n = absurd (omega arith)
-  total-alone p f (a ∷ l) zero h e n = rw (e, total-none p f l (λ j k. n (suc j) (omega arith) (λ q. omega arith))) (+ℤ-idr (f a))
+  total-alone p f (a ∷ l) zero h e n = rw (e, total-none p f l (none-if p l d (λ j k. n (suc j) (omega arith) (λ q. omega arith)))) (+ℤ-idr (f a))
   total-alone p f (a ∷ l) (suc i) h e n =
       rw (n 0 (omega arith) (λ q. omega arith), total-alone p f l i (omega arith) e (λ j k u. n (suc j) (omega arith) (λ q. u (omega arith)))) (+ℤ-idl (f (getD l i d)))

@@ -1,14 +1,14 @@
 -- Lists written place by place, and sums, counts and tests over the parts of a list that pass. Assumes nothing.
-use Prim.Native.Nat.{ℕ, zero, suc, _+_, _-_, _<_, _≤_}
+use Prim.Native.Nat.{ℕ, zero, suc, _+_, _<_, _≤_}
 use mathlib.Core.Path.{_≡_, refl, sym, ap, _∙_}
 use mathlib.Core.Bool.{Bool, true, false, cond, _&&_, _||_, false≢true}
-use mathlib.Core.List.{List, [], _∷_, _++_}
+use mathlib.Core.List.{List, [], _∷_}
 use native.Mathlib.Omega.{arith}
-use borrow.Author.Tests.{eqb-true, eqb-false, eq-eqb, ne-eqb, ltb-true, ltb-false}
-use lib.Dec.{eqb, ltb}
+use borrow.Author.Tests.{eqb-true, eqb-false, ne-eqb}
+use lib.Dec.{eqb}
 use lib.ListN.{length, getD, take, drop, set, length-set, take-append-drop}
 use lib.Seq.{getD-set-same, getD-set-other}
-use lib.IntN.{ℤ, _+ℤ_}
+use lib.IntN.{ℤ}
 use Rattle.whole.specs.Lists.{z, any, count, keep, total, fold, numbers}
 use Rattle.whole.specs.Folds.{or-left, or-right, count-append}
 use Rattle.whole.specs.Totals.{total-zero}

@@ -10,6 +10,16 @@ ghost use Rattle.whole.specs.Ranges.{roomOf};
 ghost use Rattle.whole.specs.Rounding.{nearest};
 ghost use Rattle.whole.specs.Floor.{high, low};
 
+// |x|, also of the least number, which has no negative of its own.
+pub fn magnitude(x: i64) -> u64
+    ensures { λ r. ⌜ r ≡ natAbs x ⌝ }
+{
+    if x < 0 {
+        return (-(x + 1)) as u64 + 1;
+    }
+    x as u64
+}
+
 // What is left of `most` over |x|; below 0 where |x| is more.
 pub fn room(x: i64, most: i64) -> i64
     requires { ⌜ T (nonNeg most) ⌝ }

@@ -20,11 +20,11 @@ pub record Free (free : List ℕ) (n : ℕ) : Type 0 where
   pub node : (i : ℕ) → i < n → getD free i 0 ≤ Limits.nodeEnd
   pub rising : (i k : ℕ) → i < k → k < n → getD free i 0 < getD free k 0
 
--- every source could inject into one node
-pub record Injects (inject : Words) : Type 0 where
+-- no node's injection is beyond what all sources together could inject there
+pub record InjectsWithin (inject : Words) : Type 0 where
   pub end : (k : ℕ) → natAbs (word inject k) ≤ Limits.sourceEnd * Limits.injectionEnd
 
-pub inject-size : {inject : Words} → Injects inject → (k : ℕ) → ∣ word inject k ∣≤ 32000000000000000
+pub inject-size : {inject : Words} → InjectsWithin inject → (k : ℕ) → ∣ word inject k ∣≤ 32000000000000000
 inject-size s k = record { size = s .end k }
 
 -- ---- the first n of a list, one by one

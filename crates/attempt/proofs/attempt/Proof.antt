@@ -1,10 +1,10 @@
 -- `attempt::attempt` meets its contract: each part gives what the next asks, and the whole is the paper's step. Assumes nothing.
-use Prim.Native.Nat.{ℕ, _*_, _≤_}
-use mathlib.Core.Path.{_≡_, refl, sym, ap, _∙_}
+use mathlib.Core.Path.{refl}
 use native.Mathlib.Omega.{arith}
-use Rattle.facts.specs.Nets.{netIn, net-sound}
+use Rattle.facts.specs.Nets.{net-sound}
 use Rattle.floating.specs.Alike.{wired-sized, quiet-resting}
-use Rattle.attempt.specs.Attempted.{still-volts, inject-small, all-legs, all-sized, all-resting, free-nodes, loose, floating-stops, trial-is}
+use Rattle.floating.specs.Listed.{listed-loose}
+use Rattle.attempt.specs.Attempted.{still-volts, inject-small, all-legs, all-sized, all-resting, free-nodes, floating-stops, trial-is}
 use Rattle.attempt.proofs.attempt.Statement.{statement}
 use Rattle.attempt.proofs.attempt.Tie as tie
 
@@ -42,7 +42,7 @@ floating-requires c κs =
       (
         free-nodes _ _ _ _ _ _ _ _ _ _ _ _ S _ _ _ _ L _ (x .drive .ensures .1 .1) _ _ (f .free-nodes .ensures),
         (
-          loose _ _ _ _ _ _ _ _ _ _ _ _ S _ _ _ _ L _ (x .drive .ensures .1 .1) _ _ (f .free-nodes .ensures) (x .drive .ensures .1 .1 .long),
+          listed-loose _ _ _ _ _ _ (f .free-nodes .ensures) (x .drive .ensures .1 .1 .long),
           quiet-resting _ z (all-resting _ _ _ _ _ _ _ _ _ _ _ _ S _ _ _ _ L _ (start l .pre .1 .0)),
         ),
       ),

@@ -16,12 +16,12 @@ use Rattle.paper.specs.Solve.{unbalanced}
 use Rattle.wires.specs.Wires.{legsIn, Sized}
 use Rattle.wires.specs.Shares.{Volts, current-sum, imbalance-is}
 use Rattle.wires.specs.Sums.{Node, Sums}
-use Rattle.wires.specs.Free.{Free, Injects, inject-size, first-cong}
+use Rattle.wires.specs.Free.{Free, InjectsWithin, inject-size, first-cong}
 use Rattle.balance.specs.Past.{Near, past, firstPast}
 use Rattle.balance.proofs.balance.Statement.{statement}
 use Rattle.balance.proofs.balance.Tie as tie
 
-module _ {near far : List ℕ} {g h v w inject : Words} {rows : ℕ} (s : Sized near far g h rows) (u : Volts v) (q : Injects inject) (a : Sums (current v) (legsIn near far g h (2 * rows)) w) where
+module _ {near far : List ℕ} {g h v w inject : Words} {rows : ℕ} (s : Sized near far g h rows) (u : Volts v) (q : InjectsWithin inject) (a : Sums (current v) (legsIn near far g h (2 * rows)) w) where
   close : Near w inject
   close = record {
     one = λ p l. rw (a .at p l) (fits (current-sum s u p (2 * rows) (omega arith)) tt);

@@ -40,7 +40,7 @@ d-is : (s : tie.Start) → getD (s .args .delay .now) (s .args .i) 0 ≡ Faults.
 d-is s = s .pre .0 .1 .delay-at (s .args .i) (s .pre .0 .0 .row) (s .pre .0 .0 .line)
 
 offset-is : (s : tie.Start) → getD (s .args .offset .now) (s .args .i) 0 ≡ Records.offset (net-of s) (s .args .i)
-offset-is s = s .pre .0 .1 .offset-at (s .args .i) (s .pre .0 .0 .row)
+offset-is s = s .pre .0 .1 .offset-at (s .args .i) (s .pre .0 .0 .row) (s .pre .0 .0 .line)
 
 -- the ring's places, all within the stores
 ring : (s : tie.Start) → 2 * getD (s .args .delay .now) (s .args .i) 0 ≡ slots (step (net-of s)) (row-of s)

@@ -1,10 +1,12 @@
 -- `list::all_taken` meets its contract. The invariant: the flag says whether the areas passed so far have taken as many. Assumes nothing.
 use Prim.Native.Nat.{_+_, _-_, _≤_}
 use mathlib.Core.Path.{_≡_, refl, sym, _∙_}
+use native.Mathlib.Nat.{add-comm}
 use native.Mathlib.Omega.{arith}
 use borrow.Author.Needs.{needs}
 use Rattle.whole.specs.Lists.{every, numbers}
-use Rattle.list.specs.Levels.{tookAll, took-next}
+use Rattle.whole.specs.Folds.{every-numbers}
+use Rattle.list.specs.Levels.{tookAll}
 use Rattle.list.proofs.all_taken.Statement.{statement}
 use Rattle.list.proofs.all_taken.Tie as tie
 
@@ -28,7 +30,7 @@ loop-less : tie.Need-loop-less Inv-loop μ-loop
 loop-less c = omega arith
 
 loop-again : tie.Need-loop-again Inv-loop μ-loop
-loop-again c = (omega arith, rw (took-next, c .before .before .loop .inv .1, c .count-of .ensures))
+loop-again c = (omega arith, rw (every-numbers, add-comm 1 (c .before .before .loop .passed), c .before .before .loop .inv .1, c .count-of .ensures))
 
 returns : tie.Need-returns Inv-loop μ-loop
 returns c = let e : c .before .loop .passed ≡ c .before .before .args .count = omega arith in rw (← e) (c .before .loop .inv .1)

@@ -3,7 +3,7 @@ use mathlib.Core.Path.{_≡_, sym, _∙_}
 use lib.IntN.{natAbs}
 use mir.Facts.{toZ-ofZ}
 use borrow.Author.Needs.{needs}
-use Rattle.state.specs.Within.{piece-is}
+use Rattle.state.specs.Pieces.{piece-is}
 use Rattle.state.proofs.piece.Statement.{statement}
 use Rattle.state.proofs.piece.Tie as tie
 

@@ -1,11 +1,10 @@
 -- The magnitude of a signed number by way of -(x + 1) + 1, which no least number breaks. Assumes nothing.
 use mathlib.Core.Path.{_≡_, refl, sym, subst, ap, _∙_}
-use mathlib.Core.Bool.{Bool, true, false}
-use Prim.Native.Nat.{ℕ, zero, suc, _+_, _^_, _≤_, _<_}
-use native.Mathlib.Nat.{lt-trans, le-refl}
+use mathlib.Core.Bool.{true, false}
+use Prim.Native.Nat.{ℕ, zero, suc, _^_, _<_}
 use native.Mathlib.Omega.{arith}
-use lib.Dec.{T, lit<}
-use lib.IntN.{ℤ, pos, negsuc, negℤ, natAbs, _+ℤ_, _-ℤ_, +ℤ-one, +ℤ-idl, negℤ-negℤ}
+use lib.Dec.{T}
+use lib.IntN.{ℤ, pos, negsuc, negℤ, _+ℤ_, _-ℤ_, +ℤ-one, +ℤ-idl, negℤ-negℤ}
 use lib.Signed.{mag, ltZ}
 use borrow.Author.Needs.{sfits-of}
 use borrow.Author.Tests.{ltb-true}

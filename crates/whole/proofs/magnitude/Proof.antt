@@ -1,15 +1,15 @@
-use mathlib.Core.Path.{_≡_, refl, sym, subst, ap, _∙_}
+-- `whole::magnitude` meets its contract. Assumes nothing.
+use mathlib.Core.Path.{_≡_, subst}
 use mathlib.Core.Bool.{true, false}
-use Prim.Native.Nat.{ℕ, _+_}
 use native.Mathlib.Numerals.{add-one}
 use native.Mathlib.Omega.{arith}
 use lib.IntN.{ℤ, pos}
 use lib.Signed.{ltZ}
 use mir.Facts.{toZ-ofZ}
-use Rattle.faults.proofs.Negated.{plus-fits, minus-fits, read, from-zero, below-zero}
+use Rattle.whole.proofs.Negated.{plus-fits, minus-fits, read, from-zero, below-zero}
 use borrow.Author.Needs.{needs}
-use Rattle.faults.proofs.magnitude.Statement.{statement}
-use Rattle.faults.proofs.magnitude.Tie as tie
+use Rattle.whole.proofs.magnitude.Statement.{statement}
+use Rattle.whole.proofs.magnitude.Tie as tie
 
 negative : (c : tie.Then1) → ltZ (c .before .args .x) (pos 0) ≡ true
 negative c = subst (λ (z : ℤ). ltZ z (pos 0) ≡ true) (toZ-ofZ (c .before .fits .x)) (c .if1 .taken)
