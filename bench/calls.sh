@@ -10,7 +10,7 @@ for tool in rt gcc valgrind; do
 done
 work=$(mktemp -d)
 trap 'rm -rf "$work"' EXIT
-rt staticlib emt >"$work/rt" 2>&1 || { tail -n 5 "$work/rt"; exit 1; }
+tools/libemt >"$work/rt" 2>&1 || { tail -n 5 "$work/rt"; exit 1; }
 gcc -O3 -ffp-contract=off -c -o "$work/lent.o" bench/lent.c
 gcc -O3 -Iinclude -o "$work/calls" bench/calls.c "$work/lent.o" target/staticlib/libemt.a -lpthread
 

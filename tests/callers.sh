@@ -15,7 +15,7 @@ stop() {
 for tool in rt cc rustc; do
     command -v $tool >/dev/null 2>&1 || stop "tests/callers.sh needs '$tool'"
 done
-rt staticlib emt >"$work/rt" 2>&1 || { tail -n 5 "$work/rt"; stop "libemt.a is not made"; }
+tools/libemt >"$work/rt" 2>&1 || { tail -n 5 "$work/rt"; stop "libemt.a is not made"; }
 archive=target/staticlib/libemt.a
 
 cc -std=c11 -Wall -Wextra -Werror -Iinclude -o "$work/examples" tests/callers/examples.c "$archive" || stop "tests/callers/examples.c does not compile"

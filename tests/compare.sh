@@ -33,7 +33,7 @@ for tool in rt cargo; do
     command -v $tool >/dev/null 2>&1 || stop "tests/compare.sh needs '$tool'"
 done
 [ -x target/bin/emtrun ] || rt check emtrun >"$work/rt" 2>&1 || { tail -n 5 "$work/rt"; stop "emtrun is not made"; }
-rt staticlib emt >"$work/rt" 2>&1 || { tail -n 5 "$work/rt"; stop "libemt.a is not made"; }
+tools/libemt >"$work/rt" 2>&1 || { tail -n 5 "$work/rt"; stop "libemt.a is not made"; }
 export EMT_LIB_DIR=$PWD/target/staticlib CARGO_TARGET_DIR=$PWD/second/target/calls
 cargo build --release --offline -j1 --features calls --manifest-path second/Cargo.toml >"$work/cargo" 2>&1 || { tail -n 5 "$work/cargo"; stop "second/ does not build"; }
 compare=$CARGO_TARGET_DIR/release/compare
