@@ -1,7 +1,7 @@
 #!/usr/bin/env bash
 # Instructions of one call of emt_advance, counted by callgrind, beside plain C that judges the same lent words one by one and takes the same step (bench/lent.c),
-# averaged over 99 rounds of all areas of each bench study; of the step alone, which is a call that takes it less one that is judged in full and then refused by 11; and the
-# bytes of stack that a call touches. Both programs must leave the same words. A measurement and no test.
+# averaged over 99 rounds of all areas of each bench study; of the step alone, which is a call that takes it less one that is judged in full and then refused by 11; the bytes of
+# stack that a call touches; and, in time, what a call that takes no step costs. Both programs must leave the same words. A measurement and no test.
 set -eu
 cd "$(dirname "$0")/.."
 
@@ -31,3 +31,10 @@ echo "|---|---|---|---|---|---|---|---|"
 for text in bench/studies/*.txt; do
     echo "$(basename "$text" .txt) $(count "$text" "") $(count "$text" judged) $("$work/calls" stack <"$text")"
 done | awk '{ printf "| %s | %.0f | %.0f | %.2f | %.0f | %.0f | %.2f | %d |\n", $1, $2, $3, $2 / $3, $2 - $4, $3 - $5, ($2 - $4) / ($3 - $5), $6 }'
+
+echo
+echo "| study | judged, µs | plain C, µs |"
+echo "|---|---|---|"
+for text in bench/studies/*.txt; do
+    echo "| $(basename "$text" .txt) | $("$work/calls" time <"$text" | sed 's/ / | /') |"
+done
