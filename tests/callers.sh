@@ -1,10 +1,12 @@
 #!/usr/bin/env bash
-# The library as its customers link it: the two callers of examples/, and E1 to E10 through the compiled calls. Closing line: N passed, M failed.
+# The library as its customers link it: the two callers of examples/, and E1 to E10 through the compiled calls. LIBEMT=PATH takes this archive and makes none.
+# Closing line: N passed, M failed.
 set -u
 cd "$(dirname "$0")/.." || exit 1
 
 work=$(mktemp -d)
 trap 'rm -rf "$work"' EXIT
+. tools/machine.sh
 
 stop() {
     echo "$1"
@@ -12,24 +14,43 @@ stop() {
     exit 1
 }
 
-for tool in rt cc rustc; do
+for tool in rt $compiler rustc; do
     command -v $tool >/dev/null 2>&1 || stop "tests/callers.sh needs '$tool'"
 done
-tools/libemt >"$work/rt" 2>&1 || { tail -n 5 "$work/rt"; stop "libemt.a is not made"; }
 archive=target/staticlib/libemt.a
+if [ -n "${LIBEMT:-}" ]; then
+    archive=$work/libemt.a
+    cp "$LIBEMT" "$archive" || stop "no archive $LIBEMT"
+else
+    tools/libemt >"$work/rt" 2>&1 || { tail -n 5 "$work/rt"; stop "libemt.a is not made"; }
+fi
 
-cc -std=c11 -Wall -Wextra -Werror -Iinclude -o "$work/examples" tests/callers/examples.c "$archive" || stop "tests/callers/examples.c does not compile"
-"$work/examples" >"$work/told"
+flags=(-std=c11 -Wall -Wextra -Werror)
+compile "$work/examples" tests/callers/examples.c "$archive" || stop "tests/callers/examples.c does not compile"
+run "$work/examples" >"$work/told"
 grep -v ' passed, ' "$work/told"
 line=$(tail -n 1 "$work/told")
 passed=${line%% *}
 failed=${line#*, }
 failed=${failed%% *}
 
-cc -std=c11 -Wall -Wextra -Werror -Iinclude -o "$work/in_c" examples/caller.c "$archive" || stop "examples/caller.c does not compile"
-rustc -L target/staticlib -l static=emt -o "$work/in_rust" examples/caller.rs || stop "examples/caller.rs does not compile"
-for caller in in_c in_rust; do
-    told=$("$work/$caller")
+compile "$work/in_c" examples/caller.c "$archive" || stop "examples/caller.c does not compile"
+callers=in_c
+across=()
+missing=
+if [ "$(uname -m)" != x86_64 ]; then
+    across=(--target x86_64-unknown-linux-gnu -C linker=x86_64-linux-gnu-gcc)
+    command -v x86_64-linux-gnu-gcc >/dev/null 2>&1 || missing="there is no x86_64-linux-gnu-gcc to link it for x86-64"
+    [ -d "$(rustc --print target-libdir --target x86_64-unknown-linux-gnu)" ] || missing="rustc has no standard library for x86-64"
+fi
+if [ -n "$missing" ]; then
+    echo "examples/caller.rs is left out on $(uname -m): $missing"
+else
+    rustc "${across[@]}" -L "$(dirname "$archive")" -l static=emt -o "$work/in_rust" examples/caller.rs || stop "examples/caller.rs does not compile"
+    callers="in_c in_rust"
+fi
+for caller in $callers; do
+    told=$(run "$work/$caller")
     if [ "$told" = "node 2 after step 1: 50.0 V" ]; then
         passed=$((passed + 1))
     else

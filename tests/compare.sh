@@ -1,7 +1,8 @@
 #!/usr/bin/env bash
 # The proved program and the proved calls, compiled, against the second program (second/README.md): whole listings of 20,000 random texts, of a fixed list and of one-byte
 # edits; the same and 20,000 texts more through the reader; then 2,000 studies with areas advanced in random orders, damaged memory and refused calls among them.
-# A seed a day, printed; `tests/compare.sh SEED` repeats one. Closing line: N passed, M failed.
+# A seed a day, printed; `tests/compare.sh SEED` repeats one. On a processor that is not x86-64 the calls go through tests/callers/bridge.c, and emtrun is emulated, a start for each
+# text: there a quarter of the texts are listed. EMTRUN=PATH and LIBEMT=PATH take this program and this archive and make none. Closing line: N passed, M failed.
 set -u
 cd "$(dirname "$0")/.." || exit 1
 
@@ -10,6 +11,7 @@ passed=0
 failed=0
 work=$(mktemp -d)
 trap 'rm -rf "$work"' EXIT
+. tools/machine.sh
 
 stop() {
     echo "$1"
@@ -21,24 +23,44 @@ stop() {
 add() {
     local line
     "$@" >"$work/told" 2>&1
-    grep -vE '^[0-9]+ passed, [0-9]+ failed$' "$work/told"
-    line=$(grep -E '^[0-9]+ passed, [0-9]+ failed$' "$work/told" | tail -n 1)
+    grep -avE '^[0-9]+ passed, [0-9]+ failed$' "$work/told"
+    line=$(grep -aE '^[0-9]+ passed, [0-9]+ failed$' "$work/told" | tail -n 1)
     [ -n "$line" ] || stop "no closing line: $*"
     passed=$((passed + ${line%% *}))
     line=${line#*, }
     failed=$((failed + ${line%% *}))
 }
 
-for tool in rt cargo; do
+for tool in rt $compiler cargo; do
     command -v $tool >/dev/null 2>&1 || stop "tests/compare.sh needs '$tool'"
 done
-[ -x target/bin/emtrun ] || rt check emtrun >"$work/rt" 2>&1 || { tail -n 5 "$work/rt"; stop "emtrun is not made"; }
-tools/libemt >"$work/rt" 2>&1 || { tail -n 5 "$work/rt"; stop "libemt.a is not made"; }
-export EMT_LIB_DIR=$PWD/target/staticlib CARGO_TARGET_DIR=$PWD/second/target/calls
-cargo build --release --offline -j1 --features calls --manifest-path second/Cargo.toml >"$work/cargo" 2>&1 || { tail -n 5 "$work/cargo"; stop "second/ does not build"; }
+[ -n "${EMTRUN:-}" ] || [ -x target/bin/emtrun ] || rt check emtrun >"$work/rt" 2>&1 || { tail -n 5 "$work/rt"; stop "emtrun is not made"; }
+emtrun=$(starter "${EMTRUN:-target/bin/emtrun}")
+archive=$PWD/target/staticlib/libemt.a
+if [ -n "${LIBEMT:-}" ]; then
+    archive=$work/libemt.a
+    cp "$LIBEMT" "$archive" || stop "no archive $LIBEMT"
+else
+    tools/libemt >"$work/rt" 2>&1 || { tail -n 5 "$work/rt"; stop "libemt.a is not made"; }
+fi
+
+if [ "$(uname -m)" = x86_64 ]; then
+    texts=(--count 20000)
+    build=(--features calls)
+    export EMT_LIB_DIR=${archive%/*} CARGO_TARGET_DIR=$PWD/second/target/calls
+else
+    texts=(--count 5000 --fixed 40 --edits 1)
+    build=()
+    flags=(-O2 -std=c11 -Wall -Wextra -Werror)
+    compile "$work/bridge" tests/callers/bridge.c "$archive" || stop "tests/callers/bridge.c does not compile"
+    EMT_BRIDGE=$(starter "$work/bridge")
+    export EMT_BRIDGE CARGO_TARGET_DIR=$PWD/second/target
+    echo "emtrun is emulated on $(uname -m), a start for each text: about a quarter of the texts of x86-64 are listed"
+fi
+cargo build --release --offline -j1 "${build[@]}" --manifest-path second/Cargo.toml >"$work/cargo" 2>&1 || { tail -n 5 "$work/cargo"; stop "second/ does not build"; }
 compare=$CARGO_TARGET_DIR/release/compare
 
-add "$compare" texts --emtrun target/bin/emtrun --count 20000 --seed "$seed" --jobs 2
+add "$compare" texts --emtrun "$emtrun" "${texts[@]}" --seed "$seed" --jobs 2
 add "$compare" calls --count 2000 --texts 20000 --seed "$seed"
 
 echo "$passed passed, $failed failed"

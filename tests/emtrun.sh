@@ -1,5 +1,6 @@
 #!/usr/bin/env bash
-# emtrun as it is used: texts at the limit of their length, input that never ends or comes in parts, readers that go away, a full disk. Closing line: N passed, M failed.
+# emtrun as it is used: texts at the limit of their length, input that never ends or comes in parts, readers that go away, a full disk. EMTRUN=PATH tests this program and
+# makes none. Closing line: N passed, M failed.
 set -u
 cd "$(dirname "$0")/.." || exit 1
 
@@ -7,8 +8,9 @@ passed=0
 failed=0
 work=$(mktemp -d)
 trap 'rm -rf "$work"' EXIT
-[ -x target/bin/emtrun ] || rt check emtrun >"$work/rt" 2>&1 || { tail -n 5 "$work/rt"; echo "0 passed, 1 failed"; exit 1; }
-emtrun=$PWD/target/bin/emtrun
+. tools/machine.sh
+[ -n "${EMTRUN:-}" ] || [ -x target/bin/emtrun ] || rt check emtrun >"$work/rt" 2>&1 || { tail -n 5 "$work/rt"; echo "0 passed, 1 failed"; exit 1; }
+emtrun=$(starter "${EMTRUN:-target/bin/emtrun}")
 study=studies/energisation.txt
 
 check() { # what it is, what came, what was to come

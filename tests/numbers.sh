@@ -1,11 +1,13 @@
 #!/usr/bin/env bash
 # The compiled numbers layer. The proofs speak of the source: here the object code is run, on some 40,000 random cases and the ends, and compared with
-# the same rules in C; and it is read, for an instruction that multiplies and adds in one rounding. Closing line: N passed, M failed.
+# the same rules in C; and it is read, for an instruction that multiplies and adds in one rounding. LIBNUMBERS=PATH takes this archive and makes none.
+# Closing line: N passed, M failed.
 set -u
 cd "$(dirname "$0")/.." || exit 1
 
 work=$(mktemp -d)
 trap 'rm -rf "$work"' EXIT
+. tools/machine.sh
 
 stop() {
     echo "$1"
@@ -13,14 +15,15 @@ stop() {
     exit 1
 }
 
-for tool in cc objdump; do
+for tool in rt $compiler $disassembler; do
     command -v $tool >/dev/null 2>&1 || stop "tests/numbers.sh needs '$tool'"
 done
-rt staticlib numbers_c >"$work/rt" 2>&1 || { tail -n 5 "$work/rt"; stop "the archive is not made"; }
-archive=target/staticlib/libnumbers_c.a
+archive=${LIBNUMBERS:-target/staticlib/libnumbers_c.a}
+[ -n "${LIBNUMBERS:-}" ] || rt staticlib numbers_c >"$work/rt" 2>&1 || { tail -n 5 "$work/rt"; stop "the archive is not made"; }
 
-cc -O1 -ffp-contract=off -o "$work/compare" tests/numbers/compare.c "$archive" -lm || stop "the comparison does not compile"
-"$work/compare" >"$work/told"
+flags=(-O1 -ffp-contract=off)
+compile "$work/compare" tests/numbers/compare.c "$archive" -lm || stop "the comparison does not compile"
+run "$work/compare" >"$work/told"
 grep -v ' passed, ' "$work/told"
 line=$(tail -n 1 "$work/told")
 passed=${line%% *}
@@ -28,7 +31,7 @@ failed=${line#*, }
 failed=${failed%% *}
 
 # "none fused": a product and a difference, and no instruction that does both
-objdump -d --no-show-raw-insn "$archive" >"$work/code"
+disassemble "$archive" >"$work/code"
 products=$(grep -cE '\bv?mul[sp]d\b' "$work/code")
 fused=$(grep -cE '\bvfn?m(add|sub)' "$work/code")
 if [ "$products" -gt 0 ] && [ "$fused" -eq 0 ]; then

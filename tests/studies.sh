@@ -1,7 +1,7 @@
 #!/usr/bin/env bash
 # The worked studies: each listing ends as studies/NAME.end says (its last step and the closing line), by the second program and by
 # emtrun, and the two listings are the same bytes throughout. The repair that studies/floating.md tells is tried too.
-# Closing line: N passed, M failed.
+# EMTRUN=PATH runs this program as emtrun and makes none. Closing line: N passed, M failed.
 set -u
 cd "$(dirname "$0")/.." || exit 1
 
@@ -9,6 +9,7 @@ passed=0
 failed=0
 work=$(mktemp -d)
 trap 'rm -rf "$work"' EXIT
+. tools/machine.sh
 
 check() { # what it is, and the status of the comparison before
     if [ "$2" -eq 0 ]; then
@@ -26,20 +27,21 @@ if ! cargo build -j1 --release --offline --manifest-path second/Cargo.toml >"$wo
     echo "0 passed, 1 failed"
     exit 1
 fi
-[ -x target/bin/emtrun ] || rt check emtrun >"$work/rt" 2>&1 || tail -n 5 "$work/rt"
+emtrun=${EMTRUN:-target/bin/emtrun}
+[ -n "${EMTRUN:-}" ] || [ -x "$emtrun" ] || rt check emtrun >"$work/rt" 2>&1 || tail -n 5 "$work/rt"
 
-for program in $second target/bin/emtrun; do
+for program in second emtrun; do
     for text in studies/*.txt; do
         name=$(basename "$text" .txt)
-        "$program" <"$text" >"$work/$name.$(basename "$program")" 2>"$work/said"
-        tail -n "$(wc -l <"studies/$name.end")" "$work/$name.$(basename "$program")" | cmp -s - "studies/$name.end"
+        run "${!program}" <"$text" >"$work/$name.$program" 2>"$work/said"
+        tail -n "$(wc -l <"studies/$name.end")" "$work/$name.$program" | cmp -s - "studies/$name.end"
         check "$program: $text does not end as studies/$name.end" $?
-        if [ "$program" != $second ]; then
+        if [ $program = emtrun ]; then
             cmp -s "$work/$name.second" "$work/$name.emtrun"
             check "$text: two listings" $?
         fi
     done
-    last=$({ cat studies/floating.txt; printf 'C\t4\t0\t200\n'; } | "$program" 2>/dev/null | tail -n 1)
+    last=$({ cat studies/floating.txt; printf 'C\t4\t0\t200\n'; } | run "${!program}" 2>/dev/null | tail -n 1)
     [ "$last" = "$(printf 'done\t200')" ]
     check "$program: studies/floating.txt with the stray capacitance ends in '$last'" $?
 done

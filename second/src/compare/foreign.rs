@@ -1,4 +1,7 @@
-//! The calls under comparison: the proved library's, by the C declarations, as far as this build links it.
+//! The calls under comparison: the proved library's, through a bridge where one is named, and else by the C
+//! declarations, as far as this build links it.
+
+use super::bridged;
 
 pub type ReadCall = fn(&[u8], &mut [i64]) -> (u64, u64);
 pub type ResetCall = fn(&[i64], &mut [i64], &mut [i64], &mut [i64]) -> u64;
@@ -14,8 +17,16 @@ pub struct Calls {
     pub list: Option<ListCall>,
 }
 
-/// The proved calls, or none in a build without the library.
+/// The proved calls, or none in a build without the library where no bridge is named.
 pub fn proved_calls() -> Option<Calls> {
+    if bridged::named() {
+        return Some(Calls {
+            read: bridged::read,
+            reset: Some(bridged::reset),
+            advance: Some(bridged::advance),
+            list: Some(bridged::list),
+        });
+    }
     #[cfg(feature = "read")]
     return Some(Calls {
         read: linked::read,

@@ -2,6 +2,7 @@
 //! the proved program (its listing, its calls), and the search for the smallest text that shows a difference.
 
 pub mod arguments;
+pub mod bridged;
 pub mod call_mode;
 pub mod damage;
 pub mod dice;

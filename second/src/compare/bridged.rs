@@ -1,0 +1,202 @@
+//! The proved calls in another process, for a processor that cannot link them. The environment variable
+//! `EMT_BRIDGE` names its command; the words that go to and fro are told by tests/callers/bridge.c.
+
+use super::lent::Lendable;
+use std::io::{Read, Write};
+use std::ops::Range;
+use std::process::{Child, ChildStdin, ChildStdout, Command, Stdio};
+use std::sync::{Mutex, MutexGuard, OnceLock};
+
+const COMMAND: &str = "EMT_BRIDGE";
+/// Answers that no call gives. The first shows a call that leaves its second answer unwritten; the other
+/// stands for the number where a word changed that was not lent for writing.
+const UNWRITTEN: u64 = 0xDEAD_BEEF_DEAD_BEEF;
+const TRESPASS: u64 = 999_999_999;
+
+/// Call, area and second answer, then place and length of five lent pieces.
+const HEAD_WORDS: usize = 3 + 2 * PIECES;
+const PIECES: usize = 5;
+const NETWORK: usize = 0;
+const BYTES: usize = 4;
+
+/// Whether a bridge is named.
+pub fn named() -> bool {
+    std::env::var_os(COMMAND).is_some()
+}
+
+pub fn read(text: &[u8], network: &mut [i64]) -> (u64, u64) {
+    let mut bridge = bridge();
+    bridge.begin(0, 0);
+    bridge.lend_words(NETWORK, network);
+    bridge.lend_bytes(text);
+    bridge.call();
+    bridge.take_words(NETWORK, network);
+    bridge.answer()
+}
+
+pub fn reset(network: &[i64], records: &mut [i64], froms: &mut [i64], tos: &mut [i64]) -> u64 {
+    on_state(1, 0, network, [records, froms, tos], None).0
+}
+
+pub fn advance(
+    network: &[i64],
+    records: &mut [i64],
+    froms: &mut [i64],
+    tos: &mut [i64],
+    area: u64,
+) -> (u64, u64) {
+    on_state(2, area, network, [records, froms, tos], None)
+}
+
+pub fn list(
+    network: &[i64],
+    records: &mut [i64],
+    froms: &mut [i64],
+    tos: &mut [i64],
+    out: &mut [u8],
+) -> (u64, u64) {
+    on_state(3, 0, network, [records, froms, tos], Some(out))
+}
+
+fn on_state(
+    call: u64,
+    area: u64,
+    network: &[i64],
+    state: [&mut [i64]; 3],
+    out: Option<&mut [u8]>,
+) -> (u64, u64) {
+    let mut bridge = bridge();
+    bridge.begin(call, area);
+    bridge.lend_words(NETWORK, network);
+    for (piece, words) in state.iter().enumerate() {
+        bridge.lend_words(1 + piece, words);
+    }
+    if let Some(out) = &out {
+        bridge.lend_bytes(out);
+    }
+    bridge.call();
+    for (piece, words) in state.into_iter().enumerate() {
+        bridge.take_words(1 + piece, words);
+    }
+    if let Some(out) = out {
+        bridge.take_bytes(out);
+    }
+    bridge.answer()
+}
+
+struct Bridge {
+    process: Child,
+    requests: ChildStdin,
+    answers: ChildStdout,
+    /// The block as it was sent; what is taken from the other is written here too, so that all else must be
+    /// the same in both.
+    sent: Vec<u8>,
+    back: Vec<u8>,
+}
+
+/// The one bridge, started when it is first asked.
+fn bridge() -> MutexGuard<'static, Bridge> {
+    static BRIDGE: OnceLock<Mutex<Bridge>> = OnceLock::new();
+    BRIDGE.get_or_init(|| Mutex::new(Bridge::start())).lock().expect("no comparing thread has failed")
+}
+
+impl Bridge {
+    fn start() -> Bridge {
+        let command = std::env::var_os(COMMAND).expect("EMT_BRIDGE names the bridge");
+        let mut process = Command::new(command)
+            .stdin(Stdio::piped())
+            .stdout(Stdio::piped())
+            .spawn()
+            .unwrap_or_else(|error| panic!("the bridge does not start: {error}"));
+        let requests = process.stdin.take().expect("the bridge's input is piped");
+        let answers = process.stdout.take().expect("the bridge's output is piped");
+        Bridge { process, requests, answers, sent: Vec::new(), back: Vec::new() }
+    }
+
+    fn begin(&mut self, call: u64, area: u64) {
+        self.sent.clear();
+        self.sent.resize(8 * HEAD_WORDS, 0);
+        self.set(0, call);
+        self.set(1, area);
+        self.set(2, UNWRITTEN);
+        self.guard(i64::GUARDS * 8);
+    }
+
+    fn set(&mut self, word: usize, value: u64) {
+        self.sent[8 * word..][..8].copy_from_slice(&value.to_le_bytes());
+    }
+
+    fn guard(&mut self, bytes: usize) {
+        self.sent.resize(self.sent.len() + bytes, u8::GUARD);
+    }
+
+    fn lend_words(&mut self, piece: usize, words: &[i64]) {
+        let start = self.place(piece, words.len());
+        self.sent.resize(start + 8 * words.len(), 0);
+        for (place, word) in self.sent[start..].chunks_exact_mut(8).zip(words) {
+            place.copy_from_slice(&word.to_le_bytes());
+        }
+        self.guard(i64::GUARDS * 8);
+    }
+
+    /// The text or the buffer; the last that is lent.
+    fn lend_bytes(&mut self, bytes: &[u8]) {
+        self.guard(u8::GUARDS);
+        self.place(BYTES, bytes.len());
+        self.sent.extend_from_slice(bytes);
+        self.guard(u8::GUARDS + bytes.len().wrapping_neg() % 8);
+    }
+
+    /// Notes a piece of this length at the end of the block; answers with that end.
+    fn place(&mut self, piece: usize, length: usize) -> usize {
+        let start = self.sent.len();
+        self.set(3 + 2 * piece, (start / 8) as u64);
+        self.set(4 + 2 * piece, length as u64);
+        start
+    }
+
+    fn call(&mut self) {
+        let words = (self.sent.len() / 8) as u64;
+        self.back.resize(self.sent.len(), 0);
+        let called = self
+            .requests
+            .write_all(&words.to_le_bytes())
+            .and_then(|()| self.requests.write_all(&self.sent))
+            .and_then(|()| self.answers.read_exact(&mut self.back));
+        if called.is_err() {
+            panic!("the bridge has ended: {:?}", self.process.wait());
+        }
+    }
+
+    /// Where a piece whose elements have so many bytes lies in the block.
+    fn range(&self, piece: usize, size: usize) -> Range<usize> {
+        let start = 8 * word_of(&self.sent, 3 + 2 * piece) as usize;
+        start..start + size * word_of(&self.sent, 4 + 2 * piece) as usize
+    }
+
+    fn take_words(&mut self, piece: usize, words: &mut [i64]) {
+        let range = self.range(piece, 8);
+        for (word, place) in words.iter_mut().zip(self.back[range.clone()].chunks_exact(8)) {
+            *word = i64::from_le_bytes(place.try_into().expect("eight bytes"));
+        }
+        self.sent[range.clone()].copy_from_slice(&self.back[range]);
+    }
+
+    fn take_bytes(&mut self, bytes: &mut [u8]) {
+        let range = self.range(BYTES, 1);
+        bytes.copy_from_slice(&self.back[range.clone()]);
+        self.sent[range].copy_from_slice(bytes);
+    }
+
+    /// Number and second answer, once all that was lent for writing is taken.
+    fn answer(&mut self) -> (u64, u64) {
+        let (number, second) = (word_of(&self.back, 0), word_of(&self.back, 2));
+        self.set(0, number);
+        self.set(2, second);
+        (if self.sent == self.back { number } else { TRESPASS }, second)
+    }
+}
+
+fn word_of(block: &[u8], word: usize) -> u64 {
+    u64::from_le_bytes(block[8 * word..][..8].try_into().expect("eight bytes"))
+}

@@ -1,0 +1,55 @@
+// The compiled calls for a program that cannot link them. It writes a block of 64-bit words to standard input, their number before it, and the block
+// comes back from standard output as the call has left it. Word 0 is the call, numbered from 0 in the order of emt.h, and afterwards its answer; word 1
+// the area; word 2 the second answer; from word 3 on stand place and length of the network, the records, the two line stores, and the text or buffer,
+// whose length is in bytes. What is lent lies behind these, with words between that no call may change.
+#include <emt.h>
+#include <stdlib.h>
+#include <unistd.h>
+
+static int64_t *block;
+
+static int64_t *at(int which) { return block + block[3 + 2 * which]; }
+static size_t length(int which) { return (size_t)block[4 + 2 * which]; }
+
+static int get(void *to, size_t bytes) {
+    for (size_t done = 0; done < bytes;) {
+        ssize_t more = read(0, (char *)to + done, bytes - done);
+        if (more <= 0) return 0;
+        done += (size_t)more;
+    }
+    return 1;
+}
+
+static int put(const void *from, size_t bytes) {
+    for (size_t done = 0; done < bytes;) {
+        ssize_t more = write(1, (const char *)from + done, bytes - done);
+        if (more <= 0) return 0;
+        done += (size_t)more;
+    }
+    return 1;
+}
+
+static uint64_t call(void) {
+    int64_t *network = at(0), *records = at(1), *froms = at(2), *tos = at(3);
+    size_t words = length(0), r = length(1), f = length(2), t = length(3);
+    uint8_t *bytes = (uint8_t *)at(4);
+    uint64_t *second = (uint64_t *)block + 2;
+    switch (block[0]) {
+    case 0: return emt_read(bytes, length(4), network, words, second);
+    case 1: return emt_reset(network, words, records, r, froms, f, tos, t);
+    case 2: return emt_advance(network, words, records, r, froms, f, tos, t, (uint64_t)block[1], second);
+    case 3: return emt_list(network, words, records, r, froms, f, tos, t, bytes, length(4), second);
+    default: exit(1);
+    }
+}
+
+int main(void) {
+    uint64_t words;
+    while (get(&words, sizeof words)) {
+        block = realloc(block, 8 * words);
+        if (!block || !get(block, 8 * words)) return 1;
+        block[0] = (int64_t)call();
+        if (!put(block, 8 * words)) return 1;
+    }
+    return 0;
+}
