@@ -1,40 +1,46 @@
 #!/usr/bin/env bash
-# Instructions of one call of emt_advance, counted by callgrind, beside plain C that judges the same lent words one by one and takes the same step (bench/lent.c),
-# averaged over 99 rounds of all areas of each bench study; of the step alone, which is a call that takes it less one that is judged in full and then refused by 11; the bytes of
-# stack that a call touches; and, in time, what a call that takes no step costs. Both programs must leave the same words. A measurement and no test.
+# Instructions of one call of emt_advance, beside plain C that judges the same lent words one by one and takes the same step (bench/lent.c), averaged over steps 101 to 200 of all areas of
+# each bench study; of the step alone, which is a call that takes it less one that is judged in full and then refused by 11; and the bytes of stack that a call touches. On x86-64 also, in
+# time, what a call that takes no step costs. Both programs must leave the same words. A measurement and no test.
+#   bench/calls.sh [NAME..]    only these studies
+#   LIBEMT=PATH                this archive in place of target/staticlib/libemt.a, which is proved and built first
 set -eu
 cd "$(dirname "$0")/.."
-
-for tool in rt gcc valgrind; do
-    command -v $tool >/dev/null 2>&1 || { echo "bench/calls.sh needs '$tool'" >&2; exit 1; }
-done
 work=$(mktemp -d)
 trap 'rm -rf "$work"' EXIT
-tools/libemt >"$work/rt" 2>&1 || { tail -n 5 "$work/rt"; exit 1; }
-gcc -O3 -ffp-contract=off -c -o "$work/lent.o" bench/lent.c
-gcc -O3 -Iinclude -o "$work/calls" bench/calls.c "$work/lent.o" target/staticlib/libemt.a -lpthread
+. bench/count.sh
 
-# callgrind counts each byte that `rep stosb` clears as an instruction of its own; so libc is told to clear by ordinary stores, in both programs
-export GLIBC_TUNABLES=${GLIBC_TUNABLES-glibc.cpu.x86_rep_stosb_threshold=1000000}
+if [ -z "${LIBEMT:-}" ]; then
+    tools/libemt >"$work/rt" 2>&1 || { tail -n 5 "$work/rt"; exit 1; }
+fi
+compile "$work/calls" bench/calls.c bench/lent.c "${LIBEMT:-target/staticlib/libemt.a}"
+[ $# -gt 0 ] || set -- $(cd bench/studies && ls | sed 's/\.txt$//')
 
-count() { # instructions of one call, ours and plain C's: a study and what is counted
-    valgrind --tool=callgrind --compress-strings=no --toggle-collect=counted --callgrind-out-file="$work/count" "$work/calls" $2 <"$1" 2>"$work/said" || { echo "$1: two answers or two states" >&2; exit 1; }
-    callgrind_annotate --inclusive=yes --threshold=100 "$work/count" | tr -d , >"$work/table"
-    awk -v n="$(awk -F'[= ]' '/^cfn=plain_advance$/ { getline; n += $2 } END { print n }' "$work/count")" '
-        index($0, ":emt_advance ") { ours = $1 }
-        index($0, ":plain_advance ") { plain = $1 }
-        END { print ours / n, plain / n }' "$work/table"
+a_call() { # instructions of one call, the difference between 100 rounds and none: whose, how many calls a round has, and `judged`
+    local none all
+    none=$(count "$work/calls" "$1" 0 $3 <"$text")
+    all=$(count "$work/calls" "$1" 100 $3 <"$text")
+    echo $(((all - none) / 100 / $2))
 }
 
 echo "| study | emt_advance | plain C | ratio | the step alone | plain C | ratio | stack, bytes |"
 echo "|---|---|---|---|---|---|---|---|"
-for text in bench/studies/*.txt; do
-    echo "$(basename "$text" .txt) $(count "$text" "") $(count "$text" judged) $("$work/calls" stack <"$text")"
-done | awk '{ printf "| %s | %.0f | %.0f | %.2f | %.0f | %.0f | %.2f | %d |\n", $1, $2, $3, $2 / $3, $2 - $4, $3 - $5, ($2 - $4) / ($3 - $5), $6 }'
+for name in "$@"; do
+    text=bench/studies/$name.txt
+    run "$work/calls" <"$text" || { echo "$name: two answers or two states" >&2; exit 1; }
+    areas=$(run "$work/calls" areas <"$text")
+    stack=$(run "$work/calls" stack <"$text")
+    ours=$(a_call ours "$areas" "")
+    plain=$(a_call plain "$areas" "")
+    ours_judged=$(a_call ours 1 judged)
+    plain_judged=$(a_call plain 1 judged)
+    echo "$name $ours $plain $((ours - ours_judged)) $((plain - plain_judged)) $stack" | awk '{ printf "| %s | %d | %d | %.2f | %d | %d | %.2f | %d |\n", $1, $2, $3, $2 / $3, $4, $5, $4 / $5, $6 }'
+done
 
+[ "$(uname -m)" = x86_64 ] || exit 0
 echo
 echo "| study | judged, µs | plain C, µs |"
 echo "|---|---|---|"
-for text in bench/studies/*.txt; do
-    echo "| $(basename "$text" .txt) | $("$work/calls" time <"$text" | sed 's/ / | /') |"
+for name in "$@"; do
+    echo "| $name | $("$work/calls" time <"bench/studies/$name.txt" | sed 's/ / | /') |"
 done

@@ -1,42 +1,68 @@
 #!/usr/bin/env bash
-# Instructions, counted by callgrind in one run: emtrun beside a plain C program of the same rules (bench/plain.c) and beside ngspice on an equivalent netlist
-# (bench/netlist.awk), the listing to /dev/null. emtrun and plain C must list the same bytes.
-# A measurement and no test. Needs rt, gcc and valgrind; without ngspice its column stays empty. bench/emtrun.sh NAME.. takes only these studies.
+# Instructions of a full step of emtrun, beside plain C of the same rules (bench/ref.c) that makes each step anew, `ref`, and that keeps factors and the search for floating nodes until a
+# switch changes, `ref -k`: the difference between a run of 100 steps and one of 200, so that all that comes before and after cancels. The listing goes to /dev/null.
+# The three must list the same bytes, up to `done`. A measurement and no test.
+#   bench/emtrun.sh [-n] [NAME..]    only these studies; with -n also ngspice on an equivalent netlist (bench/netlist.awk), which is slow; it has no switches
+#   FROM=N TO=N                      runs of other lengths
+#   EMTRUN=PATH                      this program in place of target/bin/emtrun, which is proved and built first
 set -eu
 cd "$(dirname "$0")/.."
-
-for tool in rt gcc valgrind awk; do
-    command -v $tool >/dev/null 2>&1 || { echo "bench/emtrun.sh needs '$tool'" >&2; exit 1; }
-done
 work=$(mktemp -d)
 trap 'rm -rf "$work"' EXIT
-rt check emtrun >"$work/rt" 2>&1 || { tail -n 5 "$work/rt"; exit 1; }
-gcc -O3 -ffp-contract=off -o "$work/plain" bench/plain.c
+. bench/count.sh
 
-count() { # instructions of a command, its standard input from the first word; what it writes goes nowhere
-    local text=$1
+spice=
+if [ "${1:-}" = -n ]; then
     shift
-    valgrind --tool=callgrind --callgrind-out-file="$work/count" "$@" <"$text" >/dev/null 2>"$work/said" || true # ngspice -b ends in 1
-    awk '/Collected/ { print $NF }' "$work/said"
-}
-
+    need ngspice
+    [ "$(uname -m)" = x86_64 ] || { echo "ngspice is counted on x86-64 alone" >&2; exit 1; }
+    spice=1
+fi
+from=${FROM:-100}
+to=${TO:-200}
+emtrun=${EMTRUN:-target/bin/emtrun}
+if [ -z "${EMTRUN:-}" ]; then
+    rt check emtrun >"$work/rt" 2>&1 || { tail -n 5 "$work/rt"; exit 1; }
+fi
+compile "$work/ref" bench/ref.c
 [ $# -gt 0 ] || set -- $(cd bench/studies && ls | sed 's/\.txt$//')
 
-echo "| study | steps | emtrun | plain C | ratio | ngspice | emtrun / ngspice |"
-echo "|---|---|---|---|---|---|---|"
+of_length() { awk -v steps="$1" 'BEGIN { FS = OFS = "\t" } NR == 1 { $3 = steps } { print }' "$text"; }
+
+a_step() { # instructions of a full step: a program and its words
+    local few many
+    few=$(count "$@" <"$work/few")
+    many=$(count "$@" <"$work/many")
+    echo $(((many - few) / (to - from)))
+}
+
+spice_step() { # the same of ngspice, which ends in 1; nothing for a study with switches
+    local few many
+    awk -f bench/netlist.awk "$work/few" >"$work/few.cir" 2>/dev/null || return 0
+    awk -f bench/netlist.awk "$work/many" >"$work/many.cir"
+    few=$(count ngspice -b "$work/few.cir" </dev/null || true)
+    many=$(count ngspice -b "$work/many.cir" </dev/null || true)
+    echo $(((many - few) / (to - from)))
+}
+
+echo "| study | emtrun | ref | ref -k | emtrun / ref | emtrun / ref -k |${spice:+ ngspice | emtrun / ngspice |}"
+echo "|---|---|---|---|---|---|${spice:+---|---|}"
 for name in "$@"; do
     text=bench/studies/$name.txt
-    steps=$(head -n 1 "$text" | cut -f 3)
-    target/bin/emtrun <"$text" | cmp -s - <("$work/plain" <"$text") || { echo "$name: two listings" >&2; exit 1; }
-    ours=$(count "$text" target/bin/emtrun)
-    plain=$(count "$text" "$work/plain")
-    spice=
-    if command -v ngspice >/dev/null 2>&1; then
-        # what ngspice does before its first step is left out: a run of one step is taken off
-        awk -f bench/netlist.awk "$text" >"$work/all.cir"
-        sed "1s/\t$steps\t/\t1\t/" "$text" | awk -f bench/netlist.awk >"$work/one.cir"
-        spice=$(($(count /dev/null ngspice -b "$work/all.cir") - $(count /dev/null ngspice -b "$work/one.cir")))
-    fi
-    awk -v name="$name" -v steps="$steps" -v ours="$ours" -v plain="$plain" -v spice="$spice" 'BEGIN {
-        printf "| %s | %d | %d | %d | %.2f | %s | %s |\n", name, steps, ours, plain, ours / plain, spice, spice == "" ? "" : sprintf("%.3f", ours / spice) }'
+    run "$emtrun" <"$text" >"$work/listing"
+    tail -n 1 "$work/listing" | grep -q '^done' || { echo "$name: not done" >&2; exit 1; }
+    for kept in "" -k; do
+        run "$work/ref" $kept <"$text" | cmp -s - "$work/listing" || { echo "$name: two listings" >&2; exit 1; }
+    done
+    of_length "$from" >"$work/few"
+    of_length "$to" >"$work/many"
+    ours=$(a_step "$emtrun")
+    anew=$(a_step "$work/ref")
+    kept=$(a_step "$work/ref" -k)
+    also=
+    [ -z "$spice" ] || also=$(spice_step)
+    awk -v name="$name" -v ours="$ours" -v anew="$anew" -v kept="$kept" -v spice="$spice" -v also="$also" 'BEGIN {
+        printf "| %s | %d | %d | %d | %.2f | %.2f |", name, ours, anew, kept, ours / anew, ours / kept
+        if (spice) printf also == "" ? " | |" : sprintf(" %d | %.3f |", also, ours / also)
+        printf "\n" }'
 done

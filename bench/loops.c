@@ -2,31 +2,28 @@
 #include <stddef.h>
 #include <stdint.h>
 
-struct equation {
-    double pivot, right;
-};
-
-_Bool c_solve(double (*from)[32], const double *pivots, const double *rights, size_t n, double *x) {
+_Bool c_solve(double (*from)[32], const double *rights, size_t n, double *x) {
     double a[32][32];
-    struct equation rows[32];
     for (size_t r = 0; r < 32; r++) {
         for (size_t c = 0; c < 32; c++) a[r][c] = from[r][c];
-        rows[r].pivot = pivots[r];
-        rows[r].right = rights[r];
-        x[r] = 0.0;
+        x[r] = rights[r];
     }
     for (size_t p = 0; p < n; p++) {
         for (size_t q = p + 1; q < n; q++) {
-            double f = a[q][p] / rows[p].pivot;
+            double f = a[q][p] / a[p][p];
             for (size_t c = p + 1; c < n; c++) a[q][c] = a[q][c] - f * a[p][c];
-            rows[q].pivot = a[q][q];
-            rows[q].right = rows[q].right - f * rows[p].right;
+            a[q][p] = f;
         }
     }
+    for (size_t q = 0; q < n; q++) {
+        double t = x[q];
+        for (size_t c = 0; c < q; c++) t = t - a[q][c] * x[c];
+        x[q] = t;
+    }
     for (size_t p = n; p-- > 0;) {
-        double t = rows[p].right;
+        double t = x[p];
         for (size_t c = p + 1; c < n; c++) t = t - a[p][c] * x[c];
-        x[p] = t / rows[p].pivot;
+        x[p] = t / a[p][p];
     }
     return 1;
 }

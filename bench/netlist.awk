@@ -1,5 +1,5 @@
 # A study text as an ngspice netlist: the same elements from rest, the same step as the largest step, all that a listing has printed at each step.
-# Sources are ramps from the start of step 1; switches are not translated (no bench study has one).
+# Sources are ramps from the start of step 1; switches are not translated: a study with one is refused.
 BEGIN { FS = "\t" }
 $1 == "study" { step = $2; steps = $3; print "study"; next }
 $1 == "VS" || $1 == "IS" {

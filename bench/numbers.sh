@@ -1,23 +1,29 @@
 #!/usr/bin/env bash
-# Instructions per call of the compiled numbers layer, beside the same loops in C at -O3 -ffp-contract=off, counted by callgrind in one run.
-# A measurement and no test: no gate depends on it. Needs valgrind, and clang or gcc or both.
+# Instructions per call of the compiled numbers layer, beside the same loops in C (bench/loops.c): the difference between a run that has a hundred calls of one function and
+# one that has none. C by clang, and on x86-64 by gcc too. A measurement and no test: no gate depends on it.
+#   LIBNUMBERS=PATH    this archive in place of target/staticlib/libnumbers_c.a, which is proved and built first
 set -eu
 cd "$(dirname "$0")/.."
-
 work=$(mktemp -d)
 trap 'rm -rf "$work"' EXIT
-rt staticlib numbers_c >"$work/rt" 2>&1 || { tail -n 5 "$work/rt"; exit 1; }
+. bench/count.sh
+
+archive=${LIBNUMBERS:-target/staticlib/libnumbers_c.a}
+if [ -z "${LIBNUMBERS:-}" ]; then
+    rt staticlib numbers_c >"$work/rt" 2>&1 || { tail -n 5 "$work/rt"; exit 1; }
+fi
+compilers=clang
+[ "$(uname -m)" != x86_64 ] || compilers="clang gcc"
 
 printf '%-22s %-6s %12s %12s %6s\n' "per call" "C by" "Rattle" "C" "ratio"
-for cc in clang gcc; do
-    command -v $cc >/dev/null 2>&1 || continue
-    $cc -O3 -ffp-contract=off -c -o "$work/loops.o" bench/loops.c
-    $cc -O3 -o "$work/bench" bench/numbers.c "$work/loops.o" target/staticlib/libnumbers_c.a
-    valgrind --tool=callgrind --callgrind-out-file="$work/count" "$work/bench" >"$work/said" 2>&1
-    callgrind_annotate --inclusive=yes --threshold=100 "$work/count" | tr -d , >"$work/table"
+for compiler in $compilers; do
+    command -v $compiler >/dev/null 2>&1 || continue
+    compile "$work/numbers" bench/numbers.c bench/loops.c "$archive"
+    run "$work/numbers" || { echo "two results" >&2; exit 1; }
+    none=$(count "$work/numbers" none)
     for name in solve all_within; do
-        ours=$(awk -v f="numbers_$name" 'index($0, ":" f " ") { print $1; exit }' "$work/table")
-        theirs=$(awk -v f="c_$name" 'index($0, ":" f " ") { print $1; exit }' "$work/table")
-        awk -v name="$name" -v cc=$cc -v a="$ours" -v b="$theirs" 'BEGIN { printf "%-22s %-6s %12.0f %12.0f %6.2f\n", name, cc, a / 100, b / 100, a / b }'
+        ours=$(count "$work/numbers" numbers_$name)
+        theirs=$(count "$work/numbers" c_$name)
+        awk -v name=$name -v cc=$compiler -v a=$((ours - none)) -v b=$((theirs - none)) 'BEGIN { printf "%-22s %-6s %12.0f %12.0f %6.2f\n", name, cc, a / 100, b / 100, a / b }'
     done
 done

@@ -1,5 +1,6 @@
-// emt_read and the plain C reader on the same texts: the answers and all words compared, each text and many damaged copies of it; then each text read a hundred
-// times for the count. The word after the program's name is the text's: full, long or wide.
+// emt_read and the plain C reader on the same texts: full, long or wide.
+//   reading TEXT agree COPIES        the answers and all words compared, of the text and of so many damaged copies
+//   reading TEXT ours|plain TIMES    one of the two reads the text so often, for the count; prints its bytes
 #include <stdio.h>
 #include <stdlib.h>
 #include <string.h>
@@ -69,15 +70,16 @@ static uint64_t chance(uint64_t below) {
 }
 
 int main(int count, char **words) {
-    const char *name = count > 1 ? words[1] : "full";
+    if (count < 4) return 2;
+    const char *name = words[1];
+    int times = atoi(words[3]);
     strcmp(name, "full") ? strcmp(name, "wide") ? longest() : wide() : full();
-    if (count > 2) {
+    if (!strcmp(words[2], "agree")) {
         static const char bytes[] = "0123456789\t\n-RLCSVIWENstudy 9990001";
         static uint8_t copy[sizeof text];
-        int tries = atoi(words[2]);
         compare(text, length, EMT_NETWORK_WORDS);
         compare(text, length, 1023);
-        for (int i = 0; i < tries; i++) {
+        for (int i = 0; i < times; i++) {
             size_t n = length;
             memcpy(copy, text, length);
             for (uint64_t k = 1 + chance(3); k; k--) {
@@ -91,12 +93,12 @@ int main(int count, char **words) {
             }
             compare(copy, n, EMT_NETWORK_WORDS);
         }
-        printf("%s: %d damaged copies agree\n", name, tries);
+        printf("%s: %d damaged copies agree\n", name, times);
         return 0;
     }
-    uint64_t line, a = 0, b = 0;
-    for (int i = 0; i < 100; i++) a += emt_read(text, length, ours, EMT_NETWORK_WORDS, &line);
-    for (int i = 0; i < 100; i++) b += plain_read(text, length, theirs, EMT_NETWORK_WORDS, &line);
-    printf("%zu %llu %llu\n", length, (unsigned long long)a, (unsigned long long)b);
-    return a != b;
+    uint64_t (*reader)(const uint8_t *, size_t, int64_t *, size_t, uint64_t *) = strcmp(words[2], "ours") ? plain_read : emt_read;
+    uint64_t line;
+    for (int i = 0; i < times; i++) reader(text, length, ours, EMT_NETWORK_WORDS, &line);
+    printf("%zu\n", length);
+    return 0;
 }

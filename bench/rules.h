@@ -1,123 +1,171 @@
-// Document 01 in plain C: what a line may hold, areas, one step of one area. For bench/plain.c (a whole run) and bench/lent.c (one call over lent memory).
-// Each area is solved anew at each step, as the rules are stated; no factors are kept between steps.
+// Document 01 in plain C, as one would write it who wants the answers fast and proves nothing: what a line may hold, areas, one step of one area.
+// For bench/ref.c (a whole run) and bench/lent.c (one call over lent memory). Sums of conductances stay below 2^53, so they are added as doubles.
+#include <stdbool.h>
 #include <stdint.h>
+#include <string.h>
 
 typedef int64_t whole;
-enum { NODES = 32, BRANCHES = 64, SOURCES = 16, SLOTS = 4096, TEXT = 65536, FIELDS = 5 };
+enum { NODES = 32, BRANCHES = 64, SOURCES = 16, ROWS = BRANCHES + SOURCES, SLOTS = 4096, FIELDS = 5 };
+enum { FORM = 1, NODE, VALUE, TRAVEL, DOUBLE, FULL, SIZE, FLOATING = 14, RANGE, UNBALANCED, HISTORY };
 enum kind { R, L, C, LINE, SW, VS, IS, KINDS };
-#define FAR INT64_C(100000000000000000) // the largest history; a field is held at ten times this, which is past every range
+#define HIGHEST INT64_C(20000000)           // the largest voltage
+#define FAR INT64_C(100000000000000000)     // the largest history
+#define MOST_STEPS INT64_C(1000000)         // also the longest step
+#define WIDEST INT64_C(1000000000000000)    // the largest balance limit
+#define STRONGEST INT64_C(2000000000000000) // the largest peak of an IS
+#define OHMS INT64_C(1000000000000)         // the largest resistance and inductance
 
 struct branch {
     enum kind kind;
-    int row, from, to; // row: its place in the text, sources counted
-    whole g, d, close, open;
-    whole history, current, to_current;
-    whole *sent_from, *sent_to; // what each end sent, step s in place s mod 2d
-    whole hears_from, hears_to, now; // at the step being solved: histories at both ends, conductance
+    int from, to;
+    whole g, close, open;
+    uint32_t d, slot; // LINE: steps of travel, where its slots start in both stores
 };
 struct source {
     enum kind kind;
     int node;
     whole peak, start, rise;
 };
+struct end {
+    int branch, side, node; // side: 0 the from end, 1 the to end
+};
 struct area {
-    int nodes, free_count, branch_count;
-    int node[NODES], free[NODES];
-    struct branch *branch[BRANCHES];
+    uint64_t nodes, held; // bit n for node n; held: ground, fixed nodes, nodes with a line end
+    int free_count, lumped_count, end_count, source_count, switch_count;
+    int free[NODES], lumped[BRANCHES], switches[BRANCHES], sources[SOURCES];
+    struct end ends[2 * BRANCHES];
+    double kept[NODES][NODES]; // the factors of the last matrix, where they are kept
+};
+struct answer {
+    int number, place; // number 0: accepted
 };
 
 static whole step_length, steps, limit;
-static struct branch branches[BRANCHES];
+static int node_count, branch_count, source_count, area_count, places; // places: one past the last branch's
+static uint32_t slot_count;
+static struct branch branches[ROWS];
 static struct source sources[SOURCES];
-static struct area areas[NODES + 1];
-static int row_count, branch_count, source_count, node_count, area_count;
-static int area_of[NODES + 1], fixed[NODES + 1], place[NODES + 1];
-static whole voltage[NODES + 1], injection[NODES + 1], slots;
-static whole *froms, *tos; // what the from ends and the to ends of all lines sent, SLOTS words each
+static bool fixed[NODES + 1];
+static int row_of[NODES + 1], area_of[NODES + 1]; // a free node's row in its area's matrix, else -1; a node's area from 0 on
+static struct area areas[NODES];
+static bool keep; // factors and the search for floating nodes are kept until a switch changes
+
+// The state, by node and by a branch's place: currents of the from side, and of a line's to side; what the from ends and the to ends sent.
+static whole *volt, *current[2], *history, *store[2];
 
 // ---- lines
 
-static whole nearest(whole a, whole b) { return a / b + (a % b >= b - a % b); }
-
 static const struct {
     const char *word;
-    int fields, ends;
-} table[KINDS] = {{"R", 3, 2}, {"L", 3, 2}, {"C", 3, 2}, {"LINE", 4, 2}, {"SW", 5, 2}, {"VS", 4, 1}, {"IS", 4, 1}};
+    int nodes, others;
+    whole least[3], most[3];
+} shapes[KINDS] = {
+    [R] = {"R", 2, 1, {1000}, {OHMS}},
+    [L] = {"L", 2, 1, {1}, {OHMS}},
+    [C] = {"C", 2, 1, {1}, {1000000000}},
+    [LINE] = {"LINE", 2, 2, {1000, 1}, {OHMS, 1000000000}},
+    [SW] = {"SW", 2, 3, {1000, 1, 2}, {OHMS, MOST_STEPS, MOST_STEPS + 1}},
+    [VS] = {"VS", 1, 3, {-HIGHEST, 1, 0}, {HIGHEST, MOST_STEPS, 1000}},
+    [IS] = {"IS", 1, 3, {-STRONGEST, 1, 0}, {STRONGEST, MOST_STEPS, 1000}},
+};
 
-static int in(whole x, whole least, whole most) { return least <= x && x <= most; }
+static bool in(whole x, whole least, whole most) { return least <= x && x <= most; }
+
+static bool head_fits(const whole *n) { return in(n[0], 1, MOST_STEPS) && in(n[1], 1, MOST_STEPS) && in(n[2], 0, WIDEST); }
+
+static whole nearest(whole over, whole under) { return (2 * over + under) / (2 * under); }
 
 static whole conductance(enum kind kind, whole x) {
-    if (kind == L) return nearest(INT64_C(1000000000) * step_length, 2 * x);
-    return kind == C ? nearest(2000000 * x, step_length) : nearest(INT64_C(1000000000000), x);
+    if (kind == L) return nearest(1000000000 * step_length, 2 * x);
+    return kind == C ? nearest(2000000 * x, step_length) : nearest(OHMS, x);
 }
 
-static int value_fault(enum kind kind, const whole *f) {
-    if (kind == VS || kind == IS) {
-        whole most = kind == VS ? 20000000 : INT64_C(2000000000000000);
-        return !(in(f[1], -most, most) && in(f[2], 1, 1000000) && in(f[3], 0, 1000));
+// Takes a line by its fields, a branch to this place; or the number of what is wrong with it.
+static int take(enum kind kind, const whole *n, int place) {
+    int nodes = shapes[kind].nodes;
+    bool source = nodes == 1;
+    for (int i = 0; i < nodes; i++)
+        if (n[i] > NODES || ((source || kind == LINE) && n[i] == 0)) return NODE;
+    if (!source && n[0] == n[1]) return NODE;
+    for (int i = 0; i < shapes[kind].others; i++)
+        if (!in(n[nodes + i], shapes[kind].least[i], shapes[kind].most[i])) return VALUE;
+    if (source) {
+        if (kind == VS && fixed[n[0]]) return DOUBLE;
+        if (source_count == SOURCES) return FULL;
+        sources[source_count++] = (struct source){kind, (int)n[0], n[1], n[2], n[3]};
+        fixed[n[0]] |= kind == VS;
+    } else {
+        struct branch b = {.kind = kind, .from = (int)n[0], .to = (int)n[1], .g = conductance(kind, n[2])};
+        whole slots = 0;
+        if (kind == SW) {
+            if (n[3] >= n[4]) return VALUE;
+            b.close = n[3], b.open = n[4];
+        }
+        if (!in(b.g, 1, 1000000000)) return VALUE;
+        if (kind == LINE) {
+            if (n[3] % step_length) return TRAVEL;
+            slots = 2 * (n[3] / step_length);
+            b.d = (uint32_t)(slots / 2), b.slot = slot_count;
+        }
+        if (branch_count == BRANCHES || slot_count + slots > SLOTS) return FULL;
+        slot_count += (uint32_t)slots;
+        branch_count++;
+        branches[place] = b;
+        places = place + 1;
     }
-    if (!in(f[2], kind == L || kind == C ? 1 : 1000, kind == C ? 1000000000 : INT64_C(1000000000000))) return 1;
-    if (kind == LINE && !in(f[3], 1, 1000000000)) return 1;
-    if (kind == SW && !(1 <= f[3] && f[3] < f[4] && f[4] <= 1000001)) return 1;
-    return !in(conductance(kind, f[2]), 1, 1000000000);
-}
-
-static int fault(enum kind kind, const whole *f) {
-    int source = kind == VS || kind == IS;
-    if (f[0] > NODES || (!source && (f[1] > NODES || f[0] == f[1]))) return 2;
-    if ((source || kind == LINE) && (f[0] == 0 || (!source && f[1] == 0))) return 2;
-    if (value_fault(kind, f)) return 3;
-    if (kind == LINE && f[3] % step_length) return 4;
-    if (kind == VS && fixed[f[0]]) return 5;
-    if (source ? source_count == SOURCES : branch_count == BRANCHES) return 6;
-    return kind == LINE && slots + 2 * (f[3] / step_length) > SLOTS ? 6 : 0;
-}
-
-static void take(enum kind kind, const whole *f) {
-    int row = row_count++;
-    for (int i = 0; i < table[kind].ends; i++)
-        if (f[i] > node_count) node_count = (int)f[i];
-    if (kind == VS || kind == IS) {
-        sources[source_count++] = (struct source){kind, (int)f[0], f[1], f[2], f[3]};
-        if (kind == VS) fixed[f[0]] = 1;
-        return;
-    }
-    struct branch *b = &branches[branch_count++];
-    *b = (struct branch){.kind = kind, .row = row, .from = (int)f[0], .to = (int)f[1], .g = conductance(kind, f[2])};
-    if (kind == SW) b->close = f[3], b->open = f[4];
-    if (kind != LINE) return;
-    b->d = f[3] / step_length;
-    b->sent_from = froms + slots, b->sent_to = tos + slots;
-    slots += 2 * b->d;
+    for (int i = 0; i < nodes; i++)
+        if (n[i] > node_count) node_count = (int)n[i];
+    return 0;
 }
 
 // ---- areas
 
-static void find_areas(void) {
-    int lowest[NODES + 1], changed = 1;
+// Not put into its caller, whose steps would take more instructions.
+__attribute__((noinline)) static void find_areas(void) {
+    int lowest[NODES + 1];
+    bool changed = true;
     for (int n = 0; n <= node_count; n++) lowest[n] = n;
     while (changed) {
-        changed = 0;
-        for (int i = 0; i < branch_count; i++) {
-            struct branch *b = &branches[i];
-            if (b->kind == LINE || !b->from || !b->to || lowest[b->from] == lowest[b->to]) continue;
-            int low = lowest[b->from] < lowest[b->to] ? lowest[b->from] : lowest[b->to];
-            lowest[b->from] = lowest[b->to] = low;
-            changed = 1;
+        changed = false;
+        for (int b = 0; b < places; b++) {
+            int from = branches[b].from, to = branches[b].to;
+            if (branches[b].kind == LINE || !from || !to || lowest[from] == lowest[to]) continue;
+            lowest[from] = lowest[to] = lowest[from] < lowest[to] ? lowest[from] : lowest[to];
+            changed = true;
         }
     }
+    row_of[0] = -1;
+    area_count = 0;
     for (int n = 1; n <= node_count; n++) {
-        area_of[n] = lowest[n] == n ? ++area_count : area_of[lowest[n]];
+        uint64_t bit = UINT64_C(1) << n;
+        area_of[n] = lowest[n] == n ? area_count++ : area_of[lowest[n]];
         struct area *a = &areas[area_of[n]];
-        if (lowest[n] == n) a->nodes = a->free_count = a->branch_count = 0;
-        a->node[a->nodes++] = n;
-        if (!fixed[n]) place[n] = a->free_count, a->free[a->free_count++] = n;
+        if (lowest[n] == n) {
+            a->nodes = 0, a->held = 1;
+            a->free_count = a->lumped_count = a->end_count = a->source_count = a->switch_count = 0;
+        }
+        a->nodes |= bit;
+        row_of[n] = fixed[n] ? -1 : a->free_count;
+        if (fixed[n]) a->held |= bit;
+        else a->free[a->free_count++] = n;
     }
-    for (int i = 0; i < branch_count; i++) {
-        struct branch *b = &branches[i];
-        int from = area_of[b->from], to = area_of[b->to];
-        if (from) areas[from].branch[areas[from].branch_count++] = b;
-        if (to && to != from) areas[to].branch[areas[to].branch_count++] = b;
+    for (int b = 0; b < places; b++) {
+        int nodes[2] = {branches[b].from, branches[b].to}, node = nodes[0] ? nodes[0] : nodes[1];
+        struct area *a = &areas[area_of[node]];
+        if (branches[b].kind == LINE) {
+            for (int side = 0; side < 2; side++) {
+                a = &areas[area_of[nodes[side]]];
+                a->held |= UINT64_C(1) << nodes[side];
+                a->ends[a->end_count++] = (struct end){b, side, nodes[side]};
+            }
+        } else if (node) {
+            a->lumped[a->lumped_count++] = b;
+            if (branches[b].kind == SW) a->switches[a->switch_count++] = b;
+        }
+    }
+    for (int s = 0; s < source_count; s++) {
+        struct area *a = &areas[area_of[sources[s].node]];
+        a->sources[a->source_count++] = s;
     }
 }
 
@@ -128,119 +176,180 @@ static whole source_value(const struct source *s, whole k) {
     return n < 0 ? 0 : n < s->rise ? s->peak * n / s->rise : s->peak;
 }
 
-static void drive(int number, whole k) {
-    for (int i = 0; i < areas[number].nodes; i++) voltage[areas[number].node[i]] = injection[areas[number].node[i]] = 0;
-    for (int i = 0; i < source_count; i++) {
-        if (area_of[sources[i].node] != number) continue;
-        if (sources[i].kind == VS) voltage[sources[i].node] = source_value(&sources[i], k);
-        else injection[sources[i].node] += source_value(&sources[i], k);
-    }
-}
+static bool conducts(const struct branch *b, whole k) { return b->kind != SW || (b->close <= k && k < b->open); }
 
-static void prepare(struct area *a, whole k) {
-    for (int i = 0; i < a->branch_count; i++) {
-        struct branch *b = a->branch[i];
-        b->now = b->kind != SW || (b->close <= k && k < b->open) ? b->g : 0;
-        if (b->kind != LINE) b->hears_from = b->history, b->hears_to = -b->history;
-        else if (k - b->d < 1) b->hears_from = b->hears_to = 0;
-        else b->hears_from = b->sent_to[(k - b->d) % (2 * b->d)], b->hears_to = b->sent_from[(k - b->d) % (2 * b->d)];
-    }
+static bool switch_changes(const struct area *a, whole k) {
+    for (int i = 0; i < a->switch_count; i++)
+        if (branches[a->switches[i]].close == k || branches[a->switches[i]].open == k) return true;
+    return false;
 }
 
 // The lowest free node without a path of conducting branches to ground, a fixed node or a line end; or 0.
-static int floating(const struct area *a) {
-    char held[NODES + 1] = {1};
-    int changed = 1;
-    for (int i = 0; i < a->nodes; i++) held[a->node[i]] = (char)fixed[a->node[i]];
-    for (int i = 0; i < a->branch_count; i++)
-        if (a->branch[i]->kind == LINE) held[a->branch[i]->from] = held[a->branch[i]->to] = 1;
-    while (changed) {
-        changed = 0;
-        for (int i = 0; i < a->branch_count; i++) {
-            const struct branch *b = a->branch[i];
-            if (b->kind == LINE || !b->now || held[b->from] == held[b->to]) continue;
-            held[b->from] = held[b->to] = 1;
-            changed = 1;
+static int floating(const struct area *a, const int *conducting, int count) {
+    uint64_t reached = a->held, before;
+    do {
+        before = reached;
+        for (int i = 0; i < count; i++) {
+            const struct branch *b = &branches[conducting[i]];
+            if ((reached >> b->from | reached >> b->to) & 1) reached |= UINT64_C(1) << b->from | UINT64_C(1) << b->to;
+        }
+    } while (reached != before && (a->nodes & ~reached));
+    uint64_t lost = a->nodes & ~reached;
+    return lost ? __builtin_ctzll(lost) : 0;
+}
+
+static void assemble(const struct area *a, const int *conducting, int count, double m[][NODES]) {
+    for (int p = 0; p < a->free_count; p++) memset(m[p], 0, (size_t)a->free_count * sizeof(double));
+    for (int i = 0; i < count; i++) {
+        const struct branch *b = &branches[conducting[i]];
+        int p = row_of[b->from], q = row_of[b->to];
+        double g = (double)b->g;
+        if (p >= 0) m[p][p] += g;
+        if (q >= 0) m[q][q] += g;
+        if (p >= 0 && q >= 0) {
+            m[p][q] -= g;
+            m[q][p] -= g;
         }
     }
-    for (int i = 0; i < a->free_count; i++)
-        if (!held[a->free[i]]) return a->free[i];
-    return 0;
-}
-
-static whole sum[NODES][NODES], right[NODES];
-static double m[NODES][NODES], rhs[NODES], x[NODES];
-
-// One end of a branch: what it adds to its node's row.
-static void stamp(int number, const struct branch *b, int near, int far, whole history) {
-    if (area_of[near] != number || fixed[near]) return;
-    int p = place[near];
-    sum[p][p] += b->now;
-    right[p] -= history;
-    if (b->kind == LINE || !far) return;
-    if (fixed[far]) right[p] += b->now * voltage[far];
-    else sum[p][place[far]] -= b->now;
-}
-
-static void assemble(int number, const struct area *a) {
-    int n = a->free_count;
-    for (int p = 0; p < n; p++) {
-        for (int c = 0; c < n; c++) sum[p][c] = 0;
-        right[p] = injection[a->free[p]];
-    }
-    for (int i = 0; i < a->branch_count; i++) {
-        const struct branch *b = a->branch[i];
-        stamp(number, b, b->from, b->to, b->hears_from);
-        stamp(number, b, b->to, b->from, b->hears_to);
-    }
-    for (int p = 0; p < n; p++) {
-        for (int c = 0; c < n; c++) m[p][c] = (double)sum[p][c];
-        rhs[p] = (double)right[p];
+    for (int i = 0; i < a->end_count; i++) {
+        int p = row_of[a->ends[i].node];
+        if (p >= 0) m[p][p] += (double)branches[a->ends[i].branch].g;
     }
 }
 
-static void solve(int n) {
+// The elimination; each row's factors are left below its pivot.
+static void eliminate(double m[][NODES], double *right, int n) {
     for (int p = 0; p < n; p++)
         for (int q = p + 1; q < n; q++) {
             double f = m[q][p] / m[p][p];
-            for (int c = p + 1; c < n; c++) m[q][c] -= f * m[p][c];
-            rhs[q] -= f * rhs[p];
+            const double *restrict above = m[p];
+            double *restrict row = m[q];
+            for (int c = p + 1; c < n; c++) row[c] = row[c] - f * above[c];
+            right[q] = right[q] - f * right[p];
+            row[p] = f;
         }
-    for (int p = n; p-- > 0;) {
-        double t = rhs[p];
-        for (int c = p + 1; c < n; c++) t -= m[p][c] * x[c];
+}
+
+// What the elimination does to the right sides, by kept factors: the same operations in the same order, so the same bits.
+static void eliminate_kept(const double m[][NODES], double *right, int n) {
+    for (int p = 0; p < n; p++)
+        for (int q = p + 1; q < n; q++) right[q] = right[q] - m[q][p] * right[p];
+}
+
+static void substitute(const double m[][NODES], const double *right, double *x, int n) {
+    for (int p = n - 1; p >= 0; p--) {
+        double t = right[p];
+        for (int c = p + 1; c < n; c++) t = t - m[p][c] * x[c];
         x[p] = t / m[p][p];
     }
 }
 
-// Voltages to the nearest whole number, halves away from zero; the first node whose voltage is out of range, or 0.
-static int settle(const struct area *a) {
-    for (int p = 0; p < a->free_count; p++) {
-        if (!(x[p] >= -20000000.0 && x[p] <= 20000000.0)) return a->free[p];
-        whole v = (whole)x[p];
-        double rest = x[p] - (double)v;
-        voltage[a->free[p]] = v + (rest >= 0.5) - (rest <= -0.5);
-    }
-    return 0;
+static whole nearest_away(double x) {
+    whole v = (whole)x;
+    double rest = x - (double)v;
+    return v + (rest >= 0.5) - (rest <= -0.5);
 }
 
-static whole current(const struct branch *b, int near, int far, whole history) {
-    return b->now * (voltage[near] - (b->kind == LINE ? 0 : voltage[far])) + history;
-}
+static bool beyond(whole x, whole end) { return x > end || x < -end; }
 
-// The first node where the currents leaving, minus injection, pass the limit; or 0.
-static int unbalanced(int number, const struct area *a) {
-    whole leaving[NODES + 1] = {0};
-    for (int i = 0; i < a->branch_count; i++) {
-        const struct branch *b = a->branch[i];
-        if (area_of[b->from] == number) leaving[b->from] += current(b, b->from, b->to, b->hears_from);
-        if (area_of[b->to] == number) leaving[b->to] += current(b, b->to, b->from, b->hears_to);
-    }
-    for (int i = 0; i < a->free_count; i++) {
-        whole over = leaving[a->free[i]] - injection[a->free[i]];
-        if (over > limit || over < -limit) return a->free[i];
-    }
-    return 0;
-}
+// A step of one area, which writes the state where it is accepted; the place of HISTORY is the branch's.
+static struct answer advance(struct area *a, whole k) {
+    int n = a->free_count, conducting[BRANCHES], count = 0;
+    for (int i = 0; i < a->lumped_count; i++)
+        if (conducts(&branches[a->lumped[i]], k)) conducting[count++] = a->lumped[i];
 
-static int within(whole h) { return in(h, -FAR, FAR); }
+    bool fresh = !keep || k == 1 || switch_changes(a, k);
+    if (fresh) {
+        int lost = floating(a, conducting, count);
+        if (lost) return (struct answer){FLOATING, lost};
+    }
+
+    // sources, arriving values and right sides
+    whole v[NODES + 1], sum[NODES + 1], injection[NODES + 1], right[NODES];
+    v[0] = sum[0] = 0;
+    for (int i = 0; i < n; i++) injection[a->free[i]] = 0;
+    for (int i = 0; i < a->source_count; i++) {
+        const struct source *s = &sources[a->sources[i]];
+        whole value = source_value(s, k);
+        if (s->kind == VS) v[s->node] = value, sum[s->node] = 0;
+        else if (!fixed[s->node]) injection[s->node] += value;
+    }
+    for (int i = 0; i < n; i++) right[i] = injection[a->free[i]];
+    for (int i = 0; i < count; i++) {
+        const struct branch *b = &branches[conducting[i]];
+        int p = row_of[b->from], q = row_of[b->to];
+        whole h = history[conducting[i]]; // 0 but for L and C
+        if (p >= 0) right[p] += (q < 0 ? b->g * v[b->to] : 0) - h;
+        if (q >= 0) right[q] += (p < 0 ? b->g * v[b->from] : 0) + h;
+    }
+    whole arriving[2 * BRANCHES];
+    for (int i = 0; i < a->end_count; i++) {
+        struct end e = a->ends[i];
+        const struct branch *b = &branches[e.branch];
+        arriving[i] = k > b->d ? store[1 - e.side][b->slot + ((uint32_t)k - b->d) % (2 * b->d)] : 0;
+        if (row_of[e.node] >= 0) right[row_of[e.node]] -= arriving[i];
+    }
+
+    // voltages
+    double once[NODES][NODES], b[NODES], x[NODES];
+    double(*m)[NODES] = keep ? a->kept : once;
+    for (int i = 0; i < n; i++) b[i] = (double)right[i];
+    if (fresh) {
+        assemble(a, conducting, count, m);
+        eliminate(m, b, n);
+    } else {
+        eliminate_kept(m, b, n);
+    }
+    substitute(m, b, x, n);
+    for (int i = 0; i < n; i++) {
+        if (!(x[i] >= -(double)HIGHEST && x[i] <= (double)HIGHEST)) return (struct answer){RANGE, a->free[i]};
+        v[a->free[i]] = nearest_away(x[i]);
+    }
+
+    // currents and balance; sums at ground and fixed nodes are not used
+    whole through[BRANCHES], end_through[2 * BRANCHES];
+    for (int i = 0; i < n; i++) sum[a->free[i]] = -injection[a->free[i]];
+    for (int i = 0; i < count; i++) {
+        const struct branch *br = &branches[conducting[i]];
+        through[i] = br->g * (v[br->from] - v[br->to]);
+        whole now = through[i] + history[conducting[i]];
+        sum[br->from] += now;
+        sum[br->to] -= now;
+    }
+    for (int i = 0; i < a->end_count; i++) {
+        end_through[i] = branches[a->ends[i].branch].g * v[a->ends[i].node];
+        sum[a->ends[i].node] += end_through[i] + arriving[i];
+    }
+    for (int i = 0; i < n; i++)
+        if (beyond(sum[a->free[i]], limit)) return (struct answer){UNBALANCED, a->free[i]};
+
+    // next histories and sent values
+    whole next[BRANCHES], sent[2 * BRANCHES];
+    int over = ROWS;
+    for (int i = 0; i < count; i++) {
+        enum kind kind = branches[conducting[i]].kind;
+        whole twice = 2 * through[i] + history[conducting[i]];
+        next[i] = kind == L ? twice : kind == C ? -twice : 0;
+        if (beyond(next[i], FAR) && conducting[i] < over) over = conducting[i];
+    }
+    for (int i = 0; i < a->end_count; i++) {
+        sent[i] = -(2 * end_through[i] + arriving[i]);
+        if (beyond(sent[i], FAR) && a->ends[i].branch < over) over = a->ends[i].branch;
+    }
+    if (over < ROWS) return (struct answer){HISTORY, over};
+
+    // accepted: write
+    for (uint64_t left = a->nodes; left; left &= left - 1) volt[__builtin_ctzll(left)] = v[__builtin_ctzll(left)];
+    for (int i = 0; i < a->switch_count; i++) current[0][a->switches[i]] = 0;
+    for (int i = 0; i < count; i++) {
+        current[0][conducting[i]] = through[i] + history[conducting[i]];
+        history[conducting[i]] = next[i];
+    }
+    for (int i = 0; i < a->end_count; i++) {
+        struct end e = a->ends[i];
+        const struct branch *br = &branches[e.branch];
+        current[e.side][e.branch] = end_through[i] + arriving[i];
+        store[e.side][br->slot + (uint32_t)k % (2 * br->d)] = sent[i];
+    }
+    return (struct answer){0, 0};
+}
