@@ -10,7 +10,7 @@ uint64_t numbers_nearest_quotient(uint64_t a, uint64_t b);
 int64_t numbers_toward_zero(int64_t a, int64_t b);
 double numbers_to_double(int64_t x);
 _Bool numbers_nearest(double x, int64_t *whole);
-_Bool numbers_solve(double (*a)[32], const double *pivots, const double *rights, size_t n, double *x);
+_Bool numbers_solve(double (*a)[32], const double *rights, size_t n, double *x);
 
 static long passed, failed;
 
@@ -152,12 +152,11 @@ static double conductance(int kind) {
 }
 
 static void system_of(size_t n, int kind) {
-    static double a[32][32], kept[32][32], pivots[32], rights[32], x[32], y[32], t[32][33];
+    static double a[32][32], kept[32][32], rights[32], x[32], y[32], t[32][33];
     for (size_t r = 0; r < 32; r++) {
         for (size_t c = 0; c < 32; c++) a[r][c] = of_bits(any());  // what stands outside the system is not read
-        pivots[r] = of_bits(any());
-        rights[r] = of_bits(any());
-        x[r] = y[r] = 0.0;
+        x[r] = of_bits(any());
+        y[r] = rights[r] = of_bits(any());  // past its n rows, x has the right sides as they are
     }
     for (size_t r = 0; r < n; r++) a[r][r] = kind == 2 ? 0.0 : conductance(kind);
     for (size_t r = 0; r < n; r++) {
@@ -173,24 +172,22 @@ static void system_of(size_t n, int kind) {
     }
     if (kind == 2 && n) a[n - 1][n - 1] += 1.0;  // the only way to ground
     for (size_t r = 0; r < n; r++) {
-        pivots[r] = a[r][r];
         rights[r] = kind == 3 ? of_bits(any()) : (double)(int64_t)(any() % 2000000000000001ull) * (any() % 2 ? 1.0 : -1.0);
         memcpy(t[r], a[r], sizeof a[r]);
         t[r][32] = rights[r];
     }
     memcpy(kept, a, sizeof a);
     by_the_paper(n, t, y);
-    int good = numbers_solve(a, pivots, rights, n, x) && memcmp(kept, a, sizeof a) == 0;
+    int good = numbers_solve(a, rights, n, x) && memcmp(kept, a, sizeof a) == 0;
     for (size_t r = 0; r < 32; r++) good &= alike(x[r], y[r]);
     held(good, "solve");
 }
 
 static void systems(void) {
     for (size_t k = 0; k < 8000; k++) system_of(1 + k % 32, (int)(k / 32 % 5));
-    static double a[32][32], side[32], x[32] = {5.0};
-    held(numbers_solve(a, side, side, 0, x) && x[0] == 0.0, "a system of no rows");
-    x[0] = 5.0;
-    held(!numbers_solve(a, side, side, 33, x) && x[0] == 5.0, "a system of 33 rows");
+    static double a[32][32], side[32] = {7.0}, x[32] = {5.0};
+    held(!numbers_solve(a, side, 33, x) && x[0] == 5.0, "a system of 33 rows");
+    held(numbers_solve(a, side, 0, x) && x[0] == 7.0, "a system of no rows");
 }
 
 int main(void) {

@@ -2,32 +2,32 @@
 use Prim.Native.Nat.{ℕ, zero, suc, _≤_, _<_}
 use native.Mathlib.Omega.{arith}
 use mathlib.Core.Path.{_≡_, refl, sym, ap, _∙_}
-use mathlib.Core.Logic.{_≢_, _⊎_, inl, inr}
-use mathlib.Core.Bool.{Bool, true, false, cond, not, _&&_, _||_, or-true, true≢false}
+use mathlib.Core.Logic.{_⊎_, inl, inr}
+use mathlib.Core.Bool.{Bool, true, false, cond, not, true≢false}
 use mathlib.Core.List.{List, [], _∷_, List·Memᴰ·cases-cons, List·Memᴰ·not-nil}
 use lib.ListN.{length, getD, set, length-set, take, length-map, replicate, length-replicate}
 use lib.Seq.{getD-set-same, getD-set-other, getD-take, length-take-le}
 use lib.Dec.{eqb}
 use lib.IntN.{ℤ, pos}
 use lib.Ieee.{Float, nan, fin}
-use borrow.Author.Tests.{eq-eqb, ne-eqb}
+use borrow.Author.Tests.{eq-eqb}
 use Rattle.paper.specs.declared.Rounded.{Rounded}
 use Rattle.paper.specs.declared.Rounded.the-variants.{Whole, Outside}
 use Rattle.whole.specs.Lists.{Words, z, word, any, keep, numbers, first}
-use Rattle.whole.specs.Folds.{getD-map, length-keep, count-le, length-numbers, none-if, none-at}
+use Rattle.whole.specs.Folds.{getD-map, length-keep, count-le, length-numbers, none-at}
 use Rattle.whole.specs.TurnLaws.{downs-keeps}
 use Rattle.whole.specs.Members.{Among, top, below, among-at}
 use Rattle.whole.specs.Rising.{Rising, rising-keep, rising-numbers, rising-over}
 use Rattle.paper.specs.Faults.{fixes}
 use Rattle.paper.specs.Areas.{Net, areaOf, fixed, nodesOf, freeOf}
-use Rattle.paper.specs.Sources.{source, held, injected}
+use Rattle.paper.specs.Sources.{source, injected}
 use Rattle.paper.specs.Legs.{Branch, bothLegs}
 use Rattle.paper.specs.Doubles.{nearestOf}
 use Rattle.paper.specs.Elimination.{System, voltages, solved, rowSolved, eliminated}
 use Rattle.paper.specs.Solve.{system, proposed, settled, outOfRange, stillOf}
 use Rattle.facts.specs.Nets.{NetSound, rowAt, held-is}
-use Rattle.sources.specs.Still.{still-at, still-length}
-use Rattle.local.specs.Nodes.{NodeOf, node-of, of-node, free-of}
+use Rattle.laws_volts.specs.Still.{still-at, still-ground, still-length}
+use Rattle.local.specs.Nodes.{NodeOf, free-of}
 use Rattle.local.specs.Outcome.{rounded, voltsOf}
 
 pub free-rising : (N : Net) (a : ℕ) → Rising 0 (freeOf N a)
@@ -80,15 +80,6 @@ some-if p l d i h e = go (any p l) refl
     go true f = refl
     go false f = absurd (true≢false (sym e ∙ none-at p l d i f h))
 
-among-some : (p : ℕ) (l : List ℕ) → Among p l → any (λ m. eqb m p) l ≡ true
-unfolding any
-among-some p [] i = absurd (List·Memᴰ·not-nil i)
-among-some p (x ∷ l) i = go (List·Memᴰ·cases-cons i) (among-some p l)
-  where
-    go : (p ≡ x) ⊎ Among p l → (Among p l → any (λ m. eqb m p) l ≡ true) → eqb x p || any (λ m. eqb m p) l ≡ true
-    go (inl e) ih = rw (eq-eqb x p (sym e))
-    go (inr j) ih = rw (ih j) (or-true (eqb x p))
-
 -- ---- the doubles
 
 solved-length : (n : ℕ) (s : System) → length (voltages n s) ≡ 32
@@ -133,9 +124,7 @@ module _ (N : Net) (s : NetSound N) (a k : ℕ) (bs : List Branch) where
   pub ground-volt : word v 0 ≡ z
   ground-volt =
       settled-other (freeOf N a) (rounded N a k bs) (stillOf N a k) 0 (λ i. omega (arith, free-of N a i .0 .low))
-      ∙ still-at N k a 0 (omega arith)
-      ∙ ap (λ (b : Bool). cond (b && fixed N 0) (held (N .rows) k 0) z)
-      (none-if (λ m. eqb m 0) (nodesOf N a) 1 (λ i h. ne-eqb (getD (nodesOf N a) i 1) 0 (λ e. omega (arith, node-of N a (among-at (nodesOf N a) i 1 h) .low))))
+      ∙ still-ground N s a k
 
   -- a fixed node has its source's value
   pub fixed-volt : (p i : ℕ) → NodeOf N a p → i < length (N .rows) → fixes p (rowAt N i) ≡ true → word v p ≡ source k (rowAt N i)
@@ -143,15 +132,13 @@ module _ (N : Net) (s : NetSound N) (a k : ℕ) (bs : List Branch) where
   fixed-volt p i n h e =
       let f : fixed N p ≡ true = some-if (fixes p) (N .rows) [] i h e in
       settled-other (freeOf N a) (rounded N a k bs) (stillOf N a k) p (not-free p f)
-      ∙ still-at N k a p (omega (arith, n .high, s .nodeMost))
-      ∙ ap (λ (b : Bool). cond (b && fixed N p) (held (N .rows) k p) z) (among-some p (nodesOf N a) (of-node N a p n))
-      ∙ ap (λ (b : Bool). cond b (held (N .rows) k p) z) f
-      ∙ held-is N s k p i h e
+      ∙ still-at N s a k p (omega (arith, n .high, s .nodeMost))
+      ∙ rw (eq-eqb (areaOf N p) a (n .area)) (held-is N s k p i h e)
 
   pub free-volt : (q : ℕ) (y : ℤ) → q < length (freeOf N a) → nearestOf (getD x q nan) ≡ Whole y → word v (getD (freeOf N a) q 0) ≡ y
   free-volt q y h e =
       settled-at 0 (freeOf N a) (rounded N a k bs) (stillOf N a k) q y (free-rising N a) h (rw rounded-length h) (rounded-at q h ∙ e)
-      (rw (still-length N k a) (omega (arith, free-of N a (among-at (freeOf N a) q 0 h) .0 .high, s .nodeMost)))
+      (rw (still-length N s a k) (omega (arith, free-of N a (among-at (freeOf N a) q 0 h) .0 .high, s .nodeMost)))
 
   -- no answer 15: each free node's double is in range, and its voltage is the double rounded
   pub free-whole : outOfRange (freeOf N a) (rounded N a k bs) ≡ 0 → (q : ℕ) → q < length (freeOf N a) → nearestOf (getD x q nan) ≡ Whole (word v (getD (freeOf N a) q 0))

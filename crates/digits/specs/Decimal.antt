@@ -6,13 +6,12 @@ use mathlib.Core.List.{List, [], _∷_, _++_, append-assoc, append-nil}
 use native.Mathlib.Omega.{arith}
 use native.Mathlib.Decide.{decLt}
 use native.Mathlib.Nat.{mul-assoc, pow-suc, pow-succ', one-le-pow, div-div-eq-div-mul, div-le-self, div-one, div-add-mod'}
-use borrow.Author.Tests.{eqb-true, eqb-false, eq-eqb, ne-eqb}
+use borrow.Author.Tests.{eq-eqb, ne-eqb}
 use lib.Dec.{eqb}
 use lib.ListN.{length, length-append}
 use lib.IntN.{ℤ, pos, negsuc, natAbs}
-use Rattle.paper.specs.Text.{MINUS}
 use Rattle.paper.specs.Listing.{digits, shownNat, shown}
-use Rattle.digits.specs.Puts.{Puts, puts-then, puts-as, puts-room}
+use Rattle.digits.specs.Puts.{Puts, Parts, puts-room}
 
 -- n's last w digits, zeros in front too
 unfoldable pub fixed : ℕ → ℕ → List ℕ
@@ -89,7 +88,7 @@ unfolding shownNat fixed
 shown-digit n h = one-digit 19 n [] h
 
 -- of 20 digits, w and those before them
-pub shown-split : (w f n : ℕ) → suc f + w ≡ 20 → 10 ^ w ≤ n → n / 10 ^ w < 10 ^ suc f → n < 10 ^ 20 → shownNat n ≡ shownNat (n / 10 ^ w) ++ fixed w n
+shown-split : (w f n : ℕ) → suc f + w ≡ 20 → 10 ^ w ≤ n → n / 10 ^ w < 10 ^ suc f → n < 10 ^ 20 → shownNat n ≡ shownNat (n / 10 ^ w) ++ fixed w n
 unfolding shownNat
 shown-split w f n e h k l =
     let less : n / 10 ^ w < 10 ^ 20 = omega (arith, div-le-self n (10 ^ w)) in
@@ -102,6 +101,16 @@ unfolding digits
 few-digits zero more n rest = omega arith
 few-digits (suc f) false n rest = omega arith
 few-digits (suc f) true n rest = omega (arith, few-digits f (not (eqb (n / 10) 0)) (n / 10) ((48 + n % 10) ∷ rest))
+
+some-digits : (f : ℕ) (more : Bool) (n : ℕ) (rest : List ℕ) → length rest ≤ length (digits f more n rest)
+unfolding digits
+some-digits zero more n rest = omega arith
+some-digits (suc f) false n rest = omega arith
+some-digits (suc f) true n rest = omega (arith, some-digits f (not (eqb (n / 10) 0)) (n / 10) ((48 + n % 10) ∷ rest))
+
+pub shown-least : (n : ℕ) → 1 ≤ length (shownNat n)
+unfolding shownNat digits
+shown-least n = some-digits 19 (not (eqb (n / 10) 0)) (n / 10) ((48 + n % 10) ∷ [])
 
 pub shown-most : (n : ℕ) → length (shownNat n) ≤ 20
 unfolding shownNat
@@ -117,7 +126,7 @@ unfolding shown
 whole-length w (pos n) h k = omega (arith, shown-length w n h k)
 whole-length w (negsuc n) h k = omega (arith, shown-length w (suc n) h k)
 
-pub fixed-join : (v w n : ℕ) → fixed (v + w) n ≡ fixed v (n / 10 ^ w) ++ fixed w n
+fixed-join : (v w n : ℕ) → fixed (v + w) n ≡ fixed v (n / 10 ^ w) ++ fixed w n
 unfolding fixed
 fixed-join v zero n = let e : v + 0 ≡ v = omega arith in rw (e, div-one n, append-nil)
 fixed-join v (suc w) n =
@@ -134,34 +143,25 @@ low-digits (suc w) q r =
     let b : (q * 10 ^ w * 10 + r) % 10 ≡ r % 10 = omega arith in
     rw (x, a, b, low-digits w q (r / 10))
 
-pub fixed-rest : (w n : ℕ) → fixed w (n % 10 ^ w) ≡ fixed w n
+fixed-rest : (w n : ℕ) → fixed w (n % 10 ^ w) ≡ fixed w n
 fixed-rest w n = sym (low-digits w (n / 10 ^ w) (n % 10 ^ w)) ∙ ap (fixed w) (div-add-mod' n (10 ^ w))
 
--- ---- put in parts
+-- ---- in parts: the first digits, and the last w
 
-module _ {l m : List ℕ} {at i : ℕ} where
-  pub fixed-puts : {o : List ℕ} {q : ℕ} (v w n : ℕ) → Puts l at (fixed v (n / 10 ^ w)) i m → Puts m i (fixed w (n % 10 ^ w)) q o → Puts l at (fixed (v + w) n) q o
-  fixed-puts v w n p r = puts-as (ap (λ (d : List ℕ). fixed v (n / 10 ^ w) ++ d) (fixed-rest w n) ∙ sym (fixed-join v w n)) (puts-then p r)
+module _ (w n : ℕ) {q r : ℕ} (a : q ≡ n / 10 ^ w) (b : r ≡ n % 10 ^ w) where
+  pub fixed-cut : (v : ℕ) → Parts (fixed (v + w) n) (fixed v q) (fixed w r)
+  fixed-cut v = record { is = rw (a, b, fixed-rest w n) (fixed-join v w n) }
 
-  pub fixed-room : (v w x : ℕ) → Puts l at (fixed v x) i m → at + (v + w) ≤ length l → i + w ≤ length m
-  fixed-room v w x p h = puts-room w p (omega (arith, length-fixed v x))
+  pub shown-cut : (f : ℕ) → suc f + w ≡ 20 → 10 ^ w ≤ n → q < 10 ^ suc f → n < 10 ^ 20 → Parts (shownNat n) (shownNat q) (fixed w r)
+  shown-cut f e h k l = record { is = rw (a, b, fixed-rest w n) (shown-split w f n e h (rw (← a) k) l) }
 
--- a number of more than w digits
-module _ (n : ℕ) (most : n < 10 ^ 20) (w f : ℕ) (e : suc f + w ≡ 20) (more : 10 ^ w ≤ n) (few : n / 10 ^ w < 10 ^ suc f) where
-  -- of exactly one more
-  pub shown-exact : n / 10 ^ w < 10 → shownNat n ≡ fixed (1 + w) n
-  shown-exact h = shown-split w f n e more few most ∙ ap (λ (d : List ℕ). d ++ fixed w n) (shown-digit (n / 10 ^ w) h) ∙ sym (fixed-join 1 w n)
+  -- one more than w
+  pub exact-cut : (f : ℕ) → suc f + w ≡ 20 → 10 ^ w ≤ n → q < 10 → 10 ≤ 10 ^ suc f → n < 10 ^ 20 → Parts (shownNat n) (fixed 1 q) (fixed w r)
+  exact-cut f e h k t l = record { is = rw (← shown-digit q k) (shown-cut f e h (omega arith) l .is) }
 
-  long : length (shownNat n) ≡ length (shownNat (n / 10 ^ w)) + w
-  long = ap length (shown-split w f n e more few most) ∙ length-append (shownNat (n / 10 ^ w)) (fixed w n) ∙ ap (λ (d : ℕ). length (shownNat (n / 10 ^ w)) + d) (length-fixed w n)
+pub shown-exact : (w f n : ℕ) → suc f + w ≡ 20 → 10 ^ w ≤ n → n / 10 ^ w < 10 → 10 ≤ 10 ^ suc f → n < 10 ^ 20 → shownNat n ≡ fixed (1 + w) n
+shown-exact w f n e h k t l = exact-cut w n refl refl f e h k t l .is ∙ sym (fixed-cut w n refl refl 1 .is)
 
-  pub lead-room : (at t : ℕ) → at + length (shownNat n) ≤ t → at + length (shownNat (n / 10 ^ w)) ≤ t
-  lead-room at t h = omega (arith, long)
-
-  module _ {l m : List ℕ} {at i : ℕ} (p : Puts l at (shownNat (n / 10 ^ w)) i m) where
-    pub rest-room : at + length (shownNat n) ≤ length l → i + w ≤ length m
-    rest-room h = puts-room w p (omega (arith, long))
-
-    pub rest-puts : {o : List ℕ} {q : ℕ} → Puts m i (fixed w (n % 10 ^ w)) q o → Puts l at (shownNat n) q o
-    rest-puts r =
-        puts-as (ap (λ (d : List ℕ). shownNat (n / 10 ^ w) ++ d) (fixed-rest w n) ∙ sym (shown-split w f n e more few most)) (puts-then p r)
+-- what is left for w digits behind v
+pub fixed-room : {l m : List ℕ} {at i : ℕ} (v w x : ℕ) → Puts l at (fixed v x) i m → at + (v + w) ≤ length l → i + w ≤ length m
+fixed-room v w x p h = puts-room w p (omega (arith, length-fixed v x))

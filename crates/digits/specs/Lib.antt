@@ -1,3 +1,5 @@
 pub mod Puts
 pub mod Decimal
+pub mod Pairs
+pub mod Eights
 pub mod Magnitude

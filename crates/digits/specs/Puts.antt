@@ -4,7 +4,7 @@ use mathlib.Core.Path.{_≡_, refl, sym, ap, _∙_}
 use mathlib.Core.List.{List, [], _∷_, _++_}
 use native.Mathlib.Omega.{arith}
 use native.Mathlib.Numerals.{add-one}
-use lib.ListN.{length, set, take, drop, length-append}
+use lib.ListN.{length, set, drop, length-append}
 use lib.Seq.{sets, length-sets, sets-eq}
 
 -- the bytes bs put into the buffer from `at` on, and the next place
@@ -12,7 +12,7 @@ pub record Puts (before : List ℕ) (at : ℕ) (bs : List ℕ) (next : ℕ) (aft
   pub place : next ≡ at + length bs
   pub buffer : after ≡ sets before at bs
 
-sets-append : (bs cs l : List ℕ) (at : ℕ) → sets l at (bs ++ cs) ≡ sets (sets l at bs) (at + length bs) cs
+pub sets-append : (bs cs l : List ℕ) (at : ℕ) → sets l at (bs ++ cs) ≡ sets (sets l at bs) (at + length bs) cs
 sets-append [] cs l at = let e : at + 0 ≡ at = omega arith in rw e
 sets-append (b ∷ bs) cs l at = let e : at + suc (length bs) ≡ suc at + length bs = omega arith in rw e (sets-append bs cs (set l at b) (suc at))
 
@@ -40,6 +40,27 @@ puts-none l at = record { place = omega arith; buffer = refl }
 pub puts-one : (l : List ℕ) (at b : ℕ) → Puts l at (b ∷ []) (at + 1) (set l at b)
 puts-one l at b = record { place = refl; buffer = refl }
 
+pub puts-two : (l : List ℕ) (at b d : ℕ) → Puts l at (b ∷ d ∷ []) (at + 2) (set (set l at b) (at + 1) d)
+puts-two l at b d = record { place = refl; buffer = rw (add-one at) }
+
 -- from the start: the bytes, and then what stood there
 pub puts-first : {l m bs : List ℕ} {n : ℕ} → Puts l 0 bs n m → length bs ≤ length l → m ≡ bs ++ drop (length bs) l
 puts-first {l} {m} {bs} p h = let e : 0 + length bs ≡ length bs = omega arith in p .buffer ∙ rw e at (sets-eq bs l 0 (omega arith))
+
+-- ---- a text made of two, put one after the other
+
+pub record Parts (whole bs cs : List ℕ) : Type 0 where
+  pub is : whole ≡ bs ++ cs
+
+module _ {whole bs cs : List ℕ} (e : Parts whole bs cs) where
+  long : length whole ≡ length bs + length cs
+  long = ap length (e .is) ∙ length-append bs cs
+
+  pub room-first : (at t : ℕ) → at + length whole ≤ t → at + length bs ≤ t
+  room-first at t h = omega (arith, long)
+
+  pub room-second : {l m : List ℕ} {at i : ℕ} → at + length whole ≤ length l → Puts l at bs i m → i + length cs ≤ length m
+  room-second h p = puts-room (length cs) p (omega (arith, long))
+
+  pub both-put : {l m o : List ℕ} {at i q : ℕ} → Puts l at bs i m → Puts m i cs q o → Puts l at whole q o
+  both-put p r = puts-as (sym (e .is)) (puts-then p r)

@@ -1,127 +1,234 @@
-// A number's digits, put into a lent buffer from a place on, four at a time; each function answers the next place.
+// A number's digits, put into a lent buffer from a place on, two at a time; each function answers the next place.
 ghost use mathlib.Core.Path.{_≡_};
-ghost use Prim.Native.Nat.{_+_, _^_, _≤_, _<_};
+ghost use Prim.Native.Nat.{_+_, _/_, _^_, _≤_, _<_};
 ghost use lib.ListN.{length};
+ghost use Rattle.whole.specs.Loans.{was, is};
 ghost use Rattle.paper.specs.Listing.{shownNat, shown};
 ghost use Rattle.digits.specs.Puts.{Puts};
 ghost use Rattle.digits.specs.Decimal.{fixed};
+ghost use Rattle.digits.specs.Pairs.{allPairs, tens};
+ghost use Rattle.digits.specs.Eights.{Cut, groupsOf};
 
-fn digit(d: u64) -> u8
-    requires { ⌜ d < 10 ⌝ }
-    ensures { λ r. ⌜ r ≡ 48 + d ⌝ }
+// Both digits of 0 to 99, to look them up. Whoever puts many numbers makes them once.
+pub type Pairs = [u8; 200];
+
+pub fn pairs() -> Pairs
+    ensures { λ r. ⌜ r ≡ allPairs ⌝ }
 {
-    48 + d as u8
+    *b"00010203040506070809\
+       10111213141516171819\
+       20212223242526272829\
+       30313233343536373839\
+       40414243444546474849\
+       50515253545556575859\
+       60616263646566676869\
+       70717273747576777879\
+       80818283848586878889\
+       90919293949596979899"
+}
+
+// ---- quotients, by a product and a shift: 5243 / 2^19 is more than 1 / 100 by too little to be seen below 10^4
+
+fn hundreds(n: u64) -> u64
+    requires { ⌜ n < 10 ^ 4 ⌝ }
+    ensures { λ r. ⌜ r ≡ n / 10 ^ 2 ⌝ }
+{
+    (n * 5_243) >> 19
+}
+
+fn ten_thousands(n: u64) -> u64
+    requires { ⌜ n < 10 ^ 8 ⌝ }
+    ensures { λ r. ⌜ r ≡ n / 10 ^ 4 ⌝ }
+{
+    (n * 109_951_163) >> 40
 }
 
 // ---- so many digits, zeros in front too
 
 fn put_digit(out: &mut [u8], at: usize, n: u64) -> usize
     requires { ⌜ (n < 10) × (at + 1 ≤ length (now out)) ⌝ }
-    ensures { λ r. ⌜ Puts (now (out .entry)) at (fixed 1 n) r (now (out .exit)) ⌝ }
+    ensures { λ r. ⌜ Puts (was out) at (fixed 1 n) r (is out) ⌝ }
 {
-    out[at] = digit(n);
+    out[at] = 48 + n as u8;
     at + 1
 }
 
-fn put_pair(out: &mut [u8], at: usize, n: u64) -> usize
-    requires { ⌜ (n < 10 ^ 2) × (at + 2 ≤ length (now out)) ⌝ }
-    ensures { λ r. ⌜ Puts (now (out .entry)) at (fixed 2 n) r (now (out .exit)) ⌝ }
+fn put_pair(pairs: &Pairs, out: &mut [u8], at: usize, n: u64) -> usize
+    requires { ⌜ (now pairs ≡ allPairs) × (n < 10 ^ 2) × (at + 2 ≤ length (now out)) ⌝ }
+    ensures { λ r. ⌜ Puts (was out) at (fixed 2 n) r (is out) ⌝ }
 {
-    let next = put_digit(out, at, n / 10);
-    put_digit(out, next, n % 10)
+    let place = 2 * n as usize;
+    let first = pairs[place];
+    let second = pairs[place + 1];
+    out[at] = first;
+    out[at + 1] = second;
+    at + 2
 }
 
-fn put_four(out: &mut [u8], at: usize, n: u64) -> usize
-    requires { ⌜ (n < 10 ^ 4) × (at + 4 ≤ length (now out)) ⌝ }
-    ensures { λ r. ⌜ Puts (now (out .entry)) at (fixed 4 n) r (now (out .exit)) ⌝ }
+fn put_four(pairs: &Pairs, out: &mut [u8], at: usize, n: u64) -> usize
+    requires { ⌜ (now pairs ≡ allPairs) × (n < 10 ^ 4) × (at + 4 ≤ length (now out)) ⌝ }
+    ensures { λ r. ⌜ Puts (was out) at (fixed 4 n) r (is out) ⌝ }
 {
-    let next = put_pair(out, at, n / 100);
-    put_pair(out, next, n % 100)
+    let lead = hundreds(n);
+    let next = put_pair(pairs, out, at, lead);
+    put_pair(pairs, out, next, n - 100 * lead)
 }
 
-fn put_eight(out: &mut [u8], at: usize, n: u64) -> usize
-    requires { ⌜ (n < 10 ^ 8) × (at + 8 ≤ length (now out)) ⌝ }
-    ensures { λ r. ⌜ Puts (now (out .entry)) at (fixed 8 n) r (now (out .exit)) ⌝ }
+fn put_eight(pairs: &Pairs, out: &mut [u8], at: usize, n: u64) -> usize
+    requires { ⌜ (now pairs ≡ allPairs) × (n < 10 ^ 8) × (at + 8 ≤ length (now out)) ⌝ }
+    ensures { λ r. ⌜ Puts (was out) at (fixed 8 n) r (is out) ⌝ }
 {
-    let next = put_four(out, at, n / 10_000);
-    put_four(out, next, n % 10_000)
-}
-
-fn put_sixteen(out: &mut [u8], at: usize, n: u64) -> usize
-    requires { ⌜ (n < 10 ^ 16) × (at + 16 ≤ length (now out)) ⌝ }
-    ensures { λ r. ⌜ Puts (now (out .entry)) at (fixed 16 n) r (now (out .exit)) ⌝ }
-{
-    let next = put_eight(out, at, n / 100_000_000);
-    put_eight(out, next, n % 100_000_000)
+    let lead = ten_thousands(n);
+    let next = put_four(pairs, out, at, lead);
+    put_four(pairs, out, next, n - 10_000 * lead)
 }
 
 // ---- a number without zeros in front
 
-fn put_under_four(out: &mut [u8], at: usize, n: u64) -> usize
-    requires { ⌜ (n < 10 ^ 3) × (at + length (shownNat n) ≤ length (now out)) ⌝ }
-    ensures { λ r. ⌜ Puts (now (out .entry)) at (shownNat n) r (now (out .exit)) ⌝ }
+// the first of two digits, or none
+fn put_tens(pairs: &Pairs, out: &mut [u8], at: usize, n: u64) -> usize
+    requires { ⌜ (now pairs ≡ allPairs) × (n < 10 ^ 2) × (at + length (tens n) ≤ length (now out)) ⌝ }
+    ensures { λ r. ⌜ Puts (was out) at (tens n) r (is out) ⌝ }
 {
     if n < 10 {
-        return put_digit(out, at, n);
+        return at;
     }
-    if n < 100 {
-        return put_pair(out, at, n);
-    }
-    let next = put_digit(out, at, n / 100);
-    put_pair(out, next, n % 100)
+    out[at] = pairs[2 * n as usize];
+    at + 1
 }
 
-fn put_to_four(out: &mut [u8], at: usize, n: u64) -> usize
-    requires { ⌜ (n < 10 ^ 4) × (at + length (shownNat n) ≤ length (now out)) ⌝ }
-    ensures { λ r. ⌜ Puts (now (out .entry)) at (shownNat n) r (now (out .exit)) ⌝ }
+// as nodes and branches have
+pub fn put_small(pairs: &Pairs, out: &mut [u8], at: usize, n: u64) -> usize
+    requires { ⌜ (now pairs ≡ allPairs) × (n < 10 ^ 2) × (at + length (shownNat n) ≤ length (now out)) ⌝ }
+    ensures { λ r. ⌜ Puts (was out) at (shownNat n) r (is out) ⌝ }
+{
+    let next = put_tens(pairs, out, at, n);
+    out[next] = pairs[2 * n as usize + 1];
+    next + 1
+}
+
+fn put_under_four(pairs: &Pairs, out: &mut [u8], at: usize, n: u64) -> usize
+    requires { ⌜ (now pairs ≡ allPairs) × (n < 10 ^ 3) × (at + length (shownNat n) ≤ length (now out)) ⌝ }
+    ensures { λ r. ⌜ Puts (was out) at (shownNat n) r (is out) ⌝ }
+{
+    if n < 100 {
+        return put_small(pairs, out, at, n);
+    }
+    let lead = hundreds(n);
+    let next = put_digit(out, at, lead);
+    put_pair(pairs, out, next, n - 100 * lead)
+}
+
+fn put_to_four(pairs: &Pairs, out: &mut [u8], at: usize, n: u64) -> usize
+    requires { ⌜ (now pairs ≡ allPairs) × (n < 10 ^ 4) × (at + length (shownNat n) ≤ length (now out)) ⌝ }
+    ensures { λ r. ⌜ Puts (was out) at (shownNat n) r (is out) ⌝ }
 {
     if n < 1_000 {
-        return put_under_four(out, at, n);
+        return put_under_four(pairs, out, at, n);
     }
-    put_four(out, at, n)
+    put_four(pairs, out, at, n)
 }
 
-fn put_to_eight(out: &mut [u8], at: usize, n: u64) -> usize
-    requires { ⌜ (n < 10 ^ 8) × (at + length (shownNat n) ≤ length (now out)) ⌝ }
-    ensures { λ r. ⌜ Puts (now (out .entry)) at (shownNat n) r (now (out .exit)) ⌝ }
+fn put_to_eight(pairs: &Pairs, out: &mut [u8], at: usize, n: u64) -> usize
+    requires { ⌜ (now pairs ≡ allPairs) × (n < 10 ^ 8) × (at + length (shownNat n) ≤ length (now out)) ⌝ }
+    ensures { λ r. ⌜ Puts (was out) at (shownNat n) r (is out) ⌝ }
 {
     if n < 10_000 {
-        return put_to_four(out, at, n);
+        return put_to_four(pairs, out, at, n);
     }
-    let next = put_to_four(out, at, n / 10_000);
-    put_four(out, next, n % 10_000)
+    let lead = ten_thousands(n);
+    let next = put_to_four(pairs, out, at, lead);
+    put_four(pairs, out, next, n - 10_000 * lead)
 }
 
-fn put_to_sixteen(out: &mut [u8], at: usize, n: u64) -> usize
-    requires { ⌜ (n < 10 ^ 16) × (at + length (shownNat n) ≤ length (now out)) ⌝ }
-    ensures { λ r. ⌜ Puts (now (out .entry)) at (shownNat n) r (now (out .exit)) ⌝ }
+// A number's first digits, and how many groups of eight stand behind them: none, the low one, or both.
+struct Eights {
+    top: u64,
+    groups: usize,
+    middle: u64,
+    low: u64,
+}
+
+fn eights_of(n: u64) -> Eights
+    ensures { λ r. ⌜ Cut n r ⌝ }
 {
     if n < 100_000_000 {
-        return put_to_eight(out, at, n);
+        return Eights {
+            top: n,
+            groups: 0,
+            middle: 0,
+            low: 0,
+        };
     }
-    let next = put_to_eight(out, at, n / 100_000_000);
-    put_eight(out, next, n % 100_000_000)
+    let rest = n / 100_000_000;
+    let low = n - 100_000_000 * rest;
+    if rest < 100_000_000 {
+        return Eights {
+            top: rest,
+            groups: 1,
+            middle: 0,
+            low,
+        };
+    }
+    let top = rest / 100_000_000;
+    Eights {
+        top,
+        groups: 2,
+        middle: rest - 100_000_000 * top,
+        low,
+    }
 }
+
+fn put_groups(pairs: &Pairs, out: &mut [u8], at: usize, p: Eights) -> usize
+    requires { ⌜ (now pairs ≡ allPairs) × (p .middle < 10 ^ 8) × (p .low < 10 ^ 8) ⌝ }
+    requires { ⌜ at + length (groupsOf p) ≤ length (now out) ⌝ }
+    ensures { λ r. ⌜ Puts (was out) at (groupsOf p) r (is out) ⌝ }
+{
+    if p.groups == 0 {
+        return at;
+    }
+    if p.groups == 1 {
+        return put_eight(pairs, out, at, p.low);
+    }
+    let next = put_eight(pairs, out, at, p.middle);
+    put_eight(pairs, out, next, p.low)
+}
+
+pub fn put_natural_by(pairs: &Pairs, out: &mut [u8], at: usize, n: u64) -> usize
+    requires { ⌜ (now pairs ≡ allPairs) × (at + length (shownNat n) ≤ length (now out)) ⌝ }
+    ensures { λ r. ⌜ Puts (was out) at (shownNat n) r (is out) ⌝ }
+{
+    let p = eights_of(n);
+    let next = put_to_eight(pairs, out, at, p.top);
+    put_groups(pairs, out, next, p)
+}
+
+pub fn put_number_by(pairs: &Pairs, out: &mut [u8], at: usize, x: i64) -> usize
+    requires { ⌜ (now pairs ≡ allPairs) × (at + length (shown x) ≤ length (now out)) ⌝ }
+    ensures { λ r. ⌜ Puts (was out) at (shown x) r (is out) ⌝ }
+{
+    let n = whole::magnitude(x);
+    if 0 <= x {
+        return put_natural_by(pairs, out, at, n);
+    }
+    out[at] = b'-';
+    put_natural_by(pairs, out, at + 1, n)
+}
+
+// ---- one number alone
 
 pub fn put_natural(out: &mut [u8], at: usize, n: u64) -> usize
     requires { ⌜ at + length (shownNat n) ≤ length (now out) ⌝ }
     ensures { λ r. ⌜ Puts (now (out .entry)) at (shownNat n) r (now (out .exit)) ⌝ }
 {
-    if n < 10_000_000_000_000_000 {
-        return put_to_sixteen(out, at, n);
-    }
-    let next = put_to_four(out, at, n / 10_000_000_000_000_000);
-    put_sixteen(out, next, n % 10_000_000_000_000_000)
+    let pairs = pairs();
+    put_natural_by(&pairs, out, at, n)
 }
 
 pub fn put_number(out: &mut [u8], at: usize, x: i64) -> usize
     requires { ⌜ at + length (shown x) ≤ length (now out) ⌝ }
     ensures { λ r. ⌜ Puts (now (out .entry)) at (shown x) r (now (out .exit)) ⌝ }
 {
-    let n = whole::magnitude(x);
-    if 0 <= x {
-        return put_natural(out, at, n);
-    }
-    out[at] = b'-';
-    put_natural(out, at + 1, n)
+    let pairs = pairs();
+    put_number_by(&pairs, out, at, x)
 }

@@ -4,10 +4,10 @@ ghost use Rattle.paper.specs.Advance.{memory};
 ghost use Rattle.paper.specs.One.{Reads, Resets, Advances};
 ghost use Rattle.paper.specs.Pieces.{Lists};
 ghost use Rattle.emt.specs.Numbered.{ReadsBy, ResetsBy, AdvancesBy, ListsBy};
+use list_pieces::Piece;
 use paper::Advance;
 use paper::Reading;
 use paper::Resetting;
-use steplist::Piece;
 
 // "Reading: 9, 7, then the first faulty line, in it 1 to 6 in turn"; "An accepted reading writes all 1,024 words, unused ones 0, and answers 0".
 pub fn read(text: &[u8], network: &mut [i64]) -> Reading
@@ -55,7 +55,7 @@ pub fn advance(
 ) -> Advance
     ensures { λ r. ⌜ Advances (now (network .entry)) area (memory (now (records .entry)) (now (froms .entry)) (now (tos .entry))) r (memory (now (records .exit)) (now (froms .exit)) (now (tos .exit))) ⌝ }
 {
-    advancing::advance(network, records, froms, tos, area)
+    call_advance::advance(network, records, froms, tos, area)
 }
 
 // The new count of an area that has advanced, the node or branch that a refusal names, or 0: it is written whatever the answer is.
@@ -70,7 +70,7 @@ pub extern "C" fn emt_advance(
 ) -> u64
     ensures { λ r. ⌜ AdvancesBy (now (network .entry)) area (memory (now (records .entry)) (now (froms .entry)) (now (tos .entry))) r (now (place .exit)) (memory (now (records .exit)) (now (froms .exit)) (now (tos .exit))) ⌝ }
 {
-    let answer = advancing::advance(network, records, froms, tos, area);
+    let answer = call_advance::advance(network, records, froms, tos, area);
     *place = answers::place_or_count(answer);
     answers::advance_number(answer)
 }
@@ -86,7 +86,7 @@ pub fn list(
 ) -> Piece
     ensures { λ r. ⌜ Lists (now (network .entry)) (memory (now (records .entry)) (now (froms .entry)) (now (tos .entry))) (now (out .entry)) (r .answer) (r .count) (now (out .exit)) (memory (now (records .exit)) (now (froms .exit)) (now (tos .exit))) ⌝ }
 {
-    list::list(network, records, froms, tos, out)
+    call_list::list(network, records, froms, tos, out)
 }
 
 // How many bytes are listed: it is written whatever the answer is.
@@ -101,7 +101,7 @@ pub extern "C" fn emt_list(
 ) -> u64
     ensures { λ r. ⌜ ListsBy (now (network .entry)) (memory (now (records .entry)) (now (froms .entry)) (now (tos .entry))) (now (out .entry)) r (now (written .exit)) (now (out .exit)) (memory (now (records .exit)) (now (froms .exit)) (now (tos .exit))) ⌝ }
 {
-    let piece = list::list(network, records, froms, tos, out);
+    let piece = call_list::list(network, records, froms, tos, out);
     let answer = piece.answer;
     *written = piece.count as u64;
     answers::listing_number(answer)

@@ -1,13 +1,11 @@
 -- The lines of a listing in parts: a word, the fields one after another, the end of the line. Assumes nothing.
-use Prim.Native.Nat.{ℕ, _+_, _≤_}
-use mathlib.Core.Path.{_≡_, refl, sym, ap, _∙_}
+use Prim.Native.Nat.{ℕ}
+use mathlib.Core.Path.{refl}
 use mathlib.Core.List.{List, [], _∷_, _++_, append-assoc}
-use native.Mathlib.Omega.{arith}
-use lib.ListN.{length, length-append}
 use lib.IntN.{ℤ, pos}
 use Rattle.paper.specs.Text.{LF, TAB}
 use Rattle.paper.specs.Listing.{shownNat, shown, shownAll, lineOf}
-use Rattle.digits.specs.Puts.{Puts, puts-then, puts-as, puts-room}
+use Rattle.digits.specs.Puts.{Parts}
 
 -- a tab and a number
 unfoldable pub field : ℤ → List ℕ
@@ -19,10 +17,6 @@ countsOf a b = field (pos a) ++ field (pos b)
 -- a letter and two numbers: what every line of a step begins with
 unfoldable pub headOf : ℕ → ℕ → ℕ → List ℕ
 headOf letter k n = (letter ∷ []) ++ countsOf k n
-
--- a text made of two
-pub record Parts (whole bs cs : List ℕ) : Type 0 where
-  pub is : whole ≡ bs ++ cs
 
 pub field-count : (n : ℕ) → Parts (field (pos n)) (TAB ∷ []) (shownNat n)
 unfolding field shown
@@ -58,18 +52,3 @@ line-next letter k n xs = record { is = simp append-assoc }
 
 pub line-word : (w : List ℕ) (xs : List ℤ) → Parts (lineOf w xs) w (shownAll xs)
 line-word w xs = record { is = refl }
-
--- ---- two parts put one after the other
-
-module _ {whole bs cs : List ℕ} (e : Parts whole bs cs) where
-  long : length whole ≡ length bs + length cs
-  long = ap length (e .is) ∙ length-append bs cs
-
-  pub room-first : (at t : ℕ) → at + length whole ≤ t → at + length bs ≤ t
-  room-first at t h = omega (arith, long)
-
-  pub room-second : {l m : List ℕ} {at i : ℕ} → at + length whole ≤ length l → Puts l at bs i m → i + length cs ≤ length m
-  room-second h p = puts-room (length cs) p (omega (arith, long))
-
-  pub both-put : {l m o : List ℕ} {at i q : ℕ} → Puts l at bs i m → Puts m i cs q o → Puts l at whole q o
-  both-put p r = puts-as (sym (e .is)) (puts-then p r)

@@ -4,16 +4,13 @@ use mathlib.Core.Bool.{Bool, true, false, cond, _&&_}
 use mathlib.Core.List.{List}
 use lib.Dec.{leb, eqb}
 use lib.IntN.{ℤ, pos, natAbs}
-use lib.ListN.{getD, set, replicate}
 use lib.Signed.{nonNeg, ltZ, quotZ}
-use lib.Ieee.{Float, fin, nan}
+use lib.Ieee.{Float}
 use Rattle.whole.specs.Lists.{every, upTo}
-use Rattle.whole.specs.Turns.{turns}
 use Rattle.whole.specs.Rounding.{nearest}
-use Rattle.paper.specs.declared.Equation.{Equation}
 use Rattle.paper.specs.declared.Rounded.{Rounded}
 use Rattle.paper.specs.declared.Rounded.the-variants.{Whole, Outside}
-use Rattle.paper.specs.Elimination.{sys, voltages}
+use Rattle.step_factors.specs.Factored.{factored, substituted}
 
 -- an answer, and what is written where it is yes
 pub record Out (A : Type 0) : Type 0 where
@@ -36,12 +33,6 @@ unfoldable pub rounded : ℤ → Rounded → Out ℤ
 rounded old (Whole v) = out true v
 rounded old Outside = out false old
 
--- each row's pivot and right side, from two lists
-abbrev pub pair : List Float → List Float → ℕ → List Equation → List Equation
-pair ps rs r rows = set rows r (record { pivot = getD ps r nan; right = getD rs r nan })
-
-unfoldable pub paired : List Float → List Float → List Equation
-paired ps rs = turns 0 32 (pair ps rs) (replicate 32 (record { pivot = fin false 0 (pos 0); right = fin false 0 (pos 0) }))
-
-unfoldable pub solution : List (List Float) → List Float → List Float → ℕ → List Float → Out (List Float)
-solution a ps rs n old = cond (leb n 32) (out true (voltages n (sys a (paired ps rs)))) (out false old)
+-- the solution where n rows fit, from the factors of the matrix
+unfoldable pub solution : List (List Float) → List Float → ℕ → List Float → Out (List Float)
+solution a rights n old = cond (leb n 32) (out true (substituted 0 n (factored 0 n a) rights)) (out false old)

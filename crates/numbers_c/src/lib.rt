@@ -1,13 +1,13 @@
 // The numbers layer for programs in C. No function requires anything: what a callee requires is tested here.
 ghost use mathlib.Core.Path.{_≡_};
+ghost use Rattle.whole.specs.Loans.{was, is};
 ghost use Rattle.paper.specs.Doubles.{double, nearestOf};
-ghost use Rattle.numbers_c.specs.Outcomes.{wordsJudged, quotientOf, partOf, out, rounded, paired, solution};
-use paper::Equation;
+ghost use Rattle.numbers_c.specs.Outcomes.{wordsJudged, quotientOf, partOf, out, rounded, solution};
 use paper::Rounded;
 
 #[no_mangle]
 pub extern "C" fn numbers_all_within(xs: &[i64], most: i64) -> bool
-    ensures { λ r. ⌜ r ≡ wordsJudged most (now (xs .entry)) ⌝ }
+    ensures { λ r. ⌜ r ≡ wordsJudged most (was xs) ⌝ }
 {
     if most < 0 {
         return false;
@@ -45,7 +45,7 @@ pub extern "C" fn numbers_to_double(x: i64) -> f64
 // Whether x is within the voltage range; if so, its nearest whole number is written.
 #[no_mangle]
 pub extern "C" fn numbers_nearest(x: f64, whole: &mut i64) -> bool
-    ensures { λ r. ⌜ out r (now (whole .exit)) ≡ rounded (now (whole .entry)) (nearestOf x) ⌝ }
+    ensures { λ r. ⌜ out r (is whole) ≡ rounded (was whole) (nearestOf x) ⌝ }
 {
     let r = double::nearest(x);
     match r {
@@ -57,41 +57,22 @@ pub extern "C" fn numbers_nearest(x: f64, whole: &mut i64) -> bool
     }
 }
 
-fn equations(pivots: &[f64; 32], rights: &[f64; 32]) -> [Equation; 32]
-    ensures { λ r. ⌜ r ≡ paired (now (pivots .entry)) (now (rights .entry)) ⌝ }
-{
-    let mut rows = [Equation {
-        pivot: 0.0,
-        right: 0.0,
-    }; 32];
-    let mut r = 0;
-    while r < 32 {
-        rows[r] = Equation {
-            pivot: pivots[r],
-            right: rights[r],
-        };
-        r += 1;
-    }
-    rows
-}
-
-// Whether n is at most 32; if so, the solution of the system is written.
+// Whether n is at most 32; if so, x has the solution of the first n rows, and from its place n on the words of rights.
 #[no_mangle]
 pub extern "C" fn numbers_solve(
     a: &[[f64; 32]; 32],
-    pivots: &[f64; 32],
     rights: &[f64; 32],
     n: usize,
     x: &mut [f64; 32],
 ) -> bool
-    ensures { λ r. ⌜ out r (now (x .exit)) ≡ solution (now (a .entry)) (now (pivots .entry)) (now (rights .entry)) n (now (x .entry)) ⌝ }
+    ensures { λ r. ⌜ out r (is x) ≡ solution (was a) (was rights) n (was x) ⌝ }
 {
     if 32 < n {
         return false;
     }
-    let rows = equations(pivots, rights);
-    let mut matrix = *a;
-    let found = gauss::solve(&mut matrix, rows, n);
-    *x = found;
+    let mut factors = *a;
+    step_factors::factor(&mut factors, 0, n);
+    *x = *rights;
+    step_factors::substitute(&factors, 0, x, n);
     true
 }

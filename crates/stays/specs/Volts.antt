@@ -1,6 +1,6 @@
 -- "Each x within the voltage range goes to the nearest whole number", which is within it too, and so are the sources' values: every voltage of a
 -- step is in the voltage range. Assumes nothing.
-use Prim.Native.Nat.{ℕ, zero, suc, _≤_}
+use Prim.Native.Nat.{ℕ, _≤_}
 use native.Mathlib.Omega.{arith}
 use mathlib.Core.Path.{_≡_, refl, sym}
 use mathlib.Core.Bool.{Bool, true, false, cond}
@@ -20,8 +20,8 @@ use Rattle.paper.specs.Doubles.{inRange, wholeOf, nearestOf}
 use Rattle.paper.specs.Elimination.{voltages}
 use Rattle.paper.specs.Solve.{system, proposed, settled, stillOf}
 use Rattle.facts.specs.Nets.{NetSound}
-use Rattle.double.specs.Halves.{whole-most}
-use Rattle.sources.specs.Sizes.{still-end}
+use Rattle.laws_volts.specs.Range.{whole-most, set-end}
+use Rattle.laws_volts.specs.Still.{still-end}
 use Rattle.local.specs.Outcome.{rounded, voltsOf}
 
 -- a double that is rounded
@@ -38,18 +38,11 @@ nearest-size x v e = go (inRange x) refl e
 abbrev pub AllVolts : Words → Type 0
 AllVolts v = (j : ℕ) → natAbs (word v j) ≤ Limits.voltageEnd
 
-set-volts : (v : Words) (i : ℕ) (x : ℤ) → natAbs x ≤ Limits.voltageEnd → AllVolts v → AllVolts (set v i x)
-set-volts [] i x h p j = p j
-set-volts (y ∷ v) zero x h p zero = h
-set-volts (y ∷ v) zero x h p (suc j) = p (suc j)
-set-volts (y ∷ v) (suc i) x h p zero = p zero
-set-volts (y ∷ v) (suc i) x h p (suc j) = set-volts v i x h (λ j. p (suc j)) j
-
 settled-volts : (ns : List ℕ) (xs : List Rounded) (v : Words) → ((x : ℤ) → Among (Whole x) xs → natAbs x ≤ Limits.voltageEnd) → AllVolts v → AllVolts (settled ns xs v)
 unfolding settled
 settled-volts [] xs v h p = p
 settled-volts (n ∷ ns) [] v h p = p
-settled-volts (n ∷ ns) (Whole x ∷ xs) v h p = settled-volts ns xs (set v n x) (λ y q. h y (below q)) (set-volts v n x (h x (top refl)) p)
+settled-volts (n ∷ ns) (Whole x ∷ xs) v h p = settled-volts ns xs (set v n x) (λ y q. h y (below q)) (λ j. set-end v n j Limits.voltageEnd x (h x (top refl)) (p j))
 settled-volts (n ∷ ns) (Outside ∷ xs) v h p = settled-volts ns xs v (λ y q. h y (below q)) p
 
 mapped-volts : (xs : List Float) (x : ℤ) → Among (Whole x) (map nearestOf xs) → natAbs x ≤ Limits.voltageEnd
@@ -61,4 +54,4 @@ proposed-volts legs free still inject = mapped-volts (take (length free) (voltag
 
 pub step-volts : (N : Net) → NetSound N → (a k : ℕ) (bs : List Branch) → AllVolts (voltsOf N a k bs)
 step-volts N s a k bs =
-    settled-volts (freeOf N a) (rounded N a k bs) (stillOf N a k) (proposed-volts (bothLegs bs) (freeOf N a) (stillOf N a k) (injected (N .rows) k)) (still-end N s k a)
+    settled-volts (freeOf N a) (rounded N a k bs) (stillOf N a k) (proposed-volts (bothLegs bs) (freeOf N a) (stillOf N a k) (injected (N .rows) k)) (still-end N s a k)

@@ -4,6 +4,7 @@ pub mod Truths
 pub mod Repeats
 pub mod Turns
 pub mod Lists
+pub mod Loans
 pub mod Int
 pub mod Size
 pub mod Linear

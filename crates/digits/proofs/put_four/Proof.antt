@@ -1,15 +1,21 @@
 -- `digits::put_four` meets its contract: the halves, one after the other. Assumes nothing.
 use native.Mathlib.Omega.{arith}
 use borrow.Author.Needs.{needs}
-use Rattle.digits.specs.Decimal.{fixed-puts, fixed-room}
+use Rattle.digits.specs.Puts.{both-put}
+use Rattle.digits.specs.Decimal.{fixed-cut, fixed-room}
 use Rattle.digits.proofs.put_four.Statement.{statement}
 use Rattle.digits.proofs.put_four.Tie as tie
 
-put-pair-requires-2 : tie.Need-put-pair-requires-2
-put-pair-requires-2 c κs = (omega arith, fixed-room 2 2 _ (c .before .before .before .put-pair .ensures) (omega (arith, c .before .before .before .before .before .before .pre .1)))
+second : tie.Need-put-pair-requires-2
+second c κs =
+    let s = c .before .before .before .before .before .before .before in
+    (s .pre .0, omega (arith, c .before .before .before .before .before .hundreds .ensures), fixed-room 2 2 _ (c .before .before .before .put-pair .ensures) (s .pre .2))
 
 returns : tie.Need-returns
-returns c = fixed-puts 2 2 (c .before .before .before .before .before .before .before .before .before .args .n) (c .before .before .before .before .before .before .put-pair .ensures) (c .before .before .put-pair2 .ensures)
+returns c =
+    let q = c .before .before .before .before .before .before .before .before .hundreds .ensures in
+    both-put (fixed-cut 2 (c .before .before .before .before .before .before .before .before .before .before .args .n) q (omega (arith, q)) 2)
+    (c .before .before .before .before .before .before .put-pair .ensures) (c .before .before .put-pair2 .ensures)
 
 pub put-four-spec : {M : Type 1} → statement M
-put-four-spec = tie.close (tie.spec (λ c κs. search needs) put-pair-requires-2 (λ c. search needs) returns)
+put-four-spec = tie.close (tie.spec (λ c κs. search needs) (λ c κs. search needs) (λ c. search needs) (λ c. search needs) second (λ c. search needs) returns)

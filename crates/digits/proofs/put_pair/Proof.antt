@@ -1,15 +1,21 @@
--- `digits::put_pair` meets its contract: the halves, one after the other. Assumes nothing.
+-- `digits::put_pair` meets its contract: both digits are those looked up. Assumes nothing.
+use Prim.Native.Nat.{_+_, _/_, _%_}
 use native.Mathlib.Omega.{arith}
 use borrow.Author.Needs.{needs}
-use Rattle.digits.specs.Decimal.{fixed-puts, fixed-room}
+use lib.ListN.{length-set}
+use Rattle.digits.specs.Puts.{puts-two}
+use Rattle.digits.specs.Pairs.{pair-tens, pair-ones, fixed-pair}
 use Rattle.digits.proofs.put_pair.Statement.{statement}
 use Rattle.digits.proofs.put_pair.Tie as tie
 
-put-digit-requires-2 : tie.Need-put-digit-requires-2
-put-digit-requires-2 c κs = (omega arith, fixed-room 1 1 _ (c .before .before .before .put-digit .ensures) (omega (arith, c .before .before .before .before .before .before .pre .1)))
+slice-write-out-2 : tie.Need-slice-write-out-2
+slice-write-out-2 c = rw length-set (omega (arith, c .before .before .pre .2))
 
 returns : tie.Need-returns
-returns c = fixed-puts 1 1 (c .before .before .before .before .before .before .before .before .before .args .n) (c .before .before .before .before .before .before .put-digit .ensures) (c .before .before .put-digit2 .ensures)
+returns c =
+    let s = c .before .before in
+    rw (s .pre .0, pair-tens (s .args .n) (s .pre .1), pair-ones (s .args .n) (s .pre .1), fixed-pair (s .args .n) (s .pre .1))
+    (puts-two (s .args .out .now) (s .args .at) (48 + s .args .n / 10) (48 + s .args .n % 10))
 
 pub put-pair-spec : {M : Type 1} → statement M
-put-pair-spec = tie.close (tie.spec (λ c κs. search needs) put-digit-requires-2 (λ c. search needs) returns)
+put-pair-spec = tie.close (tie.spec (λ c. search needs) (λ c. search needs) (λ c. search needs) (λ c. search needs) (λ c. search needs) (λ c. search needs) slice-write-out-2 (λ c. search needs) (λ c. search needs) returns)

@@ -1,40 +1,35 @@
--- `digits::put_to_eight` meets its contract: the last 4 digits after those before them. Assumes nothing.
-use Prim.Native.Nat.{ℕ, _≤_, _<_, _+_, _/_, _%_, _^_}
-use mathlib.Core.Path.{refl}
-use mathlib.Core.List.{List}
+-- `digits::put_to_eight` meets its contract: up to four digits, or these and four. Assumes nothing.
+use Prim.Native.Nat.{ℕ, _-_, _*_, _/_, _^_, _≤_, _<_}
+use mathlib.Core.Path.{_≡_, refl}
 use native.Mathlib.Omega.{arith}
 use borrow.Author.Needs.{needs}
-use lib.ListN.{length}
 use Rattle.paper.specs.Listing.{shownNat}
-use Rattle.digits.specs.Puts.{Puts}
-use Rattle.digits.specs.Decimal.{fixed, lead-room, rest-room, rest-puts}
+use Rattle.digits.specs.Puts.{Parts, room-first, room-second, both-put}
+use Rattle.digits.specs.Decimal.{fixed, length-fixed, shown-cut}
 use Rattle.digits.proofs.put_to_eight.Statement.{statement}
 use Rattle.digits.proofs.put_to_eight.Tie as tie
 
-module _ (n : ℕ) (l : 10 ^ 4 ≤ n) (h : n < 10 ^ 8) where
-  lead-fits : (at t : ℕ) → at + length (shownNat n) ≤ t → at + length (shownNat (n / 10 ^ 4)) ≤ t
-  lead-fits = lead-room n (omega arith) 4 15 refl l (omega arith)
-
-  rest-fits : {b d : List ℕ} {at i : ℕ} → Puts b at (shownNat (n / 10 ^ 4)) i d → at + length (shownNat n) ≤ length b → i + 4 ≤ length d
-  rest-fits = rest-room n (omega arith) 4 15 refl l (omega arith)
-
-  both : {b d o : List ℕ} {at i q : ℕ} → Puts b at (shownNat (n / 10 ^ 4)) i d → Puts d i (fixed 4 (n % 10 ^ 4)) q o → Puts b at (shownNat n) q o
-  both p = rest-puts n (omega arith) 4 15 refl l (omega arith) p
-
-put-to-four-requires : tie.Need-put-to-four-requires
-put-to-four-requires c κs = (c .before .if1 .taken, c .before .before .before .pre .1)
-
-returns : tie.Need-returns
-returns c = c .before .before .put-to-four .ensures
+more : (n q : ℕ) → 10000 ≤ n → n < 10 ^ 8 → q ≡ n / 10 ^ 4 → Parts (shownNat n) (shownNat q) (fixed 4 (n - 10000 * q))
+more n q l h e = shown-cut 4 n e (omega arith) 15 refl l (omega arith) (omega arith)
 
 put-to-four-requires-2 : tie.Need-put-to-four-requires-2
-put-to-four-requires-2 c κs = (omega (arith, c .before .before .before .pre .0), lead-fits (c .before .before .before .args .n) (c .before .if1 .left) (c .before .before .before .pre .0) (c .before .before .before .args .at) _ (c .before .before .before .pre .1))
+put-to-four-requires-2 c κs =
+    let s = c .before .before .before .before in
+    let q = c .before .ten-thousands in
+    (s .pre .0, omega (arith, s .pre .1, q .ensures), room-first (more (s .args .n) (q .result) (c .before .before .if1 .left) (s .pre .1) (q .ensures)) (s .args .at) _ (s .pre .2))
 
 put-four-requires : tie.Need-put-four-requires
-put-four-requires c κs = (omega arith, rest-fits (c .before .before .before .before .before .before .before .args .n) (c .before .before .before .before .before .if1 .left) (c .before .before .before .before .before .before .before .pre .0) (c .before .before .before .put-to-four2 .ensures) (c .before .before .before .before .before .before .before .pre .1))
+put-four-requires c κs =
+    let s = c .before .before .before .before .before .before .before .before in
+    let q = c .before .before .before .before .before .ten-thousands in
+    let t = more (s .args .n) (q .result) (c .before .before .before .before .before .before .if1 .left) (s .pre .1) (q .ensures) in
+    (s .pre .0, omega (arith, q .ensures), omega (arith, room-second t (s .pre .2) (c .before .before .before .put-to-four2 .ensures), length-fixed 4 (s .args .n - 10000 * q .result)))
 
 returns-2 : tie.Need-returns-2
-returns-2 c = both (c .before .before .before .before .before .before .before .before .before .before .args .n) (c .before .before .before .before .before .before .before .before .if1 .left) (c .before .before .before .before .before .before .before .before .before .before .pre .0) (c .before .before .before .before .before .before .put-to-four2 .ensures) (c .before .before .put-four .ensures)
+returns-2 c =
+    let s = c .before .before .before .before .before .before .before .before .before .before .before in
+    let q = c .before .before .before .before .before .before .before .before .ten-thousands in
+    both-put (more (s .args .n) (q .result) (c .before .before .before .before .before .before .before .before .before .if1 .left) (s .pre .1) (q .ensures)) (c .before .before .before .before .before .before .put-to-four2 .ensures) (c .before .before .put-four .ensures)
 
 pub put-to-eight-spec : {M : Type 1} → statement M
-put-to-eight-spec = tie.close (tie.spec put-to-four-requires (λ c. search needs) returns put-to-four-requires-2 put-four-requires (λ c. search needs) returns-2)
+put-to-eight-spec = tie.close (tie.spec (λ c κs. search needs) (λ c. search needs) (λ c. search needs) (λ c κs. search needs) put-to-four-requires-2 (λ c. search needs) (λ c. search needs) put-four-requires (λ c. search needs) returns-2)

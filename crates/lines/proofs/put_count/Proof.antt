@@ -1,6 +1,7 @@
 -- `lines::put_count` meets its contract: two parts, one after the other. Assumes nothing.
 use borrow.Author.Needs.{needs}
-use Rattle.lines.specs.Parts.{field-count, room-first, room-second, both-put}
+use Rattle.digits.specs.Puts.{room-first, room-second, both-put}
+use Rattle.lines.specs.Parts.{field-count}
 use Rattle.lines.proofs.put_count.Statement.{statement}
 use Rattle.lines.proofs.put_count.Tie as tie
 

@@ -1,6 +1,7 @@
 -- `lines::put_counts` meets its contract: two parts, one after the other. Assumes nothing.
 use borrow.Author.Needs.{needs}
-use Rattle.lines.specs.Parts.{counts-are, room-first, room-second, both-put}
+use Rattle.digits.specs.Puts.{room-first, room-second, both-put}
+use Rattle.lines.specs.Parts.{counts-are}
 use Rattle.lines.proofs.put_counts.Statement.{statement}
 use Rattle.lines.proofs.put_counts.Tie as tie
 

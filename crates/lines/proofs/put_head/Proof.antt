@@ -1,6 +1,7 @@
 -- `lines::put_head` meets its contract: two parts, one after the other. Assumes nothing.
 use borrow.Author.Needs.{needs}
-use Rattle.lines.specs.Parts.{head-is, room-first, room-second, both-put}
+use Rattle.digits.specs.Puts.{room-first, room-second, both-put}
+use Rattle.lines.specs.Parts.{head-is}
 use Rattle.lines.proofs.put_head.Statement.{statement}
 use Rattle.lines.proofs.put_head.Tie as tie
 

@@ -1,7 +1,8 @@
 -- `lines::put_last_count` meets its contract: two parts, one after the other. Assumes nothing.
 use borrow.Author.Needs.{needs}
 use lib.IntN.{pos}
-use Rattle.lines.specs.Parts.{fields-last, room-first, room-second, both-put}
+use Rattle.digits.specs.Puts.{room-first, room-second, both-put}
+use Rattle.lines.specs.Parts.{fields-last}
 use Rattle.lines.proofs.put_last_count.Statement.{statement}
 use Rattle.lines.proofs.put_last_count.Tie as tie
 

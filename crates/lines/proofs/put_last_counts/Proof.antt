@@ -2,7 +2,8 @@
 use mathlib.Core.List.{[], _∷_}
 use borrow.Author.Needs.{needs}
 use lib.IntN.{pos}
-use Rattle.lines.specs.Parts.{fields-next, room-first, room-second, both-put}
+use Rattle.digits.specs.Puts.{room-first, room-second, both-put}
+use Rattle.lines.specs.Parts.{fields-next}
 use Rattle.lines.proofs.put_last_counts.Statement.{statement}
 use Rattle.lines.proofs.put_last_counts.Tie as tie
 

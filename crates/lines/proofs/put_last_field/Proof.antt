@@ -1,7 +1,8 @@
 -- `lines::put_last_field` meets its contract: two parts, one after the other. Assumes nothing.
 use borrow.Author.Needs.{needs}
 use mir.Facts.{toZ-ofZ}
-use Rattle.lines.specs.Parts.{fields-last, room-first, room-second, both-put}
+use Rattle.digits.specs.Puts.{room-first, room-second, both-put}
+use Rattle.lines.specs.Parts.{fields-last}
 use Rattle.lines.proofs.put_last_field.Statement.{statement}
 use Rattle.lines.proofs.put_last_field.Tie as tie
 

@@ -2,7 +2,8 @@
 use mathlib.Core.List.{[], _∷_}
 use borrow.Author.Needs.{needs}
 use lib.IntN.{pos}
-use Rattle.lines.specs.Parts.{counts-next, room-first, room-second, both-put}
+use Rattle.digits.specs.Puts.{room-first, room-second, both-put}
+use Rattle.lines.specs.Parts.{counts-next}
 use Rattle.lines.proofs.put_last_four.Statement.{statement}
 use Rattle.lines.proofs.put_last_four.Tie as tie
 

@@ -1,1 +1,0 @@
-// Which cells the elimination reads. The crate is its specs.

@@ -1,0 +1,93 @@
+// The areas' counts of steps, by the plan: how far those at a line's two ends may part (part of refusal 10), when an area must wait (refusal 13), and how
+// many steps all have taken.
+ghost use mathlib.Core.Path.{_≡_};
+ghost use Rattle.whole.specs.Lists.{every, numbers};
+ghost use Rattle.whole.specs.Loans.{was};
+ghost use Rattle.paper.specs.Areas.{Net};
+ghost use Rattle.paper.specs.Records.{countOf};
+ghost use Rattle.paper.specs.Advance.{firstLate};
+ghost use Rattle.call_counts.specs.Counts.{CountIn, CountsIn, LineIn, Counted, nearBy, waitsBy};
+ghost use Rattle.call_counts.specs.Lines.{RowsOf};
+ghost use Rattle.call_counts.specs.Level.{takenBy, tookAll};
+use paper::kinds;
+use plan_rows::Row;
+use plan_rows::Table;
+
+pub mod sections;
+
+// How many steps area a has taken.
+pub fn count_of(records: &[i64], a: usize) -> usize
+    requires { ⌜ CountIn (now records) a ⌝ }
+    ensures { λ r. ⌜ r ≡ countOf (was records) a ⌝ }
+{
+    let word = records[sections::COUNTS + (a - 1)];
+    word as usize
+}
+
+// "areas at a line's two ends differ by at most d in count"
+pub fn near(r: Row, records: &[i64]) -> bool
+    requires { ⌜ LineIn (now records) r ⌝ }
+    ensures { λ b. ⌜ b ≡ nearBy (was records) r ⌝ }
+{
+    if r.kind != kinds::LINE {
+        return true;
+    }
+    let from = count_of(records, r.from_area);
+    let to = count_of(records, r.to_area);
+    (from <= to + r.delay) & (to <= from + r.delay)
+}
+
+// 13 WAIT: "a far area's count is below k - d"
+fn waits_for(r: Row, records: &[i64], area: usize, k: usize) -> bool
+    requires { ⌜ LineIn (now records) r ⌝ }
+    ensures { λ b. ⌜ b ≡ waitsBy area k (was records) r ⌝ }
+{
+    if r.kind != kinds::LINE {
+        return false;
+    }
+    let from = count_of(records, r.from_area);
+    let to = count_of(records, r.to_area);
+    ((r.from_area == area) & (to + r.delay < k)) | ((r.to_area == area) & (from + r.delay < k))
+}
+
+// The place, from 1, of the first row that the area's step k waits for; 0 where there is none.
+pub fn first_late(plan: &Table, rows: usize, records: &[i64], area: usize, k: usize) -> usize
+    requires { ⌜ Counted (now plan) rows (now records) ⌝ }
+    ensures { λ r. ⌜ ((N : Net) → RowsOf N (was plan) rows → r ≡ firstLate N area k (was records) 0 (N .rows)) ⌝ }
+{
+    let mut i = 0;
+    while i < rows {
+        let r = plan_rows::row_at(plan, i);
+        if waits_for(r, records, area, k) {
+            return i + 1;
+        }
+        i += 1;
+    }
+    0
+}
+
+// How many steps all areas have taken, where they have taken as many: area 1 tells; without areas, all of them.
+pub fn steps_taken(records: &[i64], areas: usize, steps: usize) -> usize
+    requires { ⌜ CountsIn (now records) areas ⌝ }
+    ensures { λ r. ⌜ r ≡ takenBy (was records) areas steps ⌝ }
+{
+    if areas < 1 {
+        return steps;
+    }
+    count_of(records, 1)
+}
+
+// Whether each area has taken so many.
+pub fn all_taken(records: &[i64], areas: usize, taken: usize) -> bool
+    requires { ⌜ CountsIn (now records) areas ⌝ }
+    ensures { λ r. ⌜ r ≡ every (tookAll (was records) taken) (numbers 1 areas) ⌝ }
+{
+    let mut all = true;
+    let mut passed = 0;
+    while passed < areas {
+        passed += 1;
+        let its = count_of(records, passed);
+        all = all & (its == taken);
+    }
+    all
+}

@@ -1,0 +1,59 @@
+-- The tables of a network's areas as they are laid, before any step: what a piece of the listing begins from. Assumes nothing.
+use Prim.Native.Nat.{ℕ}
+use native.Mathlib.Omega.{arith}
+use mathlib.Core.Path.{_≡_}
+use mathlib.Core.Bool.{true, _&&_}
+use mathlib.Core.List.{List}
+use lib.Ieee.{Float}
+use Rattle.whole.specs.Lists.{Words}
+use Rattle.whole.specs.Folds.{and-left, and-right}
+use Rattle.paper.specs.Network.{isNetwork}
+use Rattle.paper.specs.Areas.{areaCount}
+use Rattle.paper.specs.Records.{wellFormed}
+use Rattle.paper.specs.Advance.{Memory}
+use Rattle.paper.specs.Pieces.{stepsTaken, level}
+use Rattle.facts.specs.Nets.{netIn}
+use Rattle.plan_rows.specs.declared.Totals.{Totals}
+use Rattle.plan_net.specs.Of.{Of}
+use Rattle.plan_own.specs.Owns.{Laid, Unprepared}
+use Rattle.step_factors.specs.Factors.{Square}
+use Rattle.call_counts.specs.Level.{took-at}
+use Rattle.call_state.specs.Judged.{Long}
+use Rattle.list_round.specs.Round.{InStep, AllTables}
+use Rattle.list_pieces.specs.Begun.{Begins}
+
+-- a state that was judged to be in step
+pub level-here : (net : Words) (m : Memory) → isNetwork net ≡ true → Long (m .records) (m .froms) (m .tos)
+    → (wellFormed (netIn net) (m .records) (m .froms) (m .tos) && level (netIn net) (m .records)) ≡ true → InStep net (stepsTaken (netIn net) (m .records)) m
+unfolding level
+level-here net m n l e =
+    let N = netIn net in
+    let good = wellFormed N (m .records) (m .froms) (m .tos) in
+    record {
+      network = n;
+      level =
+          record {
+            inv = record { long = record { records = l .records-long; froms = l .froms-long; tos = l .tos-long }; good = and-left good (level N (m .records)) e };
+            counts = took-at (m .records) (areaCount N) (stepsTaken N (m .records)) (and-right good (level N (m .records)) e);
+          };
+    }
+
+module _ (net : Words) {plan owns : List (List ℕ)} {totals : Totals} {legs : List Words} {nodes : List ℕ} {sources : List Words} (o : Of (netIn net) plan totals) (l : Laid (netIn net) owns legs nodes sources)
+    (u : Unprepared (netIn net) owns) where
+  laid-tables : (f : List (List Float)) → Square f → AllTables net 1 plan owns legs nodes sources f
+  laid-tables f q =
+      record {
+        sound = o .sound;
+        planned = o .planned;
+        least = omega arith;
+        most = omega arith;
+        long = l .long;
+        tables = l .tables;
+        square = q;
+        ours = λ a i h. l .ours a i (omega arith);
+        apart = λ a b i h k. l .apart a b i h (omega arith);
+        kept = λ a j i h k r. absurd (omega (arith, u .until a i (omega arith)));
+      }
+
+  pub begins : {m : Memory} → InStep net (stepsTaken (netIn net) (m .records)) m → Begins net plan totals owns legs nodes sources m
+  begins v = record { of = o; tables = laid-tables; level = v }

@@ -1,0 +1,136 @@
+// The listing, on all inputs: 9, 8, then 10, and the next piece of the listing in a lent buffer. A refused call writes nothing.
+ghost use mathlib.Core.Path.{_≡_};
+ghost use mathlib.Core.Bool.{true, _&&_};
+ghost use Prim.Native.Nat.{_≤_};
+ghost use lib.ListN.{length};
+ghost use Rattle.whole.specs.Loans.{was, is};
+ghost use Rattle.paper.specs.Limits as Limits;
+ghost use Rattle.paper.specs.Areas.{Net};
+ghost use Rattle.paper.specs.Network.{isNetwork};
+ghost use Rattle.paper.specs.Records.{wellFormed};
+ghost use Rattle.paper.specs.Advance.{memory};
+ghost use Rattle.paper.specs.Pieces.{stepsTaken, level, pieceOf, onLevel, Lists};
+ghost use Rattle.facts.specs.Nets.{netIn};
+ghost use Rattle.rows.specs.Mapped.{Mapped};
+ghost use Rattle.plan_net.specs.Of.{Of, OfSome};
+ghost use Rattle.call_state.specs.Judged.{Long};
+ghost use Rattle.list_round.specs.Round.{InStep};
+ghost use Rattle.list_pieces.specs.Sofar.{Gives};
+use list_pieces::Piece;
+use paper::Listing;
+use paper::Room;
+use plan_rows::Table;
+use plan_rows::Totals;
+
+// 10, or not: the state is well formed, and all areas have taken as many steps.
+fn in_step(plan: &Table, totals: Totals, records: &[i64], froms: &[i64], tos: &[i64]) -> bool
+    requires { ⌜ OfSome (now plan) totals × Long (now records) (now froms) (now tos) ⌝ }
+    ensures { λ r. ⌜ ((N : Net) → Of N (was plan) totals → r ≡ (wellFormed N (was records) (was froms) (was tos) && level N (was records))) ⌝ }
+{
+    if !call_state::well_formed(plan, totals, records, froms, tos) {
+        return false;
+    }
+    let taken = call_counts::steps_taken(records, totals.areas, totals.steps);
+    call_counts::all_taken(records, totals.areas, taken)
+}
+
+// The piece, from tables that hold all areas: a call that is refused before does not pay for them.
+fn onward(
+    net: &[i64],
+    plan: &Table,
+    area: &[usize; 33],
+    totals: Totals,
+    records: &mut [i64],
+    froms: &mut [i64],
+    tos: &mut [i64],
+    out: &mut [u8],
+) -> Piece
+    requires { ⌜ Of (netIn (now net)) (now plan) totals × Mapped (netIn (now net)) (now area) ⌝ }
+    requires { ⌜ InStep (now net) (stepsTaken (netIn (now net)) (now records)) (memory (now records) (now froms) (now tos)) ⌝ }
+    requires { ⌜ Limits.stepBytes ≤ length (now out) ⌝ }
+    ensures { λ r. ⌜ Gives (pieceOf (was net) (netIn (was net)) (memory (was records) (was froms) (was tos)) (length (was out))) (was out) (r .answer) (r .count) (is out) (memory (is records) (is froms) (is tos)) ⌝ }
+{
+    let fixed = plan_own::fixed_nodes(net, totals.rows);
+    let mut legs = [[0; 9]; 160];
+    let mut nodes = [0; 32];
+    let mut sources = [[0; 5]; 16];
+    let mut owns = [[0; 8]; 33];
+    plan_own::lay_all(
+        net,
+        plan,
+        area,
+        &fixed,
+        totals,
+        &mut legs,
+        &mut nodes,
+        &mut sources,
+        &mut owns,
+    );
+    list_pieces::steps_on(
+        plan,
+        totals,
+        &mut owns,
+        &mut legs,
+        &nodes,
+        &sources,
+        records,
+        froms,
+        tos,
+        out,
+    )
+}
+
+// 10, or the piece, of a network that passes.
+fn on_network(
+    net: &[i64],
+    records: &mut [i64],
+    froms: &mut [i64],
+    tos: &mut [i64],
+    out: &mut [u8],
+) -> Piece
+    requires { ⌜ (isNetwork (now net) ≡ true) × Long (now records) (now froms) (now tos) ⌝ }
+    requires { ⌜ Limits.stepBytes ≤ length (now out) ⌝ }
+    ensures { λ r. ⌜ Gives (onLevel (was net) (netIn (was net)) (memory (was records) (was froms) (was tos)) (length (was out))) (was out) (r .answer) (r .count) (is out) (memory (is records) (is froms) (is tos)) ⌝ }
+{
+    let mut area = [0; 33];
+    let mut plan = [[0; 12]; 80];
+    let totals = plan_rows::make(net, &mut area, &mut plan);
+    if !in_step(&plan, totals, records, froms, tos) {
+        return Piece {
+            answer: Listing::State,
+            count: 0,
+        };
+    }
+    onward(net, &plan, &area, totals, records, froms, tos, out)
+}
+
+// Advances all areas in rising order, full step after full step, and lists each, until the next might not fit, one is refused or all are done.
+pub fn list(
+    network: &[i64],
+    records: &mut [i64],
+    froms: &mut [i64],
+    tos: &mut [i64],
+    out: &mut [u8],
+) -> Piece
+    ensures { λ r. ⌜ Lists (now (network .entry)) (memory (now (records .entry)) (now (froms .entry)) (now (tos .entry))) (now (out .entry)) (r .answer) (r .count) (now (out .exit)) (memory (now (records .exit)) (now (froms .exit)) (now (tos .exit))) ⌝ }
+{
+    if !lent::fits(network, records, froms, tos) {
+        return Piece {
+            answer: Listing::Store,
+            count: 0,
+        };
+    }
+    if out.len() < Room::STEP_BYTES {
+        return Piece {
+            answer: Listing::Store,
+            count: 0,
+        };
+    }
+    if !network::is_network(network) {
+        return Piece {
+            answer: Listing::Network,
+            count: 0,
+        };
+    }
+    on_network(network, records, froms, tos, out)
+}

@@ -1,0 +1,14 @@
+-- `call_state::tails_formed` meets its contract. Assumes nothing.
+use borrow.Author.Needs.{needs}
+use Rattle.call_state.specs.Judged.{tailsFormed}
+use Rattle.call_state.proofs.tails_formed.Statement.{statement}
+use Rattle.call_state.proofs.tails_formed.Tie as tie
+
+returns : tie.Need-returns
+unfolding tailsFormed
+returns c = rw (c .before .before .part .ensures, c .before .part2 .ensures, c .part3 .ensures)
+
+pub tails-formed-spec : {M : Type 1} → statement M
+tails-formed-spec =
+    tie.close
+    (tie.spec (λ c. search needs) (λ c κs. search needs) (λ c. search needs) (λ c κs. search needs) (λ c. search needs) (λ c κs. search needs) returns)

@@ -1,0 +1,12 @@
+-- `digits::pairs` meets its contract. Assumes nothing.
+use mathlib.Core.Path.{refl}
+use Rattle.digits.specs.Pairs.{pairsFrom}
+use Rattle.digits.proofs.pairs.Statement.{statement}
+use Rattle.digits.proofs.pairs.Tie as tie
+
+returns : tie.Need-returns
+unfolding pairsFrom
+returns c = refl
+
+pub pairs-spec : {M : Type 1} → statement M
+pairs-spec = tie.close (tie.spec returns)

@@ -1,4 +1,0 @@
-pub mod EndLeg
-pub mod LegLaws
-pub mod Paper
-pub mod EndSizes

@@ -1,3 +1,0 @@
-pub mod Free
-pub mod FlagLaws
-pub mod FreeLaws

@@ -1,0 +1,3 @@
+pub mod Quads
+pub mod Heads
+pub mod Texts

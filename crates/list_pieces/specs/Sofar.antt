@@ -1,0 +1,105 @@
+-- A piece so far: the bytes in the buffer, and the steps that are left, which lead to the piece as it is to be. Assumes nothing.
+use Prim.Native.Nat.{ℕ, suc, _+_, _-_, _≤_, _<_}
+use native.Mathlib.Omega.{arith}
+use native.Mathlib.Numerals.{add-one}
+use mathlib.Core.Path.{_≡_, refl, sym, ap, _∙_}
+use mathlib.Core.Bool.{Bool, true, false}
+use mathlib.Core.List.{List, [], _∷_, _++_}
+use borrow.Author.Tests.{le-leb, lt-leb}
+use lib.Dec.{leb}
+use lib.IntN.{pos}
+use lib.ListN.{length}
+use Rattle.paper.specs.declared.Listing.{Listing}
+use Rattle.paper.specs.declared.Listing.the-variants.{More, Done, Stopped}
+use Rattle.whole.specs.Lists.{Words}
+use Rattle.whole.specs.Turns.{turns, turns-more, turns-done}
+use Rattle.paper.specs.Limits as Limits
+use Rattle.paper.specs.Rows.{steps}
+use Rattle.paper.specs.Rows as Rows
+use Rattle.paper.specs.Areas.{Net}
+use Rattle.paper.specs.Advance.{Memory}
+use Rattle.paper.specs.Listing.{lineOf}
+use Rattle.paper.specs.Pieces.{Listed, listed, Piece, writing, ended, stepPiece, ifRoom, turnPiece, closing, stepsTaken, pieceOf}
+use Rattle.facts.specs.Nets.{netIn}
+use Rattle.pieces.specs.Calls.{turns-ended}
+use Rattle.digits.specs.Puts.{Puts, puts-none, puts-then}
+use Rattle.list_turn.specs.declared.Turn.{Turn}
+use Rattle.list_turn.specs.declared.Turn.the-variants.{On, Over}
+use Rattle.list_step.specs.Bounds.{done-short}
+use Rattle.list_turn.specs.Turned.{placeOf, Turned}
+use Rattle.list_turn.specs.Turned.{turnPiece as piece}
+
+-- what a call gives of l: an answer, a number of bytes, the buffer and memory
+pub record Gives (l : Listed) (out : List ℕ) (x : Listing) (count : ℕ) (b : List ℕ) (after : Memory) : Type 0 where
+  pub answer : x ≡ l .answer
+  pub puts : Puts out 0 (l .written) count b
+  pub fit : count ≤ length out
+  pub memory : after ≡ l .after
+
+module _ (net : Words) (l : Listed) (out : List ℕ) where
+  abbrev N : Net
+  N = netIn net
+
+  abbrev last : ℕ
+  last = suc (steps (N .head))
+
+  abbrev pieceFrom : ℕ → Piece → Listed
+  pieceFrom k s = closing N (turns k last (turnPiece net N (length out)) s)
+
+  pub record Sofar (k : ℕ) (m : Memory) (at : ℕ) (b : List ℕ) : Type 0 where
+    pub written : List ℕ
+    pub puts : Puts out 0 written at b
+    pub leads : pieceFrom (suc k) (writing m written) ≡ l
+    pub room : at + 32 ≤ length out
+
+  module _ {k at : ℕ} {m : Memory} {b : List ℕ} (f : Sofar k m at b) where
+    place : at ≡ length (f .written)
+    place = omega (arith, f .puts .place)
+
+    -- all steps are taken
+    pub sofar-done : {n : ℕ} {b′ : List ℕ} → steps (N .head) ≤ k → Puts b at (lineOf (Rows.bytes "done") (pos (steps (N .head)) ∷ [])) n b′ → Gives l out Done n b′ m
+    unfolding closing
+    sofar-done h p =
+        let e : listed Done (f .written ++ lineOf (Rows.bytes "done") (pos (steps (N .head)) ∷ [])) m ≡ l = ap (closing N) (sym (turns-done (suc k) last (turnPiece net N (length out)) (writing m (f .written)) (omega arith))) ∙ f .leads in
+        rw (← e) (record { answer = refl; puts = puts-then (f .puts) p; fit = omega (arith, f .room, p .place, done-short (steps (N .head))); memory = refl })
+
+    -- what the next turn comes to, by whether there is room
+    turned : (t : Bool) → k < steps (N .head) → leb (length (f .written) + Limits.stepBytes) (length out) ≡ t → pieceFrom (suc (suc k)) (ifRoom net N (suc k) m (f .written) t) ≡ l
+    unfolding turnPiece
+    turned t h e =
+        let q = turns-more (suc k) last (turnPiece net N (length out)) (writing m (f .written)) (omega arith) in
+        rw (← e) (ap (closing N) (sym (rw (add-one (suc k)) at q)) ∙ f .leads)
+
+    -- the next step might not fit
+    pub sofar-more : k < steps (N .head) → length out < at + Limits.stepBytes → Gives l out More at b m
+    unfolding closing
+    sofar-more h r =
+        let t = turned false h (lt-leb (length (f .written) + Limits.stepBytes) (length out) (omega (arith, place))) in
+        let e : listed More (f .written) m ≡ l = ap (closing N) (sym (turns-ended net N (length out) (suc (suc k)) last (listed More (f .written) m))) ∙ t in
+        rw (← e) (record { answer = refl; puts = f .puts; fit = omega (arith, f .room); memory = refl })
+
+    module _ (h : k < steps (N .head)) (r : at + Limits.stepBytes ≤ length out) where
+      fits : leb (length (f .written) + Limits.stepBytes) (length out) ≡ true
+      fits = le-leb (length (f .written) + Limits.stepBytes) (length out) (omega (arith, place))
+
+      pub sofar-step : {m′ : Memory} {b′ : List ℕ} {n : ℕ} {u : Turn} → u ≡ On (placeOf u) → n ≡ placeOf u → Turned net k m u m′ b at b′ → Sofar (suc k) m′ n b′
+      sofar-step {m′} {b′} {n} {u} e q t =
+          record {
+            written = f .written ++ t .bytes;
+            puts = rw q (puts-then (f .puts) (t .puts));
+            leads = ap (pieceFrom (suc (suc k))) (sym (t .is (f .written) ∙ ap (λ (x : Turn). piece x m′ (f .written ++ t .bytes)) e)) ∙ turned true h fits;
+            room = omega (arith, q, t .puts .place, t .short);
+          }
+
+      pub sofar-over : {m′ : Memory} {b′ : List ℕ} {n : ℕ} {u : Turn} → u ≡ Over (placeOf u) → n ≡ placeOf u → Turned net k m u m′ b at b′ → Gives l out Stopped n b′ m′
+      unfolding closing
+      sofar-over {m′} {b′} {n} {u} x q t =
+          let d = listed Stopped (f .written ++ t .bytes) m′ in
+          let p : stepPiece net N (suc k) (writing m (f .written)) ≡ ended d = t .is (f .written) ∙ ap (λ (y : Turn). piece y m′ (f .written ++ t .bytes)) x in
+          let e : d ≡ l = ap (closing N) (sym (turns-ended net N (length out) (suc (suc k)) last d)) ∙ ap (pieceFrom (suc (suc k))) (sym p) ∙ turned true h fits in
+          rw (← e) (record { answer = refl; puts = rw q (puts-then (f .puts) (t .puts)); fit = omega (arith, q, t .puts .place, t .short); memory = refl })
+
+-- nothing yet
+pub sofar-none : (net : Words) (m : Memory) (out : List ℕ) (k : ℕ) → stepsTaken (netIn net) (m .records) ≡ k → Limits.stepBytes ≤ length out → Sofar net (pieceOf net (netIn net) m (length out)) out k m 0 out
+unfolding pieceOf
+sofar-none net m out k e h = record { written = []; puts = puts-none out 0; leads = rw e; room = omega arith }

@@ -1,0 +1,100 @@
+// The listing by pieces: full step after full step into a lent buffer, until the next might not fit, an area is refused or the study is done.
+ghost use mathlib.Core.Path.{_≡_};
+ghost use Prim.Native.Nat.{_≤_};
+ghost use lib.ListN.{length};
+ghost use Rattle.whole.specs.Loans.{was, is};
+ghost use Rattle.paper.specs.Limits as Limits;
+ghost use Rattle.paper.specs.Advance.{memory};
+ghost use Rattle.list_turn.specs.Turned.{placeOf};
+ghost use Rattle.list_pieces.specs.Begun.{stepOf, Beginning, Pieces};
+use list_round::Step;
+use list_turn::Turn;
+use paper::Listing;
+use paper::Room;
+use plan_own::Owns;
+use plan_rows::Table;
+use plan_rows::Totals;
+use step_legs::Line;
+use step_sources::SourceLine;
+
+// What a call answers, and how many bytes it wrote.
+pub struct Piece {
+    pub answer: Listing,
+    pub count: usize,
+}
+
+fn ended(answer: Listing, count: usize) -> Piece
+    ensures { λ r. ⌜ r ≡ record { answer = answer; count = count } ⌝ }
+{
+    Piece { answer, count }
+}
+
+fn place(turn: Turn) -> usize
+    ensures { λ r. ⌜ r ≡ placeOf turn ⌝ }
+{
+    match turn {
+        Turn::On(next) => next,
+        Turn::Over(next) => next,
+    }
+}
+
+// The step that follows the `taken` ones.
+fn step_of(totals: Totals, taken: usize) -> Step
+    ensures { λ s. ⌜ s ≡ stepOf totals taken ⌝ }
+{
+    Step {
+        taken,
+        areas: totals.areas,
+        limit: totals.limit,
+    }
+}
+
+// From a state in step, with nothing prepared for any area: the factors are this call's own.
+pub fn steps_on(
+    plan: &Table,
+    totals: Totals,
+    owns: &mut Owns,
+    legs: &mut [Line],
+    nodes: &[usize],
+    sources: &[SourceLine],
+    records: &mut [i64],
+    froms: &mut [i64],
+    tos: &mut [i64],
+    out: &mut [u8],
+) -> Piece
+    requires { ⌜ Beginning (now plan) totals (now owns) (now legs) (now nodes) (now sources) (now records) (now froms) (now tos) ⌝ }
+    requires { ⌜ Limits.stepBytes ≤ length (now out) ⌝ }
+    ensures { λ r. ⌜ Pieces (was plan) totals (was owns) (was legs) (was nodes) (was sources) (memory (was records) (was froms) (was tos)) (was out) (r .answer) (r .count) (is out) (memory (is records) (is froms) (is tos)) ⌝ }
+{
+    let pairs = digits::pairs();
+    let mut factors = [[0.0; 32]; 32];
+    let mut at = 0;
+    let mut k = call_counts::steps_taken(records, totals.areas, totals.steps);
+    while k < totals.steps {
+        if out.len() - at < Room::STEP_BYTES {
+            return ended(Listing::More, at);
+        }
+        let step = step_of(totals, k);
+        let round = list_round::all_areas(
+            plan,
+            owns,
+            legs,
+            nodes,
+            sources,
+            &mut factors,
+            records,
+            froms,
+            tos,
+            step,
+        );
+        let turn = list_turn::put_turn(&pairs, plan, totals, records, k, round, out, at);
+        let next = place(turn);
+        let Turn::On(_) = turn else {
+            return ended(Listing::Stopped, next);
+        };
+        at = next;
+        k += 1;
+    }
+    let end = lines::put_done(out, at, totals.steps as u64);
+    ended(Listing::Done, end)
+}

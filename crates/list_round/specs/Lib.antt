@@ -1,0 +1,3 @@
+pub mod Round
+pub mod Turn
+pub mod Passed

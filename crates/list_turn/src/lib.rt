@@ -1,0 +1,50 @@
+// What a step of all areas lists: the lines of a full step; or, where an area was refused, the stop line.
+ghost use mathlib.Core.Path.{_≡_};
+ghost use Prim.Native.Nat.{suc, _+_, _≤_};
+ghost use lib.ListN.{length};
+ghost use Rattle.whole.specs.Loans.{was, is};
+ghost use Rattle.paper.specs.Limits as Limits;
+ghost use Rattle.paper.specs.Areas.{Net};
+ghost use Rattle.digits.specs.Pairs.{allPairs};
+ghost use Rattle.plan_net.specs.Of.{Of};
+ghost use Rattle.list_turn.specs.Turned.{Listable, PutTurn};
+use digits::Pairs;
+use list_round::Round;
+use plan_rows::Table;
+use plan_rows::Totals;
+
+// The next place in the buffer, and whether the listing goes on.
+pub enum Turn {
+    On(usize),
+    Over(usize),
+}
+
+// After the step that follows the `taken` ones; with the digits to look up.
+pub fn put_turn(
+    pairs: &Pairs,
+    plan: &Table,
+    totals: Totals,
+    records: &[i64],
+    taken: usize,
+    round: Round,
+    out: &mut [u8],
+    at: usize,
+) -> Turn
+    requires { ⌜ (now pairs ≡ allPairs) × Listable (now plan) totals (now records) taken round ⌝ }
+    requires { ⌜ at + Limits.stepBytes ≤ length (now out) ⌝ }
+    ensures { λ r. ⌜ ((N : Net) → Of N (was plan) totals → PutTurn N (suc taken) (was records) round (was out) at r (is out)) ⌝ }
+{
+    let step = (taken + 1) as u64;
+    match round {
+        Round::Full => {
+            let next = list_step::put_step_by(pairs, plan, totals, records, step, out, at);
+            Turn::On(next)
+        }
+        Round::Refused(area, answer) => {
+            let number = answers::advance_number(answer);
+            let place = answers::advance_place(answer);
+            let next = lines::put_stop(out, at, step, area, number, place);
+            Turn::Over(next)
+        }
+    }
+}

@@ -1,0 +1,79 @@
+-- What is an area's own: the ends of rows that leave its nodes, its nodes, its sources. End e is the end 1 + e mod 2 of row e / 2: 1 the from end, 2
+-- the to end. Assumes nothing.
+use Prim.Native.Nat.{ℕ, _+_, _-_, _*_, _/_, _%_, _<_}
+use mathlib.Core.Path.{_≡_}
+use mathlib.Core.Bool.{Bool, cond, _&&_}
+use mathlib.Core.List.{List, [], _∷_, _++_, map}
+use lib.Dec.{eqb}
+use lib.IntN.{pos}
+use lib.ListN.{getD, length}
+use Rattle.whole.specs.Lists.{Words, word, nat, numbers, keep}
+use Rattle.paper.specs.Rows.{Row, kind, isLine, isBranch, isSource, at, peak, start, rise}
+use Rattle.paper.specs.Areas.{Net, areaOf, rowArea, fixed, nodesOf, freeOf}
+use Rattle.facts.specs.Nets.{rowAt}
+
+-- the area at one end of a row: a line's ends are each their own node's, a source has none
+unfoldable pub ownerOf : Net → Row → ℕ → ℕ
+ownerOf N r end = cond (isLine r) (areaOf N (nat (word r end))) (cond (isBranch r) (rowArea N r) 0)
+
+abbrev pub rowOfEnd : Net → ℕ → Row
+rowOfEnd N e = rowAt N (e / 2)
+
+abbrev pub sideOfEnd : ℕ → ℕ
+sideOfEnd e = 1 + e % 2
+
+unfoldable pub ownEnd : Net → ℕ → ℕ → Bool
+ownEnd N a e = eqb (ownerOf N (rowOfEnd N e) (sideOfEnd e)) a
+
+-- in table order, a row's from end before its to end
+unfoldable pub ownEnds : Net → ℕ → List ℕ
+ownEnds N a = keep (ownEnd N a) (numbers 0 (2 * length (N .rows)))
+
+-- the j-th of them
+abbrev pub endAt : Net → ℕ → ℕ → ℕ
+endAt N a j = getD (ownEnds N a) j 0
+
+-- ---- an end as a line of words: what of a leg the network alone settles
+
+unfoldable pub nearOf : Net → ℕ → ℕ
+nearOf N e = nat (word (rowOfEnd N e) (sideOfEnd e))
+
+-- a line's end is a leg to ground
+unfoldable pub farOf : Net → ℕ → ℕ
+farOf N e = cond (isLine (rowOfEnd N e)) 0 (nat (word (rowOfEnd N e) (3 - sideOfEnd e)))
+
+pub record FrameOf (N : Net) (e : ℕ) (l : Words) : Type 0 where
+  pub long : length l ≡ 9
+  pub near : word l 0 ≡ pos (nearOf N e)
+  pub far : word l 1 ≡ pos (farOf N e)
+  pub row : word l 2 ≡ pos (e / 2)
+  pub end : word l 3 ≡ pos (sideOfEnd e)
+  pub kind : word l 4 ≡ pos (kind (rowOfEnd N e))
+
+-- the area's legs, each with its frame
+pub record Framed (N : Net) (a : ℕ) (legs : List Words) : Type 0 where
+  pub long : length legs ≡ length (ownEnds N a)
+  pub line : (j : ℕ) → j < length legs → FrameOf N (endAt N a j) (getD legs j [])
+
+-- ---- its nodes: the free ones, "in rising order", then the fixed ones
+
+unfoldable pub fixedOf : Net → ℕ → List ℕ
+fixedOf N a = keep (fixed N) (nodesOf N a)
+
+abbrev pub ownNodes : Net → ℕ → List ℕ
+ownNodes N a = freeOf N a ++ fixedOf N a
+
+-- ---- its sources, in table order
+
+unfoldable pub ownSource : Net → ℕ → Row → Bool
+ownSource N a r = isSource r && eqb (areaOf N (at r)) a
+
+unfoldable pub ownSources : Net → ℕ → List Row
+ownSources N a = keep (ownSource N a) (N .rows)
+
+-- a source as a line of words
+unfoldable pub sourceLine : Row → Words
+sourceLine r = pos (kind r) ∷ pos (at r) ∷ peak r ∷ pos (start r) ∷ pos (rise r) ∷ []
+
+abbrev pub sourceLines : Net → ℕ → List Words
+sourceLines N a = map sourceLine (ownSources N a)

@@ -1,0 +1,1 @@
+// Which network a plan is of. The crate is its specs.

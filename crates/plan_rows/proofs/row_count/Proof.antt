@@ -1,0 +1,23 @@
+-- `plan_rows::row_count` meets its contract. Assumes nothing.
+use mathlib.Core.Path.{ap, _∙_}
+use native.Mathlib.Omega.{arith}
+use Rattle.whole.specs.Lists.{nat}
+use Rattle.whole.specs.Int.{read64}
+use Rattle.whole.specs.Index.{index}
+use Rattle.facts.specs.Nets.{network-length, row-count-word}
+use Rattle.plan_rows.proofs.row_count.Statement.{statement}
+use Rattle.plan_rows.proofs.row_count.Tie as tie
+
+there : tie.Need-shared-slice-copy-out-result
+there c = omega (arith, network-length (c .args .net .now) (c .pre))
+
+cast : tie.Need-cast-result
+cast c = index _ _ (c .result .given) (row-count-word (c .before .args .net .now) (c .before .pre))
+
+returns : tie.Need-returns
+returns c =
+    let s = c .before in
+    ap nat (read64 _ (c .result .given) ∙ row-count-word (s .args .net .now) (s .pre))
+
+pub row-count-spec : {M : Type 1} → statement M
+row-count-spec = tie.close (tie.spec there cast returns)

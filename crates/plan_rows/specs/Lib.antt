@@ -1,0 +1,4 @@
+pub mod ByKind
+pub mod Planned
+pub mod Decoded
+pub mod Laws

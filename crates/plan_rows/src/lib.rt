@@ -1,0 +1,309 @@
+// What a step needs of a network record that passes refusal 8, and that follows from it alone: each row decoded once, the counts, and the areas by node.
+ghost use mathlib.Core.Path.{_≡_};
+ghost use mathlib.Core.Bool.{true, cond};
+ghost use Prim.Native.Nat.{suc, _+_, _≤_, _<_, max};
+ghost use lib.ListN.{length, set};
+ghost use Rattle.whole.specs.Lists.{word, nat};
+ghost use Rattle.whole.specs.Loans.{was, is};
+ghost use Rattle.paper.specs.Limits as Limits;
+ghost use Rattle.paper.specs.Rows as Rows;
+ghost use Rattle.paper.specs.Network.{isNetwork};
+ghost use Rattle.paper.specs.Areas as Areas;
+ghost use Rattle.paper.specs.Areas.{branchNumber};
+ghost use Rattle.paper.specs.Records.{offset, slotCount};
+ghost use Rattle.facts.specs.Nets.{netIn, rowAt};
+ghost use Rattle.rows.specs.Mapped.{Mapped};
+ghost use Rattle.plan_rows.specs.Planned.{Planned, totalsOf, rowIn, rowOf, wordsOf, ownerIn, nodeIn, conductanceAt, toAt};
+ghost use Rattle.plan_rows.specs.ByKind.{branchKind, sourceKind, slotsBy, ownerBy};
+use paper::kinds;
+
+// What a step needs of a row: its kind and its nodes, a source's other node being 0; its conductance; a line's delay, how many slots it has in each
+// store and where they begin; the steps at which a switch closes and opens; the area of each end, 0 for a source; and the branch's number.
+pub struct Row {
+    pub kind: usize,
+    pub from: usize,
+    pub to: usize,
+    pub g: usize,
+    pub delay: usize,
+    pub slots: usize,
+    pub place: usize,
+    pub closes: usize,
+    pub opens: usize,
+    pub from_area: usize,
+    pub to_area: usize,
+    pub number: usize,
+}
+
+// a line for each row, its words in the same order
+pub type Table = [[usize; 12]; 80];
+
+pub fn row_at(plan: &Table, i: usize) -> Row
+    requires { ⌜ i < 80 ⌝ }
+    ensures { λ r. ⌜ r ≡ rowIn (was plan) i ⌝ }
+{
+    let w = plan[i];
+    Row {
+        kind: w[0],
+        from: w[1],
+        to: w[2],
+        g: w[3],
+        delay: w[4],
+        slots: w[5],
+        place: w[6],
+        closes: w[7],
+        opens: w[8],
+        from_area: w[9],
+        to_area: w[10],
+        number: w[11],
+    }
+}
+
+fn put_row(plan: &mut Table, i: usize, r: Row)
+    requires { ⌜ i < 80 ⌝ }
+    ensures { λ _. ⌜ is plan ≡ set (was plan) i (wordsOf r) ⌝ }
+{
+    let line = [
+        r.kind,
+        r.from,
+        r.to,
+        r.g,
+        r.delay,
+        r.slots,
+        r.place,
+        r.closes,
+        r.opens,
+        r.from_area,
+        r.to_area,
+        r.number,
+    ];
+    plan[i] = line;
+}
+
+// The area at one end of a row, 1 the from end and 2 the to end.
+pub fn owner(r: Row, end: usize) -> usize
+    ensures { λ a. ⌜ a ≡ ownerIn r end ⌝ }
+{
+    if end == 1 { r.from_area } else { r.to_area }
+}
+
+// The node at one end.
+pub fn node(r: Row, end: usize) -> usize
+    ensures { λ n. ⌜ n ≡ nodeIn r end ⌝ }
+{
+    if end == 1 { r.from } else { r.to }
+}
+
+// ---- kinds, by class
+
+pub fn is_branch(kind: usize) -> bool
+    ensures { λ r. ⌜ r ≡ branchKind kind ⌝ }
+{
+    (kind == kinds::R)
+        | (kind == kinds::L)
+        | (kind == kinds::C)
+        | (kind == kinds::LINE)
+        | (kind == kinds::SW)
+}
+
+pub fn is_source(kind: usize) -> bool
+    ensures { λ r. ⌜ r ≡ sourceKind kind ⌝ }
+{
+    (kind == kinds::VS) | (kind == kinds::IS)
+}
+
+// ---- counts
+
+// How much of each thing there is: rows, nodes, areas, and slots of each store; the steps of the study, and the limit of what may be out of balance.
+pub struct Totals {
+    pub rows: usize,
+    pub nodes: usize,
+    pub areas: usize,
+    pub slots: usize,
+    pub steps: usize,
+    pub limit: i64,
+}
+
+pub fn row_count(net: &[i64]) -> usize
+    requires { ⌜ isNetwork (now net) ≡ true ⌝ }
+    ensures { λ r. ⌜ r ≡ length (netIn (was net) .rows) ⌝ }
+{
+    net[3] as usize
+}
+
+// `study`: step length, steps, limit
+fn study_word(net: &[i64], j: usize) -> i64
+    requires { ⌜ (isNetwork (now net) ≡ true) × (j < 3) ⌝ }
+    ensures { λ r. ⌜ r ≡ word (netIn (was net) .head) (suc j) ⌝ }
+{
+    net[j]
+}
+
+fn study_number(net: &[i64], j: usize) -> usize
+    requires { ⌜ (isNetwork (now net) ≡ true) × (j < 3) ⌝ }
+    ensures { λ r. ⌜ r ≡ nat (word (netIn (was net) .head) (suc j)) ⌝ }
+{
+    study_word(net, j) as usize
+}
+
+fn larger(a: usize, b: usize) -> usize
+    ensures { λ r. ⌜ r ≡ max a b ⌝ }
+{
+    if a < b { b } else { a }
+}
+
+// the largest node that row i names
+fn named(net: &[i64], i: usize) -> usize
+    requires { ⌜ (isNetwork (now net) ≡ true) × (i < length (netIn (now net) .rows)) ⌝ }
+    ensures { λ r. ⌜ r ≡ Areas.named (rowAt (netIn (was net)) i) ⌝ }
+{
+    let kind = rows::kind(net, i);
+    larger(rows::number(net, i, 1), to_at(net, i, kind))
+}
+
+// "The node count is the largest node named."
+fn node_count(net: &[i64], rows: usize) -> usize
+    requires { ⌜ (isNetwork (now net) ≡ true) × (rows ≡ length (netIn (now net) .rows)) ⌝ }
+    ensures { λ r. ⌜ r ≡ netIn (was net) .nodes ⌝ }
+{
+    let mut nodes = 0;
+    let mut i = 0;
+    while i < rows {
+        nodes = larger(nodes, named(net, i));
+        i += 1;
+    }
+    nodes
+}
+
+// ---- one row
+
+// a branch's other node; a source has none
+fn to_at(net: &[i64], i: usize, kind: usize) -> usize
+    requires { ⌜ (isNetwork (now net) ≡ true) × (i < length (netIn (now net) .rows)) ⌝ }
+    requires { ⌜ kind ≡ Rows.kind (rowAt (netIn (now net)) i) ⌝ }
+    ensures { λ r. ⌜ r ≡ toAt (netIn (was net)) i ⌝ }
+{
+    if !is_branch(kind) {
+        return 0;
+    }
+    rows::number(net, i, 2)
+}
+
+// "nS, of one branch"; a source has none
+fn conductance_at(net: &[i64], i: usize, kind: usize, step: usize) -> usize
+    requires { ⌜ (isNetwork (now net) ≡ true) × (i < length (netIn (now net) .rows)) ⌝ }
+    requires { ⌜ (kind ≡ Rows.kind (rowAt (netIn (now net)) i)) × (step ≡ Areas.step (netIn (now net))) ⌝ }
+    ensures { λ r. ⌜ r ≡ conductanceAt (netIn (was net)) i ⌝ }
+{
+    if !is_branch(kind) {
+        return 0;
+    }
+    faults::conductance(step as u64, kind, rows::number(net, i, 3) as u64) as usize
+}
+
+// "Each line end keeps its last 2d sent values"
+fn slots_of(kind: usize, delay: usize) -> usize
+    requires { ⌜ slotsBy kind delay ≤ Limits.slotEnd ⌝ }
+    ensures { λ n. ⌜ n ≡ slotsBy kind delay ⌝ }
+{
+    if kind == kinds::LINE { 2 * delay } else { 0 }
+}
+
+// The area at an end with node near: a line's ends are each their own node's; an R, L, C or SW is in its higher node's, ground being in none.
+fn area_at(area: &[usize; 33], kind: usize, near: usize, far: usize) -> usize
+    requires { ⌜ (near ≤ Limits.nodeEnd) × (far ≤ Limits.nodeEnd) ⌝ }
+    ensures { λ r. ⌜ r ≡ ownerBy (was area) kind near far ⌝ }
+{
+    if kind == kinds::LINE {
+        return area[near];
+    }
+    if !is_branch(kind) {
+        return 0;
+    }
+    area[larger(near, far)]
+}
+
+// "Branches are numbered from 1 in table order, sources not counted"
+fn number_of(kind: usize, before: usize) -> usize
+    requires { ⌜ before ≤ Limits.branchEnd ⌝ }
+    ensures { λ r. ⌜ r ≡ before + cond (branchKind kind) 1 0 ⌝ }
+{
+    if is_branch(kind) { before + 1 } else { before }
+}
+
+// Row i, with its slots behind those of the rows before it; "LINE of d = travel / step"
+fn planned(
+    net: &[i64],
+    area: &[usize; 33],
+    step: usize,
+    i: usize,
+    place: usize,
+    before: usize,
+) -> Row
+    requires { ⌜ (isNetwork (now net) ≡ true) × (i < length (netIn (now net) .rows)) ⌝ }
+    requires { ⌜ Mapped (netIn (now net)) (now area) × (step ≡ Areas.step (netIn (now net))) ⌝ }
+    requires { ⌜ (place ≡ offset (netIn (now net)) i) × (before ≡ branchNumber (netIn (now net)) i) ⌝ }
+    ensures { λ r. ⌜ r ≡ rowOf (netIn (was net)) i ⌝ }
+{
+    let kind = rows::kind(net, i);
+    let from = rows::number(net, i, 1);
+    let to = to_at(net, i, kind);
+    let fourth = rows::number(net, i, 4);
+    let delay = fourth / step;
+    Row {
+        kind,
+        from,
+        to,
+        g: conductance_at(net, i, kind, step),
+        delay,
+        slots: slots_of(kind, delay),
+        place,
+        closes: fourth,
+        opens: rows::number(net, i, 5),
+        from_area: area_at(area, kind, from, to),
+        to_area: area_at(area, kind, to, from),
+        number: number_of(kind, before),
+    }
+}
+
+// ---- all rows
+
+// All rows, and how many slots there are: "slots stand in table order"
+fn fill(net: &[i64], rows: usize, step: usize, area: &[usize; 33], plan: &mut Table) -> usize
+    requires { ⌜ (isNetwork (now net) ≡ true) × (rows ≡ length (netIn (now net) .rows)) × (length (now plan) ≡ 80) ⌝ }
+    requires { ⌜ Mapped (netIn (now net)) (now area) × (step ≡ Areas.step (netIn (now net))) ⌝ }
+    ensures { λ r. ⌜ Planned (netIn (was net)) (is plan) × (r ≡ slotCount (netIn (was net))) ⌝ }
+{
+    let mut slots = 0;
+    let mut number = 0;
+    let mut i = 0;
+    while i < rows {
+        let r = planned(net, area, step, i, slots, number);
+        put_row(plan, i, r);
+        slots = r.place + r.slots;
+        number = r.number;
+        i += 1;
+    }
+    slots
+}
+
+// All of it, into lent arrays.
+pub fn make(net: &[i64], area: &mut [usize; 33], plan: &mut Table) -> Totals
+    requires { ⌜ isNetwork (now net) ≡ true ⌝ }
+    requires { ⌜ (length (now area) ≡ 33) × (length (now plan) ≡ 80) ⌝ }
+    ensures { λ _. ⌜ Planned (netIn (was net)) (is plan) × Mapped (netIn (was net)) (is area) ⌝ }
+    ensures { λ r. ⌜ r ≡ totalsOf (netIn (was net)) ⌝ }
+{
+    let rows = row_count(net);
+    let step = study_number(net, 0);
+    let nodes = node_count(net, rows);
+    let areas = areas::areas(net, rows, nodes, area);
+    let slots = fill(net, rows, step, area, plan);
+    Totals {
+        rows,
+        nodes,
+        areas,
+        slots,
+        steps: study_number(net, 1),
+        limit: study_word(net, 2),
+    }
+}

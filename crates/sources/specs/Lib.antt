@@ -1,6 +1,0 @@
-pub mod Values
-pub mod ValueLaws
-pub mod DriveLaws
-pub mod ByNode
-pub mod Still
-pub mod Sizes

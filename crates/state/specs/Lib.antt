@@ -1,4 +1,0 @@
-pub mod Pieces
-pub mod Kinds
-pub mod Judged
-pub mod Formed

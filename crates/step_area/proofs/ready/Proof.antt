@@ -1,0 +1,70 @@
+-- `step_area::ready` meets its contract: 14, or the step from what is kept for it. Assumes nothing.
+use Prim.Native.Nat.{ℕ, _≤_}
+use mathlib.Core.Path.{_≡_}
+use native.Mathlib.Omega.{arith}
+use borrow.Author.Needs.{needs}
+use Rattle.paper.specs.Areas.{Net}
+use Rattle.paper.specs.Advance.{memory}
+use Rattle.step_area.specs.Tabled.{Tables, Renewing, area-few}
+use Rattle.step_area.specs.Stepping.{Stepping, floating-step}
+use Rattle.step_area.proofs.ready.Statement.{statement}
+use Rattle.step_area.proofs.ready.Tie as tie
+
+abbrev start : tie.After-renew → tie.Start
+start r = r .before .before .before .before .before
+
+renew-requires : tie.Need-renew-requires
+renew-requires c κs =
+    let s = c .before .before .before .before in
+    let p = s .pre in
+    record {
+      net = p .net;
+      low = p .low;
+      high = p .high;
+      sources = s .args .sources .now;
+      tables = p .tables;
+      least = p .stepping .least;
+      most = p .stepping .most;
+      few = omega (arith, p .stepping .step, p .tables .sound .study .stepsIn .most);
+    }
+
+returns : tie.Need-returns
+returns c =
+    let r = c .before .before in
+    record {
+      of = λ N low high t s.
+          let w = r .renew .ensures .of N low high _ t (s .least) (s .most) in
+          record { tables = w .tables; step = floating-step N _ _ _ _ (omega (arith, t .least, s .least)) (w .node) (c .if1 .taken) };
+    }
+
+own-at-requires : tie.Need-own-at-requires
+own-at-requires c κs =
+    let r = c .before .before .before in
+    let p = start r .pre in
+    area-few (r .renew .ensures .of _ _ _ _ (p .tables) (p .stepping .least) (p .stepping .most) .tables) _ (p .stepping .least) (p .stepping .most)
+
+stepped-requires : tie.Need-stepped-requires
+stepped-requires c κs =
+    let o = c .before .before .before .before .before in
+    let e = o .before .before in
+    let r = e .before .before in
+    let p = start r .pre in
+    let w = r .renew .ensures .of _ _ _ _ (p .tables) (p .stepping .least) (p .stepping .most) in
+    record { net = p .net; low = p .low; high = p .high; owns = _; ready = record { tables = w .tables; stepping = p .stepping; own = o .own-at .ensures; serving = w .serving (e .if1 .left) } }
+
+returns-2 : tie.Need-returns-2
+returns-2 c =
+    let x = c .before .before .before .before in
+    let o = x .before .before .before .before .before .before in
+    let e = o .before .before in
+    let r = e .before .before in
+    record {
+      of = λ N low high t s.
+          let w = r .renew .ensures .of N low high _ t (s .least) (s .most) in
+          x .stepped .ensures .of N low high _ (record { tables = w .tables; stepping = s; own = o .own-at .ensures; serving = w .serving (e .if1 .left) });
+    }
+
+pub ready-spec : {M : Type 1} → statement M
+ready-spec =
+    tie.close
+    (tie.spec renew-requires (λ c. search needs) returns own-at-requires stepped-requires (λ c. search needs) (λ c. search needs) (λ c. search needs) (λ c. search needs) returns-2)

@@ -1,0 +1,105 @@
+-- `step_area::stepped` meets its contract: a try that fails writes nothing, and one that passes is written as the definition says. Assumes nothing.
+use Prim.Native.Nat.{ℕ, _≤_}
+use mathlib.Core.Path.{_≡_, refl, sym, ap, _∙_}
+use mathlib.Core.Bool.{true, false}
+use native.Mathlib.Omega.{arith}
+use borrow.Author.Needs.{needs}
+use borrow.Author.Tests.{not-true, not-false}
+use Rattle.paper.specs.Answers.{accepted}
+use Rattle.paper.specs.Advance.{memory}
+use Rattle.plan_own.specs.Owns.{Ours}
+use Rattle.step_area.specs.Stepping.{own-there, tries-at, tried-at, tables-after, not-taken, asked, moved}
+use Rattle.step_area.proofs.stepped.Statement.{statement}
+use Rattle.step_area.proofs.stepped.Tie as tie
+
+own : (s : tie.Start) → Ours (s .pre .net) (s .args .turn .area) (s .args .o) (s .args .legs .now) (s .args .nodes .now) (s .args .sources .now)
+own s = own-there (s .pre .ready)
+
+abbrev placed : tie.After-try-step → tie.After-at-of
+placed t = t .before .before .before .before .before .before .before
+
+abbrev start : tie.After-try-step → tie.Start
+start t = placed t .before .before
+
+try-step-requires : tie.Need-try-step-requires
+try-step-requires c κs =
+    let p = c .before .before .before .before .before .before in
+    let s = p .before .before in
+    record { net = s .pre .net; area = s .args .turn .area; trying = tries-at (s .pre .ready) (p .at-of .ensures) }
+
+returns : tie.Need-returns
+returns c =
+    let t = c .before .before .before in
+    let e = sym (c .before .took .ensures) ∙ not-true _ (c .if1 .taken) in
+    record {
+      of = λ N low high owns R. record {
+        tables = tables-after R (t .try-step .ensures .1);
+        step = not-taken N _ _ _ _ _ (tried-at R (placed t .at-of .ensures) (t .try-step .ensures .0) .tried) e;
+      };
+    }
+
+-- ---- the step is written
+abbrev tried : tie.Else1 → tie.After-try-step
+tried e = e .before .before .before
+
+accepts : (e : tie.Else1) → accepted (tried e .try-step .result .answer) ≡ true
+accepts e = sym (e .before .took .ensures) ∙ not-false _ (e .if1 .left)
+
+commit-requires : tie.Need-commit-requires
+commit-requires c κs =
+    let e = c .before .before .before .before .before .before .before .before in
+    let t = tried e in
+    let R = start t .pre .ready in
+    asked R (t .try-step .ensures .1) (tried-at R (placed t .at-of .ensures) (t .try-step .ensures .0)) (accepts e)
+
+returns-2 : tie.Need-returns-2
+returns-2 c =
+    let w = c .before .before .before in
+    let e = w .before .before .before .before .before .before .before .before .before in
+    let t = tried e in
+    let q = w .commit .ensures in
+    record {
+      of = λ N low high owns R. record {
+        tables = tables-after R (t .try-step .ensures .1);
+        step = moved R (t .try-step .ensures .1) (tried-at R (placed t .at-of .ensures) (t .try-step .ensures .0)) (accepts e) (q .0) (q .1 .0) (q .1 .1);
+      };
+    }
+
+pub stepped-spec : {M : Type 1} → statement M
+stepped-spec =
+    tie.close
+    (tie.spec
+    (λ c κs. search needs)
+    (λ c. record { fits = omega (arith, own (c .before .before) .sources-in) })
+    (λ c. own (c .before .before) .sources-in .0)
+    (λ c. omega (arith, own (c .before .before) .sources-in))
+    (λ c. omega (arith, own (c .before .before) .sources-in, c .before .before .pre .ready .tables .tables .sources-long))
+    (λ c. record { fits = omega (arith, own (c .before .before .before) .nodes-in) })
+    (λ c. own (c .before .before .before) .nodes-in .0)
+    (λ c. omega (arith, own (c .before .before .before) .nodes-in))
+    (λ c. omega (arith, own (c .before .before .before) .nodes-in, c .before .before .before .pre .ready .tables .tables .nodes-long))
+    (λ c. record { fits = omega (arith, own (c .before .before .before .before) .legs-in) })
+    (λ c. own (c .before .before .before .before) .legs-in .0)
+    (λ c. omega (arith, own (c .before .before .before .before) .legs-in))
+    (λ c. omega (arith, own (c .before .before .before .before) .legs-in, c .before .before .before .before .pre .ready .tables .tables .legs-long))
+    try-step-requires
+    (λ c κs. search needs)
+    (λ c. search needs)
+    (λ c. search needs)
+    (λ c. search needs)
+    (λ c. search needs)
+    returns
+    (λ c. record { fits = omega (arith, own (start (c .before .before .before .before)) .legs-in) })
+    (λ c. own (start (c .before .before .before .before)) .legs-in .0)
+    (λ c. omega (arith, own (start (c .before .before .before .before .before)) .legs-in))
+    (λ c. omega (arith, own (start (c .before .before .before .before .before)) .legs-in, tables-after (start (c .before .before .before .before .before) .pre .ready) (c .before .before .before .before .before .try-step .ensures .1) .tables .legs-long))
+    (λ c. record { fits = omega (arith, own (start (c .before .before .before .before .before .before)) .nodes-in) })
+    (λ c. omega (arith, own (start (c .before .before .before .before .before .before)) .nodes-in))
+    (λ c. omega (arith, own (start (c .before .before .before .before .before .before)) .nodes-in))
+    (λ c. omega (arith, own (start (c .before .before .before .before .before .before)) .nodes-in, start (c .before .before .before .before .before .before) .pre .ready .tables .tables .nodes-long))
+    commit-requires
+    (λ c. search needs)
+    (λ c. search needs)
+    (λ c. search needs)
+    (λ c. search needs)
+    returns-2)

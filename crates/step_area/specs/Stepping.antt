@@ -1,0 +1,247 @@
+-- An area's step from the tables is the paper's. Assumes nothing.
+use Prim.Native.Nat.{ℕ, zero, suc, _+_, _-_, _≤_, _<_}
+use mathlib.Core.Path.{_≡_, refl, sym, ap, subst, _∙_}
+use mathlib.Core.Bool.{Bool, true, false, true≢false}
+use mathlib.Core.List.{List, [], _∷_, map}
+use native.Mathlib.Omega.{arith}
+use lib.ListN.{length}
+use lib.IntN.{pos}
+use lib.Ieee.{Float}
+use Rattle.paper.specs.declared.Advance.{Advance}
+use Rattle.paper.specs.declared.Advance.the-variants.{Took, Floating, Range, Unbalanced, History}
+use Rattle.whole.specs.Lists.{Words, z}
+use Rattle.paper.specs.Limits as Limits
+use Rattle.paper.specs.Rows as Rows
+use Rattle.paper.specs.Answers.{accepted}
+use Rattle.paper.specs.Areas.{Net, areaCount, fixed, freeOf}
+use Rattle.paper.specs.Legs.{Leg, leg, Branch, legsOf, heard, bothLegs}
+use Rattle.paper.specs.Floating as Paper
+use Rattle.paper.specs.Solve.{Step, stop, move, solve, solvedStep, stillOf, andFloating}
+use Rattle.paper.specs.Advance.{Memory, memory, Advanced, advanced, written, finish, takeStep, ready}
+use Rattle.facts.specs.Nets.{NetSound}
+use Rattle.local.specs.Outcome.{Solving, floats, leaves, tips, exceeds, solves, solving, voltsOf}
+use Rattle.plan_ends.specs.Own.{ownEnds, Framed, ownNodes}
+use Rattle.plan_own.specs.declared.Own.{Own}
+use Rattle.plan_own.specs.Grown.{part}
+use Rattle.plan_own.specs.Owns.{ownIn, Ours}
+use Rattle.plan_own.specs.Kept.{legsPut}
+use Rattle.step_factors.specs.Blocks.{renewed-none}
+use Rattle.step_floating.specs.Local.{floating-joins, joins-bare}
+use Rattle.step_own.specs.Ends.{legOfEnd, bareOfEnd, Kept}
+use Rattle.step_own.specs.Laid.{Laid}
+use Rattle.step_own.specs.Paper.{own-floating}
+use Rattle.step_flow.specs.Found.{flown}
+use Rattle.step_prepare.specs.Serving as Serving
+use Rattle.step_prepare.specs.Serving.{Serving}
+use Rattle.step_try.specs.declared.At.{At}
+use Rattle.step_try.specs.declared.Outcome.{Outcome}
+use Rattle.step_try.specs.Outcomes.{Tried, answered}
+use Rattle.step_try.specs.Trying.{Trying, SameBut, conducting-same, branches, Flowing, Tries}
+use Rattle.step_commit.specs.Records.{Recordable, recordsPut}
+use Rattle.step_commit.specs.Stores.{Sendable, sentBy, fromEnd, toEnd}
+use Rattle.step_commit.specs.Asked.{recordable, sendable}
+use Rattle.step_commit.specs.Paper.{written-is}
+use Rattle.step_area.specs.declared.Turn.{Turn}
+use Rattle.step_area.specs.Tabled.{ownLegs, Tables, standing, tables-put, put-own}
+
+-- the area is one of those in the tables, the step one of the study's, and the state well formed
+pub record Stepping (N : Net) (low high : ℕ) (turn : Turn) (m : Memory) : Type 0 where
+  pub least : low ≤ turn .area
+  pub most : turn .area ≤ high
+  pub step : turn .k ≤ Rows.steps (N .head)
+  pub limit : turn .limit ≡ pos (Rows.limit (N .head))
+  pub kept : Kept (m .records) (m .froms) (m .tos)
+
+-- ---- from what is kept for it
+
+pub record Ready (N : Net) (low high : ℕ) (plan owns : List (List ℕ)) (legs : List Words) (nodes : List ℕ) (sources : List Words) (f : List (List Float)) (m : Memory) (o : Own) (turn : Turn) : Type 0 where
+  pub tables : Tables N low high (turn .k) plan owns legs nodes sources f
+  pub stepping : Stepping N low high turn m
+  pub own : o ≡ ownIn owns (turn .area)
+  pub serving : Serving N (turn .area) (turn .k) (ownIn owns (turn .area) .base) (ownLegs owns (turn .area) legs) f
+
+pub record Movable (plan : List (List ℕ)) (legs : List Words) (nodes : List ℕ) (sources : List Words) (f : List (List Float)) (recs froms tos : Words) (o : Own) (turn : Turn) : Type 0 where
+  pub net : Net
+  pub low : ℕ
+  pub high : ℕ
+  pub owns : List (List ℕ)
+  pub ready : Ready net low high plan owns legs nodes sources f (memory recs froms tos) o turn
+
+pub record Moved (N : Net) (low high : ℕ) (plan owns : List (List ℕ)) (nodes : List ℕ) (sources : List Words) (f : List (List Float)) (turn : Turn) (m : Memory) (r : Advance) (legs : List Words) (m′ : Memory) : Type 0 where
+  pub tables : Tables N low high (turn .k) plan owns legs nodes sources f
+  pub step : advanced r m′ ≡ ready N (turn .area) (turn .k) m
+
+pub record Moves (plan : List (List ℕ)) (nodes : List ℕ) (sources : List Words) (f : List (List Float)) (o : Own) (turn : Turn) (legs : List Words) (m : Memory) (r : Advance) (legs′ : List Words) (m′ : Memory) : Type 0 where
+  pub of : (N : Net) (low high : ℕ) (owns : List (List ℕ)) → Ready N low high plan owns legs nodes sources f m o turn → Moved N low high plan owns nodes sources f turn m r legs′ m′
+
+-- ---- with what is kept renewed
+
+pub record Going (plan owns : List (List ℕ)) (legs : List Words) (nodes : List ℕ) (sources : List Words) (f : List (List Float)) (recs froms tos : Words) (turn : Turn) : Type 0 where
+  pub net : Net
+  pub low : ℕ
+  pub high : ℕ
+  pub tables : Tables net low high (turn .k) plan owns legs nodes sources f
+  pub stepping : Stepping net low high turn (memory recs froms tos)
+
+pub record Steps (plan : List (List ℕ)) (nodes : List ℕ) (sources : List Words) (turn : Turn) (owns : List (List ℕ)) (legs : List Words) (f : List (List Float)) (m : Memory) (r : Advance) (owns′ : List (List ℕ)) (legs′ : List Words) (f′ : List (List Float)) (m′ : Memory) : Type 0 where
+  pub of : (N : Net) (low high : ℕ) → Tables N low high (turn .k) plan owns legs nodes sources f → Stepping N low high turn m → Moved N low high plan owns′ nodes sources f′ turn m r legs′ m′
+
+-- ---- 14
+bares-of : (N : Net) (k : ℕ) (recs froms tos : Words) (l : List ℕ) → map (λ x. leg (x .near) (x .far) (x .g) z) (map (legOfEnd N k recs froms tos) l) ≡ map (bareOfEnd N k) l
+bares-of N k recs froms tos [] = refl
+bares-of N k recs froms tos (e ∷ l) = ap (λ (t : List Leg). bareOfEnd N k e ∷ t) (bares-of N k recs froms tos l)
+
+floats-paper : (N : Net) (a k : ℕ) (recs froms tos : Words) → 1 ≤ a → Paper.floating (fixed N) (N .nodes) (freeOf N a) (bothLegs (branches N a k recs froms tos)) ≡ Serving.floats N a k
+floats-paper N a k recs froms tos one =
+    sym (own-floating N a k recs froms tos one (fixed N) (N .nodes) (freeOf N a))
+    ∙ sym (floating-joins (fixed N) (N .nodes) (freeOf N a) _ (map (legOfEnd N k recs froms tos) (ownEnds N a)) (joins-bare (map (legOfEnd N k recs froms tos) (ownEnds N a))))
+    ∙ ap (Paper.floating (fixed N) (N .nodes) (freeOf N a)) (bares-of N k recs froms tos (ownEnds N a))
+
+pub floating-step : (N : Net) (a k : ℕ) (m : Memory) (node : ℕ) → 1 ≤ a → node ≡ Serving.floats N a k → (node ≡ 0 → ⊥) → advanced (Floating node) m ≡ ready N a k m
+unfolding ready takeStep solve
+floating-step N a k m node one e n = by node (e ∙ sym (floats-paper N a k (m .records) (m .froms) (m .tos) one)) n
+  where
+    by : (i : ℕ) → i ≡ Paper.floating (fixed N) (N .nodes) (freeOf N a) (bothLegs (branches N a k (m .records) (m .froms) (m .tos))) → (i ≡ 0 → ⊥)
+        → advanced (Floating i) m ≡ finish N a k (branches N a k (m .records) (m .froms) (m .tos)) m
+        (andFloating (solvedStep N a k (branches N a k (m .records) (m .froms) (m .tos)) (stillOf N a k)) (Paper.floating (fixed N) (N .nodes) (freeOf N a) (bothLegs (branches N a k (m .records) (m .froms) (m .tos)))))
+    by zero q z = absurd (z refl)
+    by (suc i) q z = rw (← q)
+
+-- ---- a step that is not taken
+refused-by : (N : Net) (a k : ℕ) (bs : List Branch) (m : Memory) (s : Step) → accepted (answered k s) ≡ false → advanced (answered k s) m ≡ finish N a k bs m s
+refused-by N a k bs m (stop x) e = refl
+refused-by N a k bs m (move v) e = let z : _≡_ {A = ℕ} 0 1 = cc in absurd (omega arith)
+
+pub not-taken : (N : Net) (a k : ℕ) (m : Memory) (r : Advance) (v : Words) → Tried k (solve N a k (branches N a k (m .records) (m .froms) (m .tos))) v r
+    → accepted r ≡ false → advanced r m ≡ ready N a k m
+unfolding ready takeStep
+not-taken N a k m r v t e =
+    let bs = branches N a k (m .records) (m .froms) (m .tos) in
+    rw (t .answer) (refused-by N a k bs m (solve N a k bs) (rw (t .answer) at e))
+
+-- ---- a step that is taken
+pub record Taken (k : ℕ) (r : Advance) (v : Words) (s : Step) : Type 0 where
+  pub answer : r ≡ Took k
+  pub solved : s ≡ move v
+
+module _ (N : Net) (a k : ℕ) (bs : List Branch) (r : Advance) (v : Words) (t : Tried k (solve N a k bs) v r) (e : accepted r ≡ true) where
+  refusal : (x : Advance) → solve N a k bs ≡ stop x → accepted x ≡ false → Taken k r v (solve N a k bs)
+  refusal x q f =
+      let d : r ≡ x = t .answer ∙ ap (answered k) q in
+      let z : _≡_ {A = Bool} true false = sym e ∙ ap accepted d ∙ f in
+      absurd (true≢false z)
+
+  pub taken : Taken k r v (solve N a k bs)
+  taken = go (solving N a k bs)
+    where
+      go : Solving N a k bs → Taken k r v (solve N a k bs)
+      go (floats n p q) = refusal (Floating (suc n)) q refl
+      go (leaves n p o q) = refusal (Range (suc n)) q refl
+      go (tips n p o h q) = refusal (Unbalanced (suc n)) q refl
+      go (exceeds n p o h b q) = refusal (History _) q refl
+      go (solves p o h b q) = record { answer = t .answer ∙ ap (answered k) q; solved = q ∙ ap move (sym (t .volts (voltsOf N a k bs) q)) }
+
+pub taken-step : (N : Net) (a k : ℕ) (m m′ : Memory) (r : Advance) (v : Words) → Taken k r v (solve N a k (branches N a k (m .records) (m .froms) (m .tos)))
+    → m′ ≡ written N a k (branches N a k (m .records) (m .froms) (m .tos)) v m → advanced r m′ ≡ ready N a k m
+unfolding ready takeStep
+taken-step N a k m m′ r v t e = rw (t .answer, t .solved, e)
+
+-- ---- the parts put together
+abbrev pub atOf : Own → Turn → At
+atOf o turn = record { base = o .base; k = turn .k; limit = turn .limit }
+
+abbrev pub legsOf′ : Own → List Words → List Words
+legsOf′ o legs = part (o .legs) (o .«legs_end») legs
+
+module _ {N : Net} {low high : ℕ} {plan owns : List (List ℕ)} {legs : List Words} {nodes : List ℕ} {sources : List Words} {f : List (List Float)} {m : Memory} {o : Own} {turn : Turn}
+    (R : Ready N low high plan owns legs nodes sources f m o turn) where
+  abbrev a : ℕ
+  a = turn .area
+
+  one : 1 ≤ turn .area
+  one = omega (arith, R .tables .least, R .stepping .least)
+
+  pub own-there : Ours N (turn .area) o legs nodes sources
+  own-there = rw (R .own) (R .tables .ours a (R .stepping .least) (R .stepping .most))
+
+  pub tries : Trying N (turn .area) plan (part (o .sources) (o .«sources_end») sources) (part (o .base) (o .«free_end») nodes) (legsOf′ o legs) f (m .records) (m .froms) (m .tos) (atOf o turn)
+  tries = rw (R .own) (record {
+    sound = R .tables .sound;
+    one = one;
+    planned = R .tables .planned;
+    sources-are = R .tables .ours a (R .stepping .least) (R .stepping .most) .sources;
+    free-are = R .tables .ours a (R .stepping .least) (R .stepping .most) .free;
+    room = standing (R .tables) a (R .stepping .least) (R .stepping .most) .room;
+    serving = R .serving;
+    kept = R .stepping .kept;
+    limit = R .stepping .limit;
+    few = omega (arith, R .stepping .step, R .tables .sound .study .stepsIn .most);
+  })
+
+  pub tries-at : {at : At} → at ≡ atOf o turn
+      → Trying N (turn .area) plan (part (o .sources) (o .«sources_end») sources) (part (o .base) (o .«free_end») nodes) (legsOf′ o legs) f (m .records) (m .froms) (m .tos) at
+  tries-at e = rw e tries
+
+  pub tried-at : {at : At} {lines : List Words} {r : Outcome} → at ≡ atOf o turn
+      → ((N : Net) (a : ℕ) → Trying N a plan (part (o .sources) (o .«sources_end») sources) (part (o .base) (o .«free_end») nodes) (legsOf′ o legs) f (m .records) (m .froms) (m .tos) at
+      → Tries N a (at .k) (m .records) (m .froms) (m .tos) lines r)
+      → Tries N (turn .area) (turn .k) (m .records) (m .froms) (m .tos) lines r
+  tried-at {lines = lines} {r = r} e h =
+      subst (λ (k : ℕ). Tries N (turn .area) k (m .records) (m .froms) (m .tos) lines r) (ap (λ (x : At). x .k) e) (h N (turn .area) (tries-at e))
+
+  module _ {new : List Words} (same : SameBut (legsOf′ o legs) new) where
+    same-own : SameBut (ownLegs owns (turn .area) legs) new
+    same-own = subst (λ (x : Own). SameBut (legsOf′ x legs) new) (R .own) same
+
+    framed : Framed N (turn .area) new
+    framed = conducting-same same-own (R .serving .conducts) .framed
+
+    pub tables-after : Tables N low high (turn .k) plan owns (legsPut o legs new) nodes sources f
+    tables-after =
+        rw (R .own)
+        (tables-put (R .tables) a (R .stepping .least) (R .stepping .most) new framed (renewed-none _ _ (R .tables .square))
+        (λ j x y. let s = R .tables .kept a j (R .stepping .least) (R .stepping .most) x y in record { conducts = conducting-same same-own (s .conducts); serves = s .serves; grounded = s .grounded }))
+
+    pub legs-after : legsOf′ o (legsPut o legs new) ≡ new
+    legs-after = rw (R .own) (put-own (R .tables) a (R .stepping .least) (R .stepping .most) new framed)
+
+  -- the lines that a step is written from
+  module _ {lines : List Words} {r : Outcome} (t : Tries N (turn .area) (turn .k) (m .records) (m .froms) (m .tos) lines r) (e : accepted (r .answer) ≡ true) where
+    abbrev bs : List Branch
+    bs = branches N (turn .area) (turn .k) (m .records) (m .froms) (m .tos)
+
+    took-it : Taken (turn .k) (r .answer) (r .volts) (solve N (turn .area) (turn .k) bs)
+    took-it = taken N a (turn .k) bs (r .answer) (r .volts) (t .tried) e
+
+    flows : Flowing N (turn .area) (turn .k) (m .records) (m .froms) (m .tos) (r .volts) lines
+    flows = t .flowing (took-it .answer)
+
+    nodes-are : part (o .base) (o .«nodes_end») nodes ≡ ownNodes N (turn .area)
+    nodes-are = own-there .nodes
+
+    pub records-asked : Recordable lines (part (o .base) (o .«nodes_end») nodes) (m .records) (turn .area) (turn .k)
+    records-asked =
+        rw (flows .flows, nodes-are)
+        (recordable (R .tables .sound) one (R .stepping .kept) (flows .laid) (r .volts) (omega (arith, R .tables .most, R .stepping .most)) (R .stepping .step))
+
+    pub stores-asked : Sendable plan lines (m .froms) (m .tos)
+    stores-asked = rw (flows .flows) (sendable (R .tables .sound) one (R .stepping .kept) (flows .laid) (r .volts) (R .tables .planned))
+
+    pub taken-written : {m′ : Memory}
+        → m′ ≡ memory (recordsPut lines (part (o .base) (o .«nodes_end») nodes) (r .volts) (turn .area) (turn .k) (m .records)) (sentBy plan (turn .k) fromEnd lines (m .froms)) (sentBy plan (turn .k) toEnd lines (m .tos))
+        → advanced (r .answer) m′ ≡ ready N (turn .area) (turn .k) m
+    taken-written {m′} q =
+        taken-step N a (turn .k) m m′ (r .answer) (r .volts) took-it (q ∙ rw (flows .flows, nodes-are) (written-is one (flows .laid) (R .tables .planned) (r .volts)))
+
+  -- ---- from the table that the lines stand in again
+  module _ {lines : List Words} {r : Outcome} (same : SameBut (legsOf′ o legs) lines) (t : Tries N (turn .area) (turn .k) (m .records) (m .froms) (m .tos) lines r) (e : accepted (r .answer) ≡ true) where
+    abbrev again : List Words
+    again = legsOf′ o (legsPut o legs lines)
+
+    pub asked : Recordable (legsOf′ o (legsPut o legs lines)) (part (o .base) (o .«nodes_end») nodes) (m .records) (turn .area) (turn .k) × Sendable plan (legsOf′ o (legsPut o legs lines)) (m .froms) (m .tos)
+    asked = rw (legs-after same) (records-asked t e, stores-asked t e)
+
+    pub moved : {recs froms tos : Words} → recs ≡ recordsPut (legsOf′ o (legsPut o legs lines)) (part (o .base) (o .«nodes_end») nodes) (r .volts) (turn .area) (turn .k) (m .records)
+        → froms ≡ sentBy plan (turn .k) fromEnd (legsOf′ o (legsPut o legs lines)) (m .froms) → tos ≡ sentBy plan (turn .k) toEnd (legsOf′ o (legsPut o legs lines)) (m .tos)
+        → advanced (r .answer) (memory recs froms tos) ≡ ready N (turn .area) (turn .k) m
+    moved x y w = taken-written t e (rw (x, y, w, legs-after same))

@@ -1,0 +1,34 @@
+-- `step_commit::put_records` meets its contract. Assumes nothing.
+use mathlib.Core.Path.{_≡_, refl, _∙_}
+use native.Mathlib.Omega.{arith}
+use lib.IntN.{pos}
+use lib.ListN.{length-set}
+use mir.Syntax.{w64}
+use mir.Val.{toZ}
+use mir.Facts.{toZ-pos}
+use borrow.Author.Needs.{needs}
+use Rattle.step_commit.specs.Records.{recordsPut}
+use Rattle.step_commit.proofs.put_records.Statement.{statement}
+use Rattle.step_commit.proofs.put_records.Tie as tie
+
+put-legs-requires : tie.Need-put-legs-requires
+put-legs-requires c κs =
+    let p = c .before .before in
+    let k = p .before .before .before .pre in
+    (k .wires, p .put-volts .kept .1 .1 .0 ∙ simp length-set (k .long))
+
+same-length : tie.Need-same-length
+same-length c = c .before .put-legs .kept .1 .0 ∙ c .before .before .before .before .put-volts .kept .1 .1 .0 ∙ simp length-set refl
+
+returns : tie.Need-returns
+unfolding recordsPut
+returns c =
+    let p = c .before .before .before .before in
+    let s = p .before .before .before in
+    let one : toZ w64 (s .args .k) ≡ pos (s .args .k) = toZ-pos w64 (omega (arith, s .pre .step-most)) in
+    rw (p .put-volts .ensures, one) at (c .before .put-legs .ensures)
+
+pub put-records-spec : {M : Type 1} → statement M
+put-records-spec =
+    tie.close
+    (tie.spec (λ c. search needs) (λ c. search needs) (λ c. search needs) (λ c. search needs) (λ c κs. search needs) put-legs-requires same-length returns)

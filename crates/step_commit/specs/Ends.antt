@@ -1,0 +1,98 @@
+-- What the two ends of a row put in turn, from what is found of each, is what the paper puts for the row. Assumes nothing.
+use Prim.Native.Nat.{ℕ, suc, _+_, _%_}
+use native.Mathlib.Omega.{arith}
+use mathlib.Core.Path.{_≡_, refl, sym, ap, _∙_}
+use mathlib.Core.Bool.{Bool, true, false, cond, _&&_, _||_, and-true, and-false, true≢false}
+use mathlib.Core.List.{List, [], _∷_, map}
+use borrow.Author.Tests.{eqb-true}
+use lib.IntN.{ℤ}
+use lib.ListN.{set}
+use Rattle.whole.specs.Lists.{Words, fold}
+use Rattle.paper.specs.Rows.{Row, kind, isLine, isL, isC}
+use Rattle.paper.specs.Records.{currentAt, toCurrentAt, historyAt}
+use Rattle.paper.specs.Legs.{Leg, idle, current, echo, passedOn}
+use Rattle.paper.specs.Advance.{putIf}
+use Rattle.plan_rows.specs.Planned.{rowIn}
+use Rattle.step_legs.specs.declared.Wire.{Wire}
+use Rattle.step_legs.specs.Wires.{legOf, wireIn, currentIn, passedIn, wiresIn}
+use Rattle.step_flow.specs.Found.{passedBy, flown, flown-wire, flown-current, flown-passed}
+use Rattle.step_flow.specs.Flown.{Long}
+use Rattle.step_commit.specs.Records.{legPut}
+use Rattle.step_commit.specs.Stores.{fromEnd, toEnd, sentPut}
+
+-- ---- from lines to wires: what a line has is what is found of its wire
+module _ {A : Type 0} (put : Wire → ℤ → ℤ → A → A) (v : Words) where
+  abbrev pub found : Wire → A → A
+  found w = put w (current v (legOf w)) (passedBy (w .kind) (echo v (legOf w)))
+
+  same-put : {w w′ : Wire} {i i′ p p′ : ℤ} → w ≡ w′ → i ≡ i′ → p ≡ p′ → (x : A) → put w i p x ≡ put w′ i′ p′ x
+  same-put e f g x = cc
+
+  pub by-wires : (legs : List Words) → Long legs → (x : A) → fold (λ x l. put (wireIn l) (currentIn l) (passedIn l) x) x (map (flown v) legs) ≡ fold (λ x w. found w x) x (wiresIn legs)
+  unfolding fold wiresIn
+  by-wires [] n x = refl
+  by-wires (l ∷ legs) n x =
+      let e = n .nine 0 (omega arith) in
+      by-wires legs (record { nine = λ j h. n .nine (suc j) (omega arith) }) _
+      ∙ ap (λ (y : A). fold (λ x w. found w x) y (map wireIn legs)) (same-put (flown-wire v l) (flown-current v l e) (flown-passed v l e) x)
+
+-- ---- a row's two ends
+pub record EndOf (r : Row) (i e : ℕ) (w : Wire) : Type 0 where
+  pub row : w .row ≡ i
+  pub side : w .end ≡ e
+  pub kind-is : w .kind ≡ kind r
+
+swap : (a b : Bool) → (a ≡ true → b ≡ false) → (x : Words) (i j : ℕ) (y z : ℤ) → putIf b (putIf a x i y) j z ≡ putIf a (putIf b x j z) i y
+unfolding putIf
+swap true true h x i j y z = absurd (true≢false (h refl))
+swap true false h x i j y z = refl
+swap false b h x i j y z = refl
+
+-- a line is neither an L nor a C
+line-alone : (r : Row) → isLine r ≡ true → (isL r || isC r) ≡ false
+line-alone r e = rw (eqb-true (kind r) 4 e)
+
+-- a word that is put where a leg is the area's, and one that never is
+put-own : (o a : Bool) (f : Leg → ℤ) (l : Leg) (x : Words) (i : ℕ) → cond o (putIf (a && true) x i (f l)) x ≡ putIf (a && o) x i (f (cond o l idle))
+unfolding putIf
+put-own true a f l x i = refl
+put-own false a f l x i = rw and-false
+
+put-none : (o a : Bool) (x : Words) (i : ℕ) (y : ℤ) → cond o (putIf (a && false) x i y) x ≡ x
+unfolding putIf
+put-none true a x i y = rw and-false
+put-none false a x i y = refl
+
+module _ (v : Words) {r : Row} {i : ℕ} {w₁ w₂ : Wire} (f : EndOf r i 1 w₁) (t : EndOf r i 2 w₂) (o₁ o₂ : Bool) (x : Words) where
+  abbrev l₁ : Leg
+  l₁ = cond o₁ (legOf w₁) idle
+
+  abbrev l₂ : Leg
+  l₂ = cond o₂ (legOf w₂) idle
+
+  abbrev both : (Wire → Words → Words) → Words
+  both put = let y = cond o₁ (put w₁ x) x in cond o₂ (put w₂ y) y
+
+  pub row-put : putIf ((isL r || isC r) && o₁) (putIf (isLine r && o₂) (putIf o₁ x (currentAt i) (current v l₁)) (toCurrentAt i) (current v l₂)) (historyAt i) (passedOn v r l₁) ≡ both (found legPut v)
+  unfolding legPut putIf passedBy passedOn
+  row-put = rw (f .row, f .side, f .kind-is, t .row, t .side, t .kind-is) (by o₁ o₂)
+    where
+      by : (o₁ o₂ : Bool)
+          → putIf ((isL r || isC r) && o₁) (putIf (isLine r && o₂) (putIf o₁ x (currentAt i) (current v (cond o₁ (legOf w₁) idle))) (toCurrentAt i) (current v (cond o₂ (legOf w₂) idle))) (historyAt i) (passedOn v r (cond o₁ (legOf w₁) idle))
+          ≡ let y = cond o₁ (putIf (isL r || isC r) (set x (currentAt i) (current v (legOf w₁))) (historyAt i) (passedOn v r (legOf w₁))) x in cond o₂ (putIf (isLine r) y (toCurrentAt i) (current v (legOf w₂))) y
+      by true true = simp and-true (swap (isLine r) (isL r || isC r) (line-alone r) _ _ _ _ _)
+      by true false = simp (and-true, and-false)
+      by false true = simp (and-true, and-false)
+      by false false = simp and-false
+
+  module _ (plan : List (List ℕ)) (k : ℕ) where
+    abbrev at : ℕ
+    at = rowIn plan i .place + k % rowIn plan i .slots
+
+    pub from-put : putIf (isLine r && o₁) x at (passedOn v r l₁) ≡ both (found (λ w c p. sentPut plan k fromEnd w p) v)
+    unfolding sentPut passedBy passedOn
+    from-put = rw (f .row, f .side, f .kind-is, t .row, t .side, t .kind-is) (sym (put-none o₂ (isLine r) _ at _ ∙ put-own o₁ (isLine r) (passedOn v r) (legOf w₁) x at))
+
+    pub to-put : putIf (isLine r && o₂) x at (passedOn v r l₂) ≡ both (found (λ w c p. sentPut plan k toEnd w p) v)
+    unfolding sentPut passedBy passedOn
+    to-put = rw (f .row, f .side, f .kind-is, t .row, t .side, t .kind-is, put-none o₁ (isLine r) x at _) (sym (put-own o₂ (isLine r) (passedOn v r) (legOf w₂) x at))

@@ -1,0 +1,166 @@
+// What an accepted step of one area writes: its count, its voltages, the words of its rows, and what its line ends send. A leg's line has its current and
+// what it passes on; nothing is worked out again.
+ghost use mathlib.Core.Path.{_≡_};
+ghost use Prim.Native.Nat.{_+_, _≤_, _<_, _%_};
+ghost use lib.ListN.{length, set};
+ghost use Rattle.whole.specs.Lists.{fold};
+ghost use Rattle.whole.specs.Loans.{was, is};
+ghost use Rattle.paper.specs.Limits as Limits;
+ghost use Rattle.paper.specs.Advance.{putVolts};
+ghost use Rattle.step_legs.specs.Wires.{Wires};
+ghost use Rattle.step_commit.specs.Records.{legPut, linePut, recordsPut, Nodes, Recordable};
+ghost use Rattle.step_commit.specs.Stores.{fromEnd, toEnd, sentPut, sentBy, Slotted, Sendable};
+use paper::kinds;
+use plan_rows::Table;
+use step_legs::Line;
+use step_legs::Wire;
+
+// Where the records' sections are: node n's voltage at VOLTAGES + n, n from 1; the words of the row in place i, from 0, at the others + i.
+const VOLTAGES: usize = 31;
+
+const CURRENTS: usize = 64;
+
+const TO_CURRENTS: usize = 144;
+
+const HISTORIES: usize = 224;
+
+// Of a leg's line, what the step found.
+const CURRENT: usize = 7;
+
+const PASSED: usize = 8;
+
+// ---- the records
+
+// The voltages of the area's nodes.
+fn put_volts(nodes: &[usize], v: &[i64; 33], records: &mut [i64])
+    requires { ⌜ Nodes (now nodes) × (length (now records) ≡ Limits.recordWords) ⌝ }
+    ensures { λ _. ⌜ is records ≡ putVolts (was v) (was nodes) (was records) ⌝ }
+{
+    let mut i = 0;
+    while i < nodes.len() {
+        let n = nodes[i];
+        records[VOLTAGES + n] = v[n];
+        i += 1;
+    }
+}
+
+// A leg's part of its row's words: at the from end the current, and the history of an L or a C; a line's current at its to end.
+fn put_leg(l: Wire, current: i64, passed: i64, records: &mut [i64])
+    requires { ⌜ (l .row < Limits.rowEnd) × (length (now records) ≡ Limits.recordWords) ⌝ }
+    ensures { λ _. ⌜ is records ≡ legPut l current passed (was records) ⌝ }
+{
+    let row = l.row;
+    if l.end == 1 {
+        records[CURRENTS + row] = current;
+        if (l.kind == kinds::L) | (l.kind == kinds::C) {
+            records[HISTORIES + row] = passed;
+        }
+    } else if l.kind == kinds::LINE {
+        records[TO_CURRENTS + row] = current;
+    }
+}
+
+// Every leg's part.
+fn put_legs(legs: &[Line], records: &mut [i64])
+    requires { ⌜ Wires (now legs) × (length (now records) ≡ Limits.recordWords) ⌝ }
+    ensures { λ _. ⌜ is records ≡ fold linePut (was records) (was legs) ⌝ }
+{
+    let mut j = 0;
+    while j < legs.len() {
+        let l = step_legs::leg_at(legs, j);
+        let w = legs[j];
+        put_leg(l, w[CURRENT], w[PASSED], records);
+        j += 1;
+    }
+}
+
+// The count, the voltages, and the words of the area's rows.
+pub fn put_records(
+    legs: &[Line],
+    nodes: &[usize],
+    v: &[i64; 33],
+    records: &mut [i64],
+    area: usize,
+    k: usize,
+)
+    requires { ⌜ Recordable (now legs) (now nodes) (now records) area k ⌝ }
+    ensures { λ _. ⌜ is records ≡ recordsPut (was legs) (was nodes) (was v) area k (was records) ⌝ }
+{
+    records[area - 1] = k as i64;
+    put_volts(nodes, v, records);
+    put_legs(legs, records);
+}
+
+// ---- the line stores
+
+// "step s in place s mod 2d" of one line end's slots
+fn put_slot(ring: &mut [i64], k: usize, x: i64)
+    requires { ⌜ 0 < length (now ring) ⌝ }
+    ensures { λ _. ⌜ is ring ≡ set (was ring) (k % length (was ring)) x ⌝ }
+{
+    let at = k % ring.len();
+    ring[at] = x;
+}
+
+// The line's words, which start in mid-store, are lent on to be written.
+fn put_sent(store: &mut [i64], start: usize, slots: usize, k: usize, x: i64)
+    requires { ⌜ (start + slots ≤ length (now store)) × (0 < slots) ⌝ }
+    ensures { λ _. ⌜ is store ≡ set (was store) (start + k % slots) x ⌝ }
+{
+    let end = start + slots;
+    put_slot(&mut store[start..end], k, x);
+}
+
+// What a leg passes on, where it is a line's end, into that end's store.
+fn send_leg(plan: &Table, l: Wire, x: i64, froms: &mut [i64], tos: &mut [i64], k: usize)
+    requires { ⌜ Slotted (now plan) l ⌝ }
+    requires { ⌜ (length (now froms) ≡ Limits.storeWords) × (length (now tos) ≡ Limits.storeWords) ⌝ }
+    ensures { λ _. ⌜ is froms ≡ sentPut (was plan) k fromEnd l x (was froms) ⌝ }
+    ensures { λ _. ⌜ is tos ≡ sentPut (was plan) k toEnd l x (was tos) ⌝ }
+{
+    if l.kind == kinds::LINE {
+        let r = plan_rows::row_at(plan, l.row);
+        if l.end == 1 {
+            put_sent(froms, r.place, r.slots, k, x);
+        } else {
+            put_sent(tos, r.place, r.slots, k, x);
+        }
+    }
+}
+
+// "An area's advance writes only the slots of its own line ends.": one pass over its legs, into both stores.
+pub fn send(plan: &Table, legs: &[Line], froms: &mut [i64], tos: &mut [i64], k: usize)
+    requires { ⌜ Sendable (now plan) (now legs) (now froms) (now tos) ⌝ }
+    ensures { λ _. ⌜ is froms ≡ sentBy (was plan) k fromEnd (was legs) (was froms) ⌝ }
+    ensures { λ _. ⌜ is tos ≡ sentBy (was plan) k toEnd (was legs) (was tos) ⌝ }
+{
+    let mut j = 0;
+    while j < legs.len() {
+        let l = step_legs::leg_at(legs, j);
+        let w = legs[j];
+        send_leg(plan, l, w[PASSED], froms, tos, k);
+        j += 1;
+    }
+}
+
+// All that an accepted step writes.
+pub fn commit(
+    plan: &Table,
+    legs: &[Line],
+    nodes: &[usize],
+    v: &[i64; 33],
+    records: &mut [i64],
+    froms: &mut [i64],
+    tos: &mut [i64],
+    area: usize,
+    k: usize,
+)
+    requires { ⌜ Recordable (now legs) (now nodes) (now records) area k ⌝ }
+    requires { ⌜ Sendable (now plan) (now legs) (now froms) (now tos) ⌝ }
+    ensures { λ _. ⌜ is records ≡ recordsPut (was legs) (was nodes) (was v) area k (was records) ⌝ }
+    ensures { λ _. ⌜ is froms ≡ sentBy (was plan) k fromEnd (was legs) (was froms) ⌝ }
+    ensures { λ _. ⌜ is tos ≡ sentBy (was plan) k toEnd (was legs) (was tos) ⌝ }
+{
+    put_records(legs, nodes, v, records, area, k);
+    send(plan, legs, froms, tos, k);
+}

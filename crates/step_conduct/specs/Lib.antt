@@ -1,0 +1,2 @@
+pub mod Conducted
+pub mod Paper

@@ -1,0 +1,94 @@
+-- What is conducted by the plan is the paper's conductances, at each step before the next change. Assumes nothing.
+use Prim.Native.Nat.{ℕ, _/_, _*_, _≤_, _<_}
+use mathlib.Core.Path.{_≡_, refl, ap, _∙_}
+use mathlib.Core.Bool.{Bool, true, false}
+use mathlib.Core.List.{List, []}
+use native.Mathlib.Omega.{arith}
+use borrow.Author.Tests.{eqb-true}
+use lib.IntN.{ℤ, pos}
+use lib.ListN.{length, getD, set, length-set}
+use lib.Seq.{getD-set-same, getD-set-other}
+use Rattle.whole.specs.Lists.{Words, z, word, nat}
+use Rattle.paper.specs.Rows as Rows
+use Rattle.paper.specs.Rows.{isBranch, isSwitch}
+use Rattle.paper.specs.Conductance.{conductance}
+use Rattle.paper.specs.Areas.{Net, step}
+use Rattle.paper.specs.Legs.{isOpen, conducts}
+use Rattle.facts.specs.Nets.{NetSound}
+use Rattle.plan_ends.specs.Own.{rowOfEnd, ownEnd, endAt, FrameOf, Framed}
+use Rattle.plan_rows.specs.declared.Row.{Row}
+use Rattle.plan_rows.specs.Planned.{rowIn, rowOf, conductanceAt, Planned}
+use Rattle.step_factors.specs.Positions.{stays}
+use Rattle.step_own.specs.EndSizes as Sizes
+use Rattle.step_own.specs.Laid.{Conducting, end-own}
+use Rattle.step_conduct.specs.Conducted.{openOf, conductsOf, rowOfLine, conducted, Stays, Rated, Conducted}
+
+pub never-open : (k : ℕ) (r : Rows.Row) → isSwitch r ≡ false → isOpen k r ≡ false
+unfolding isOpen
+never-open k r e = rw e
+
+-- a line's frame does not hold its conductance
+frame-stays : {N : Net} {e : ℕ} {l : Words} (x : ℤ) → FrameOf N e l → FrameOf N e (set l 5 x)
+frame-stays {N} {e} {l} x f = record {
+  long = length-set l 5 x ∙ f .long;
+  near = getD-set-other l 5 0 x z (λ q. omega arith) ∙ f .near;
+  far = getD-set-other l 5 1 x z (λ q. omega arith) ∙ f .far;
+  row = getD-set-other l 5 2 x z (λ q. omega arith) ∙ f .row;
+  end = getD-set-other l 5 3 x z (λ q. omega arith) ∙ f .end;
+  kind = getD-set-other l 5 4 x z (λ q. omega arith) ∙ f .kind;
+}
+
+module _ {N : Net} {a : ℕ} {plan : List (List ℕ)} {legs : List Words} (s : NetSound N) (one : 1 ≤ a) (p : Planned N plan) (f : Framed N a legs) where
+  -- the end of line j, and its row
+  module _ (j : ℕ) (h : j < length legs) where
+    there : (endAt N a j < 2 * length (N .rows)) × (ownEnd N a (endAt N a j) ≡ true)
+    there = end-own N a j (omega (arith, f .long))
+
+    branch : isBranch (rowOfEnd N (endAt N a j)) ≡ true
+    branch = Sizes.own-branch N s a one (endAt N a j) (there .0) (there .1)
+
+    line-row : nat (word (getD legs j []) 2) ≡ endAt N a j / 2
+    line-row = ap nat (f .line j h .row)
+
+    row-is : rowOfLine plan (getD legs j []) ≡ rowOf N (endAt N a j / 2)
+    row-is = ap (rowIn plan) line-row ∙ p .row (endAt N a j / 2) (omega (arith, there .0))
+
+    g-is : rowOf N (endAt N a j / 2) .g ≡ conductance (step N) (rowOfEnd N (endAt N a j))
+    unfolding rowOf conductanceAt
+    g-is = rw branch
+
+    conducts-is : (k : ℕ) → conductsOf k (rowOf N (endAt N a j / 2)) ≡ conducts (step N) k (rowOfEnd N (endAt N a j))
+    unfolding conductsOf conducts openOf isOpen rowOf conductanceAt
+    conducts-is k = rw branch
+
+    -- up to its next change
+    conducts-stays : (k i u : ℕ) → Stays k (rowOf N (endAt N a j / 2)) u u → k ≤ i → i < u → conducts (step N) k (rowOfEnd N (endAt N a j)) ≡ conducts (step N) i (rowOfEnd N (endAt N a j))
+    unfolding conducts rowOf
+    conducts-stays k i u t l m = by (isSwitch (rowOfEnd N (endAt N a j))) refl
+      where
+        by : (b : Bool) → isSwitch (rowOfEnd N (endAt N a j)) ≡ b → conducts (step N) k (rowOfEnd N (endAt N a j)) ≡ conducts (step N) i (rowOfEnd N (endAt N a j))
+        by true q =
+            let w = eqb-true (Rows.kind (rowOfEnd N (endAt N a j))) 5 q in
+            rw (stays k i (rowOfEnd N (endAt N a j)) l (λ c. omega (arith, t .closes w c)) (λ o. omega (arith, t .opens w o)))
+        by false q = rw (never-open k (rowOfEnd N (endAt N a j)) q, never-open i (rowOfEnd N (endAt N a j)) q)
+
+  pub rated : Rated plan legs
+  rated = record {
+    line = λ j h. record {
+      number = let q = f .line j h .row in rw q;
+      there = rw (line-row j h) (omega (arith, there j h .0, s .rowMost));
+      g-end = omega (arith, ap (λ (r : Row). r .g) (row-is j h), g-is j h, Sizes.own-sound N s a one (endAt N a j) (there j h .0) (there j h .1) .gMost);
+    };
+  }
+
+  -- what is conducted serves each step before the next change
+  pub conducting : {k until : ℕ} {after : List Words} → Conducted plan k (length legs) legs after until → (i : ℕ) → k ≤ i → i < until → Conducting N a i after
+  unfolding conducted
+  conducting {k} {until} {after} c i l m = record {
+    framed = record { long = c .long ∙ f .long; line = λ j h. let q : j < length legs = rw (c .long) at h in rw (c .done j q) (frame-stays _ (f .line j q)) };
+    g = λ j h.
+        let q : j < length legs = rw (c .long) at h in
+        rw (c .done j q)
+        (getD-set-same (getD legs j []) 5 _ z (omega (arith, f .line j q .long))
+        ∙ ap pos (ap (conductsOf k) (row-is j q) ∙ conducts-is j q k ∙ conducts-stays j q k i until (rw (row-is j q) at (c .stays j q)) l m));
+  }

@@ -1,0 +1,9 @@
+pub mod Factored
+pub mod Along
+pub mod Meets
+pub mod Factors
+pub mod Serving
+pub mod Substituted
+pub mod Blocks
+pub mod Positions
+pub mod Proposed

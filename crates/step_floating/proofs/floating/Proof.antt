@@ -1,0 +1,114 @@
+-- `step_floating::floating` meets its contract: the nodes before `place` are reached, so the answer is the first of the others that floats. Assumes
+-- nothing.
+use Prim.Native.Nat.{_-_, _≤_}
+use mathlib.Core.Path.{_≡_, refl, sym, _∙_}
+use native.Mathlib.Omega.{arith}
+use lib.ListN.{length, getD, drop}
+use Rattle.whole.specs.Lists.{first}
+use Rattle.paper.specs.Limits as Limits
+use Rattle.paper.specs.Floating as Paper
+use Rattle.step_legs.specs.Wires.{legsIn}
+use Rattle.step_legs.specs.Free.{first-done}
+use Rattle.step_floating.specs.Search.{loose}
+use Rattle.step_floating.specs.Going.{State, state-start, state-next, left, left-less}
+use Rattle.step_floating.specs.Answer.{floats, search-on, search-found}
+use Rattle.step_floating.proofs.floating.Statement.{statement}
+use Rattle.step_floating.proofs.floating.Tie as tie
+
+abbrev Inv-branches : tie.InvT-branches
+Inv-branches legs free marks₀ j₀ calm₀ place node marks j calm = State legs free marks j calm
+
+abbrev μ-branches : tie.MeasureT-branches
+μ-branches legs free marks₀ j₀ calm₀ place node marks j calm = left (length legs) marks calm
+
+abbrev Inv-nodes : tie.InvT-nodes
+Inv-nodes legs free marks₀ j₀ calm₀ place₀ marks j calm place =
+    (place ≤ length free) × (State legs free marks j calm × (Paper.floating (loose free) Limits.nodeEnd free (legsIn legs) ≡ first (floats legs free) (drop place free)))
+
+abbrev μ-nodes : tie.MeasureT-nodes
+μ-nodes legs free marks₀ j₀ calm₀ place₀ marks j calm place = length free - place
+
+nodes-holds : tie.Need-nodes-holds Inv-branches μ-branches Inv-nodes μ-nodes
+unfolding Paper.floating
+nodes-holds c =
+    let s = c .before .before in
+    (omega arith, (rw (c .first-marks .ensures) (state-start (s .pre .0) (s .args .free .now)), refl))
+
+-- ---- at a leg
+abbrev start-of : tie.At-branches Inv-branches μ-branches Inv-nodes μ-nodes → tie.Start Inv-branches μ-branches Inv-nodes μ-nodes
+start-of b = b .before .before .before .before .before .before
+
+node-end : (b : tie.At-branches Inv-branches μ-branches Inv-nodes μ-nodes) → getD (start-of b .args .free .now) (b .before .before .before .nodes .place) 0 ≤ 32
+node-end b = start-of b .pre .1 .node (b .before .before .before .nodes .place) (b .before .before .if1 .left)
+
+spread-leg-requires : tie.Need-spread-leg-requires Inv-branches μ-branches Inv-nodes μ-nodes
+spread-leg-requires c κs =
+    let e = c .before in
+    let b = e .before .before in
+    (start-of b .pre .0, (b .branches .inv .circle .place (omega (arith, e .if2 .left)), e .if2 .left))
+
+add-around : tie.Need-add-around Inv-branches μ-branches Inv-nodes μ-nodes
+add-around c =
+    let e = c .before .before in
+    let b = e .before .before in
+    omega (arith, b .branches .inv .circle .place (omega (arith, e .if2 .left)), start-of b .good)
+
+branches-less : tie.Need-branches-less Inv-branches μ-branches Inv-nodes μ-nodes
+branches-less c =
+    let e = c .before .before .before in
+    let b = e .before .before in
+    let t = c .before .spread-leg .ensures in
+    rw (t .0, t .1) (left-less (start-of b .pre .0) (b .branches .inv) (e .if2 .left))
+
+branches-again : tie.Need-branches-again Inv-branches μ-branches Inv-nodes μ-nodes
+branches-again c =
+    let e = c .before .before .before in
+    let b = e .before .before in
+    let t = c .before .spread-leg .ensures in
+    rw (t .0, t .1, c .around .ensures) (state-next (start-of b .pre .0) (b .branches .inv) (e .if2 .left))
+
+-- ---- from node to node
+nodes-again : tie.Need-nodes-again Inv-branches μ-branches Inv-nodes μ-nodes
+nodes-again c =
+    let b = c .before in
+    let n = b .before .before in
+    let s = b .branches .inv in
+    (omega (arith, n .if1 .left), (s, search-on s (start-of b .pre .1) (n .if1 .left) (n .before .nodes .inv .1 .1) (c .branches-test .taken)))
+
+returns : tie.Need-returns Inv-branches μ-branches Inv-nodes μ-nodes
+returns c =
+    let n = c .before in
+    let a = n .before .before .before .args in
+    sym (n .nodes .inv .1 .1 ∙ first-done (floats (a .legs .now) (a .free .now)) (a .free .now) (n .nodes .place) (c .if1 .taken))
+
+returns-2 : tie.Need-returns-2 Inv-branches μ-branches Inv-nodes μ-nodes
+returns-2 c =
+    let b = c .before .before in
+    let n = b .before .before in
+    sym (search-found (b .branches .inv) (start-of b .pre .1) (n .if1 .left) (n .before .nodes .inv .1 .1) (c .if2 .taken) (c .before .branches-test .left))
+
+pub floating-spec : {M : Type 1} → statement M
+floating-spec =
+    tie.close
+    (tie.spec
+    Inv-branches
+    μ-branches
+    Inv-nodes
+    μ-nodes
+    (λ c κs. c .before .pre .1)
+    nodes-holds
+    (λ c. omega (arith, c .if1 .left, c .before .before .before .before .good))
+    (λ c. c .before .if1 .left)
+    (λ c. c .before .before .nodes .inv .1 .0)
+    (λ c. omega (arith, node-end c))
+    (λ c. omega (arith, node-end c))
+    spread-leg-requires
+    add-around
+    (λ c κs. tt)
+    branches-less
+    branches-again
+    (λ c. let b = c .before in omega (arith, b .before .before .if1 .left, start-of b .good))
+    (λ c. omega (arith, c .before .before .before .if1 .left))
+    nodes-again
+    returns
+    returns-2)

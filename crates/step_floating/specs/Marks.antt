@@ -1,0 +1,80 @@
+-- Marks by node: the first ones, what a node reached changes, and the sum that falls with it. Assumes nothing.
+use Prim.Native.Nat.{ℕ, zero, suc, _+_, _<_}
+use native.Mathlib.Omega.{arith}
+use mathlib.Core.Path.{_≡_, refl, sym, ap, _∙_}
+use mathlib.Core.Logic.{_⊎_, inl, inr}
+use mathlib.Core.Bool.{Bool, true, false, cond, not, _&&_}
+use mathlib.Core.List.{List, [], _∷_}
+use lib.Dec.{eqb}
+use lib.ListN.{length, getD, set, length-set, length-map, replicate, getD-replicate}
+use lib.Seq.{ext-getD}
+use Rattle.whole.specs.Lists.{numbers, fold, any, sum}
+use Rattle.whole.specs.Folds.{fold-keeps, getD-map, getD-numbers, length-numbers}
+use Rattle.whole.specs.Written.{fold-set}
+use Rattle.paper.specs.Limits as Limits
+use Rattle.paper.specs.Floating.{marks}
+use Rattle.paths.specs.Paths.{set-cases}
+use Rattle.step_floating.specs.Search.{loose}
+
+pub marks-length : (fix : ℕ → Bool) (nodes : ℕ) → length (marks fix nodes) ≡ suc nodes
+unfolding marks
+marks-length fix nodes = length-map (numbers 0 (suc nodes)) (λ n. cond (fix n) 0 n) ∙ length-numbers 0 (suc nodes)
+
+-- ---- all reached, then the free nodes numbered one by one
+abbrev pub put : List ℕ → ℕ → List ℕ
+put m n = set m n n
+
+abbrev none : List ℕ
+none = replicate (suc Limits.nodeEnd) 0
+
+pub marks-free : (free : List ℕ) → fold put none free ≡ marks (loose free) Limits.nodeEnd
+unfolding marks loose
+marks-free free = ext-getD 0 (fold put none free) (marks (loose free) Limits.nodeEnd) (long ∙ sym (marks-length (loose free) Limits.nodeEnd)) (λ n h. at n (omega (arith, long)))
+  where
+    long : length (fold put none free) ≡ suc Limits.nodeEnd
+    long = fold-keeps (λ m. length m ≡ suc Limits.nodeEnd) put (λ m n e. length-set m n n ∙ e) none free refl
+
+    either : (b : Bool) (n : ℕ) → cond (b && true) n 0 ≡ cond (not b) 0 n
+    either true n = refl
+    either false n = refl
+
+    at : (n : ℕ) → n < suc Limits.nodeEnd → getD (fold put none free) n 0 ≡ getD (marks (loose free) Limits.nodeEnd) n 0
+    at n h =
+        let e : 0 + n ≡ n = omega arith in
+        let l : n < length (numbers 0 (suc Limits.nodeEnd)) = rw (length-numbers 0 (suc Limits.nodeEnd)) h in
+        fold-set (λ m. true) (λ m. m) none free n 0 h
+        ∙ ap (λ (d : ℕ). cond (any (λ m. eqb m n) free && true) n d) (getD-replicate (suc Limits.nodeEnd) n 0 0 h)
+        ∙ either (any (λ m. eqb m n) free) n
+        ∙ sym (getD-map (λ m. cond (loose free m) 0 m) (numbers 0 (suc Limits.nodeEnd)) n 0 0 l ∙ ap (λ (m : ℕ). cond (loose free m) 0 m) (getD-numbers 0 (suc Limits.nodeEnd) n 0 h ∙ e))
+
+-- ---- nodes marked 0
+pub zero-any : (m : List ℕ) (n d : ℕ) → getD m n d ≡ 0 → getD m n 0 ≡ 0
+zero-any [] n d e = refl
+zero-any (x ∷ m) zero d e = e
+zero-any (x ∷ m) (suc n) d e = zero-any m n d e
+
+module _ (m : List ℕ) (i : ℕ) where
+  pub zero-set : (n : ℕ) → getD m n 0 ≡ 0 → getD (set m i 0) n 0 ≡ 0
+  zero-set n e = go (set-cases m i 0 n 0)
+    where
+      go : ((i ≡ n) × (getD (set m i 0) n 0 ≡ 0)) ⊎ (getD (set m i 0) n 0 ≡ getD m n 0) → getD (set m i 0) n 0 ≡ 0
+      go (inl p) = p .1
+      go (inr p) = p ∙ e
+
+  -- what holds of i and of the nodes marked 0 before
+  pub set-zero : (P : ℕ → Type 0) → P i → ((n : ℕ) → getD m n 0 ≡ 0 → P n) → (n : ℕ) → getD (set m i 0) n 0 ≡ 0 → P n
+  set-zero P p h n e = go (set-cases m i 0 n 0)
+    where
+      go : ((i ≡ n) × (getD (set m i 0) n 0 ≡ 0)) ⊎ (getD (set m i 0) n 0 ≡ getD m n 0) → P n
+      go (inl q) = rw (← q .0) p
+      go (inr q) = h n (sym q ∙ e)
+
+-- ---- their sum
+abbrev pub weight : List ℕ → ℕ
+weight m = sum (λ x. x) m
+
+pub weight-set : (m : List ℕ) (n : ℕ) → n < length m → weight (set m n 0) + getD m n 0 ≡ weight m
+unfolding sum
+weight-set [] n h = absurd (omega arith)
+weight-set (x ∷ m) zero h = omega arith
+weight-set (x ∷ m) (suc n) h = omega (arith, weight-set m n (omega arith))

@@ -1,0 +1,52 @@
+-- 17: what the legs pass on, against the end of a history, line by line; and as a search over the wires. Assumes nothing.
+use Prim.Native.Nat.{ℕ, suc, _+_, _≤_, _<_}
+use native.Mathlib.Omega.{arith}
+use native.Mathlib.Numerals.{add-one}
+use mathlib.Core.Path.{_≡_, refl}
+use mathlib.Core.Bool.{Bool, true, false, cond, not}
+use mathlib.Core.List.{List, [], _∷_, map}
+use lib.ListN.{length, getD, drop, drop-of-length-le}
+use lib.Seq.{drop-cons}
+use Rattle.whole.specs.Lists.{Words, upTo}
+use Rattle.paper.specs.Limits as Limits
+use Rattle.paper.specs.Legs.{echo}
+use Rattle.step_legs.specs.declared.Wire.{Wire}
+use Rattle.step_legs.specs.Wires.{legOf, wireIn, passedIn, wiresIn}
+use Rattle.step_flow.specs.Found.{passedBy, flown, flown-word, flown-passed}
+use Rattle.step_flow.specs.Flown.{Long}
+
+unfoldable pub beyondLine : Words → Bool
+beyondLine l = not (upTo Limits.historyEnd (passedIn l))
+
+unfoldable pub firstRow : List Words → ℕ
+firstRow [] = 0
+firstRow (l ∷ legs) = let r = firstRow legs in cond (beyondLine l) (suc (wireIn l .row)) r
+
+-- ---- from line j on
+module _ (legs : List Words) (j : ℕ) (h : j < length legs) where
+  pub row-hit : beyondLine (getD legs j []) ≡ true → firstRow (drop j legs) ≡ wireIn (getD legs j []) .row + 1
+  unfolding firstRow
+  row-hit e = rw (drop-cons legs j [] h, e, add-one)
+
+  pub row-pass : beyondLine (getD legs j []) ≡ false → firstRow (drop (j + 1) legs) ≡ firstRow (drop j legs)
+  unfolding firstRow
+  row-pass e = rw (drop-cons legs j [] h, e, add-one)
+
+pub row-none : (legs : List Words) (j : ℕ) → length legs ≤ j → firstRow (drop j legs) ≡ 0
+unfolding firstRow
+row-none legs j h = rw (drop-of-length-le legs h)
+
+-- ---- of the wires
+
+unfoldable pub beyondLeg : Words → Wire → Bool
+beyondLeg v w = not (upTo Limits.historyEnd (passedBy (w .kind) (echo v (legOf w))))
+
+unfoldable pub firstBy : Words → List Wire → ℕ
+firstBy v [] = 0
+firstBy v (w ∷ wires) = let r = firstBy v wires in cond (beyondLeg v w) (suc (w .row)) r
+
+pub first-by : (v : Words) (legs : List Words) → Long legs → firstRow (map (flown v) legs) ≡ firstBy v (wiresIn legs)
+unfolding firstRow firstBy beyondLine beyondLeg wiresIn
+first-by v [] n = refl
+first-by v (l ∷ legs) n =
+    rw (flown-word v l 2 (omega arith), flown-passed v l (n .nine 0 (omega arith)), first-by v legs (record { nine = λ j h. n .nine (suc j) (omega arith) }))

@@ -1,0 +1,5 @@
+pub mod Found
+pub mod Pass
+pub mod Flown
+pub mod Past
+pub mod Beyond

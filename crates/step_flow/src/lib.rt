@@ -1,0 +1,117 @@
+// What flows once the voltages are known: each leg's current and i + g·u are worked out once and kept in its line. The balance at the free nodes (16)
+// and the values that are passed on (17) are judged by what is kept.
+ghost use mathlib.Core.Path.{_≡_};
+ghost use mathlib.Core.List.{[], map};
+ghost use Prim.Native.Nat.{_<_};
+ghost use lib.ListN.{set, length, getD};
+ghost use lib.Dec.{T};
+ghost use lib.Signed.{nonNeg};
+ghost use Rattle.whole.specs.Lists.{nat};
+ghost use Rattle.whole.specs.Loans.{was, is};
+ghost use Rattle.paper.specs.Legs.{current};
+ghost use Rattle.step_legs.specs.Wires.{Carries, Wires, Sized, legsIn};
+ghost use Rattle.step_legs.specs.Shares.{Volts};
+ghost use Rattle.step_legs.specs.Sums.{Sums};
+ghost use Rattle.step_legs.specs.Free.{Free};
+ghost use Rattle.step_flow.specs.Found.{Small, passedBy, foundOf, keeping, flown};
+ghost use Rattle.step_flow.specs.Past.{Near, firstPast};
+ghost use Rattle.step_flow.specs.Beyond.{firstRow};
+use paper::History;
+use paper::kinds;
+use step_legs::Line;
+use step_legs::Wire;
+
+// "L: next h is i + g·u"; "C: next h is -i - g·u"; LINE: "It then sends -(g·v + i)." Of i + g·u, by the row's kind.
+fn passed_on(kind: usize, echo: i64) -> i64
+    requires { ⌜ Small echo ⌝ }
+    ensures { λ r. ⌜ r ≡ passedBy kind echo ⌝ }
+{
+    if kind == kinds::L {
+        return echo;
+    }
+    if kind == kinds::C || kind == kinds::LINE {
+        return -echo;
+    }
+    0
+}
+
+// What a step finds of a leg.
+struct Found {
+    current: i64,
+    passed: i64,
+}
+
+// i = g·u + h and i + g·u, by one product
+fn carried(l: Wire, v: &[i64; 33]) -> Found
+    requires { ⌜ Carries l × Volts (now v) ⌝ }
+    ensures { λ r. ⌜ r ≡ foundOf (was v) l ⌝ }
+{
+    let gu = step_legs::through(l, v);
+    let i = gu + l.h;
+    let passed = passed_on(l.kind, i + gu);
+    Found {
+        current: i,
+        passed: passed,
+    }
+}
+
+fn keep(legs: &mut [Line], j: usize, f: Found)
+    requires { ⌜ j < length (now legs) ⌝ }
+    ensures { λ _. ⌜ is legs ≡ set (was legs) j (keeping f (getD (was legs) j [])) ⌝ }
+{
+    step_legs::put_word(legs, j, 7, f.current);
+    step_legs::put_word(legs, j, 8, f.passed);
+}
+
+// Each leg's current and what it passes on, into its line; by node, the currents that leave it.
+pub fn flow(legs: &mut [Line], v: &[i64; 33]) -> [i64; 33]
+    requires { ⌜ Sized (now legs) × Volts (now v) ⌝ }
+    ensures { λ r. ⌜ Sums (current (was v)) (legsIn (was legs)) r ⌝ }
+    ensures { λ _. ⌜ is legs ≡ map (flown (was v)) (was legs) ⌝ }
+{
+    let mut sums = [0; 33];
+    let mut j = 0;
+    while j < legs.len() {
+        let l = step_legs::leg_at(legs, j);
+        let f = carried(l, v);
+        step_legs::add(&mut sums, l.near, f.current);
+        keep(legs, j, f);
+        j += 1;
+    }
+    sums
+}
+
+// "At each free node the exact whole-number sum of currents leaving, minus injection, has magnitude at most the limit.": the lowest at which it has
+// not, or 0.
+pub fn balance(sums: &[i64; 33], inject: &[i64; 33], free: &[usize], limit: i64) -> usize
+    requires { ⌜ Near (now sums) (now inject) × Free (now free) × T (nonNeg limit) ⌝ }
+    ensures { λ r. ⌜ r ≡ firstPast (nat limit) (was sums) (was inject) (was free) ⌝ }
+{
+    let mut i = 0;
+    while i < free.len() {
+        let p = free[i];
+        let ok = whole::within(sums[p] - inject[p], limit);
+        if !ok {
+            return p;
+        }
+        i += 1;
+    }
+    0
+}
+
+// 17 HISTORY, "a next history or sent value beyond 10^17": the place, from 1, of the first row of which a leg passes on so much; 0 where none does.
+pub fn first_beyond(legs: &[Line]) -> usize
+    requires { ⌜ Wires (now legs) ⌝ }
+    ensures { λ r. ⌜ r ≡ firstRow (was legs) ⌝ }
+{
+    let mut j = 0;
+    while j < legs.len() {
+        let w = legs[j];
+        let ok = whole::within(w[8], History::MAX);
+        if !ok {
+            return w[2] as usize + 1;
+        }
+        j += 1;
+    }
+    0
+}

@@ -1,0 +1,118 @@
+-- What is heard, of a network's own legs: the rings are there, and the legs are then laid. Assumes nothing.
+use Prim.Native.Nat.{ℕ, _/_, _≤_, _<_}
+use mathlib.Core.Path.{_≡_, sym, ap, _∙_}
+use mathlib.Core.Bool.{true, cond}
+use mathlib.Core.List.{List, [], map}
+use native.Mathlib.Omega.{arith}
+use borrow.Author.Tests.{eq-eqb}
+use lib.ListN.{length, getD, length-map, length-set}
+use lib.Seq.{getD-set-same}
+use lib.IntN.{ℤ}
+use Rattle.whole.specs.Lists.{Words, z, word, nat}
+use Rattle.whole.specs.Folds.{getD-map}
+use Rattle.paper.specs.Rows.{isLine}
+use Rattle.paper.specs.Faults.{delay, slots}
+use Rattle.paper.specs.Areas.{Net, step}
+use Rattle.paper.specs.Records.{offset, historyAt}
+use Rattle.paper.specs.Legs.{sentTo}
+use Rattle.facts.specs.Nets.{NetSound, rowAt, slots-within}
+use Rattle.received.specs.Received.{heard-is}
+use Rattle.plan_rows.specs.declared.Row.{Row}
+use Rattle.plan_rows.specs.Planned.{rowIn, rowOf, Planned}
+use Rattle.plan_ends.specs.Own.{rowOfEnd, sideOfEnd, endAt, FrameOf}
+use Rattle.step_legs.specs.Wires.{wireIn, wireAt}
+use Rattle.step_own.specs.Ends.{farStore, facing, hAt, Kept}
+use Rattle.step_own.specs.Laid.{Conducting, Laid, end-own, conducting-wires}
+use Rattle.step_histories.specs.Heard.{Ring, Hears, sentBy, historyOf, heardLine}
+use Rattle.step_histories.specs.Lines.{written-word}
+
+-- ---- the plan's row
+module _ {N : Net} {plan : List (List ℕ)} (p : Planned N plan) (i : ℕ) (h : i < length (N .rows)) where
+  place-is : rowIn plan i .place ≡ offset N i
+  unfolding rowOf
+  place-is = ap (λ (r : Row). r .place) (p .row i h)
+
+  slots-are : rowIn plan i .slots ≡ slots (step N) (rowAt N i)
+  unfolding rowOf
+  slots-are = ap (λ (r : Row). r .slots) (p .row i h)
+
+  delay-is : rowIn plan i .delay ≡ delay (step N) (rowAt N i)
+  unfolding rowOf
+  delay-is = ap (λ (r : Row). r .delay) (p .row i h)
+
+  ring-of : NetSound N → isLine (rowAt N i) ≡ true → Ring (rowIn plan i)
+  ring-of s e =
+      let l = s .row i h .line e in
+      record { some = omega (arith, slots-are, l .ring, l .late); inside = omega (arith, place-is, slots-are, slots-within N i h, s .slotMost) }
+
+  -- what its end receives
+  sent-is : (side : ℕ) (froms tos : Words) (k : ℕ) → sentBy (rowIn plan i) side froms tos k (rowIn plan i .delay) ≡ sentTo N k i (rowAt N i) (farStore side froms tos)
+  unfolding sentBy
+  sent-is side froms tos k = simp (place-is, slots-are, delay-is) (heard-is N k i (rowAt N i) (farStore side froms tos))
+
+-- ---- the area's legs
+module _ {N : Net} {a k : ℕ} {plan : List (List ℕ)} {legs : List Words} (s : NetSound N) (p : Planned N plan) (c : Conducting N a k legs) where
+  row-in : (j : ℕ) → j < length legs → endAt N a j / 2 < length (N .rows)
+  row-in j h = omega (arith, end-own N a j (omega (arith, c .framed .long)) .0)
+
+  pub hears : {recs froms tos : Words} → 1 ≤ a → Kept recs froms tos → Hears plan legs recs froms tos
+  hears one kept = record { wires = conducting-wires s one c; ring = ring; kept = kept }
+    where
+      ring : (j : ℕ) → j < length legs → wireAt legs j .kind ≡ 4 → Ring (rowIn plan (wireAt legs j .row))
+      ring j h e =
+          let f = c .framed .line j h in
+          rw (f .row) (ring-of p (endAt N a j / 2) (row-in j h) s (eq-eqb _ 4 (sym (ap nat (f .kind)) ∙ e)))
+
+  module _ (recs froms tos : Words) where
+    abbrev heard : Words → Words
+    heard = heardLine plan recs froms tos k
+
+    history-is : (j : ℕ) → j < length legs → historyOf plan recs froms tos k (wireAt legs j) ≡ hAt N k recs froms tos (endAt N a j)
+    unfolding historyOf hAt
+    history-is j h =
+        let f = c .framed .line j h in
+        let e = endAt N a j in
+        rw (f .kind, f .row, f .end)
+        (ap (λ (x : ℤ). cond (isLine (rowOfEnd N e)) x (facing (sideOfEnd e) (word recs (historyAt (e / 2))))) (sent-is p (e / 2) (row-in j h) (sideOfEnd e) froms tos k))
+
+    -- a line of the area's, with its history
+    module _ (j : ℕ) (h : j < length legs) where
+      abbrev l : Words
+      l = getD legs j []
+
+      abbrev f : FrameOf N (endAt N a j) l
+      f = c .framed .line j h
+
+      stays : (i : ℕ) → (i ≡ 6 → ⊥) → word (heard l) i ≡ word l i
+      unfolding heardLine
+      stays i e = written-word (λ x. historyOf plan recs froms tos k (wireIn x)) l i e
+
+      frame-of : FrameOf N (endAt N a j) (heard l)
+      unfolding heardLine
+      frame-of = record {
+        long = length-set l 6 _ ∙ f .long;
+        near = stays 0 (λ e. omega arith) ∙ f .near;
+        far = stays 1 (λ e. omega arith) ∙ f .far;
+        row = stays 2 (λ e. omega arith) ∙ f .row;
+        end = stays 3 (λ e. omega arith) ∙ f .end;
+        kind = stays 4 (λ e. omega arith) ∙ f .kind;
+      }
+
+      h-is : word (heard l) 6 ≡ hAt N k recs froms tos (endAt N a j)
+      unfolding heardLine
+      h-is = getD-set-same l 6 _ z (omega (arith, f .long)) ∙ history-is j h
+
+    pub heard-laid : Laid N a k recs froms tos (map (heardLine plan recs froms tos k) legs)
+    heard-laid = record {
+      conducting = record {
+        framed = record { long = length-map legs heard ∙ c .framed .long; line = λ j h. rw (line-is j h) (frame-of j (inside h)) };
+        g = λ j h. rw (line-is j h) (stays j (inside h) 5 (λ e. omega arith) ∙ c .g j (inside h));
+      };
+      h = λ j h. rw (line-is j h) (h-is j (inside h));
+    }
+      where
+        inside : {j : ℕ} → j < length (map heard legs) → j < length legs
+        inside h = rw (length-map legs heard) at h
+
+        line-is : (j : ℕ) → j < length (map heard legs) → getD (map heard legs) j [] ≡ heard (getD legs j [])
+        line-is j h = getD-map heard legs j [] [] (inside h)

@@ -1,0 +1,5 @@
+pub mod Wires
+pub mod Leaving
+pub mod Shares
+pub mod Sums
+pub mod Free

@@ -1,0 +1,73 @@
+-- A branch of the step, by its row: whose its ends are. Assumes nothing.
+use Prim.Native.Nat.{ℕ, _≤_, _<_}
+use native.Mathlib.Omega.{arith}
+use mathlib.Core.Path.{_≡_, refl, sym, ap, _∙_}
+use mathlib.Core.Bool.{Bool, true, false, cond, _&&_}
+use mathlib.Core.List.{List}
+use borrow.Author.Tests.{ne-eqb}
+use lib.Dec.{eqb}
+use lib.IntN.{ℤ}
+use lib.ListN.{length, length-map}
+use Rattle.whole.specs.Lists.{Words, numbers}
+use Rattle.whole.specs.Folds.{getD-map, getD-numbers, length-numbers}
+use Rattle.paper.specs.Rows.{isLine, isBranch, from, to}
+use Rattle.paper.specs.Areas.{Net, areaOf, rowArea}
+use Rattle.paper.specs.Legs.{Branch, Heard, legsBy, legsOf, lineLegs, lineEnd, plainLegs}
+use Rattle.paper.specs.Advance.{branchIn}
+use Rattle.facts.specs.Nets.{rowAt}
+use Rattle.plan_ends.specs.Own.{ownerOf}
+
+pub branch-at : (N : Net) (a k : ℕ) (recs : Words) (ears : List Heard) (i : ℕ) → i < length (N .rows) → branchIn (legsOf N a k recs ears) i ≡ legsBy N a k recs ears i
+unfolding legsOf
+branch-at N a k recs ears i h =
+    getD-map (legsBy N a k recs ears) (numbers 0 (length (N .rows))) i 0 _ (rw length-numbers h)
+    ∙ ap (legsBy N a k recs ears) (getD-numbers 0 (length (N .rows)) i 0 h ∙ omega arith)
+
+pub legs-length : (N : Net) (a k : ℕ) (recs : Words) (ears : List Heard) → length (legsOf N a k recs ears) ≡ length (N .rows)
+unfolding legsOf
+legs-length N a k recs ears = length-map (numbers 0 (length (N .rows))) (legsBy N a k recs ears) ∙ length-numbers 0 (length (N .rows))
+
+-- of one of three, what is one of three
+of-three : {A B : Type 0} (f : A → B) (s t : Bool) (x y w : A) → f (cond s x (cond t y w)) ≡ cond s (f x) (cond t (f y) (f w))
+of-three f true t x y w = refl
+of-three f false true x y w = refl
+of-three f false false x y w = refl
+
+same-three : {B : Type 0} (s t : Bool) (b : B) → cond s b (cond t b b) ≡ b
+same-three true t b = refl
+same-three false true b = refl
+same-three false false b = refl
+
+-- an end of the area's own, by its owner
+own-is : (a : ℕ) → 1 ≤ a → (s t : Bool) (e f : ℕ) → cond s (eqb e a) (cond (t && eqb f a) true false) ≡ eqb (cond s e (cond t f 0)) a
+own-is a h true t e f = refl
+own-is a h false true e f = self (eqb f a)
+  where
+    self : (b : Bool) → cond b true false ≡ b
+    self true = refl
+    self false = refl
+own-is a h false false e f = sym (ne-eqb 0 a (λ q. omega arith))
+
+line-own : (o : Bool) (n g : ℕ) (h : ℤ) → lineEnd o n g h .own ≡ o
+unfolding lineEnd
+line-own true n g h = refl
+line-own false n g h = refl
+
+module _ (N : Net) (a k : ℕ) (recs : Words) (ears : List Heard) (i : ℕ) where
+  pub row-is : legsBy N a k recs ears i .row ≡ rowAt N i
+  unfolding legsBy lineLegs plainLegs
+  row-is =
+      of-three (λ (b : Branch). b .row) (isLine (rowAt N i)) (isBranch (rowAt N i) && eqb (rowArea N (rowAt N i)) a) _ _ _
+      ∙ same-three (isLine (rowAt N i)) (isBranch (rowAt N i) && eqb (rowArea N (rowAt N i)) a) (rowAt N i)
+
+  pub from-own : 1 ≤ a → legsBy N a k recs ears i .fromEnd .own ≡ eqb (ownerOf N (rowAt N i) 1) a
+  unfolding legsBy lineLegs plainLegs ownerOf
+  from-own h =
+      of-three (λ (b : Branch). b .fromEnd .own) (isLine (rowAt N i)) (isBranch (rowAt N i) && eqb (rowArea N (rowAt N i)) a) _ _ _
+      ∙ rw line-own (own-is a h (isLine (rowAt N i)) (isBranch (rowAt N i)) (areaOf N (from (rowAt N i))) (rowArea N (rowAt N i)))
+
+  pub to-own : 1 ≤ a → legsBy N a k recs ears i .toEnd .own ≡ eqb (ownerOf N (rowAt N i) 2) a
+  unfolding legsBy lineLegs plainLegs ownerOf
+  to-own h =
+      of-three (λ (b : Branch). b .toEnd .own) (isLine (rowAt N i)) (isBranch (rowAt N i) && eqb (rowArea N (rowAt N i)) a) _ _ _
+      ∙ rw line-own (own-is a h (isLine (rowAt N i)) (isBranch (rowAt N i)) (areaOf N (to (rowAt N i))) (rowArea N (rowAt N i)))

@@ -1,0 +1,63 @@
+-- One end of a row at a step, as a leg: what the network settles, the conductance at the switches' positions, and the history. Assumes nothing.
+use Prim.Native.Nat.{ℕ, _/_, _%_, _≤_, _<_}
+use mathlib.Core.Path.{_≡_}
+use mathlib.Core.Bool.{Bool, true, false, cond}
+use borrow.Author.Tests.{eqb-true}
+use lib.Dec.{eqb}
+use lib.ListN.{length}
+use lib.IntN.{ℤ, pos, negℤ, natAbs}
+use Rattle.whole.specs.Lists.{Words, z, word}
+use Rattle.paper.specs.Limits as Limits
+use Rattle.paper.specs.Rows.{Row, kind, isLine}
+use Rattle.paper.specs.Conductance.{conductance}
+use Rattle.paper.specs.Areas.{Net, step}
+use Rattle.paper.specs.Records as Records
+use Rattle.paper.specs.Legs.{Leg, leg, idle, isOpen, conducts, sentTo}
+use Rattle.plan_ends.specs.Own.{rowOfEnd, sideOfEnd, ownEnd, nearOf, farOf}
+use Rattle.step_legs.specs.declared.Wire.{Wire}
+
+-- "a history has the sign its current has in leaving that node"
+unfoldable pub facing : ℕ → ℤ → ℤ
+facing side h = cond (eqb side 1) h (negℤ h)
+
+-- the store that a line's end hears: the from end the to-end store, the to end the from-end store
+unfoldable pub farStore : ℕ → Words → Words → Words
+farStore side froms tos = cond (eqb side 1) tos froms
+
+abbrev pub gAt : Net → ℕ → ℕ → ℕ
+gAt N k e = conducts (step N) k (rowOfEnd N e)
+
+unfoldable pub hAt : Net → ℕ → Words → Words → Words → ℕ → ℤ
+hAt N k recs froms tos e =
+    cond (isLine (rowOfEnd N e)) (sentTo N k (e / 2) (rowOfEnd N e) (farStore (sideOfEnd e) froms tos))
+    (facing (sideOfEnd e) (word recs (Records.historyAt (e / 2))))
+
+-- the end's leg, as the paper has it and as the code has it
+abbrev pub legOfEnd : Net → ℕ → Words → Words → Words → ℕ → Leg
+legOfEnd N k recs froms tos e = leg (nearOf N e) (farOf N e) (gAt N k e) (hAt N k recs froms tos e)
+
+abbrev pub wireOf : Net → ℕ → Words → Words → Words → ℕ → Wire
+wireOf N k recs froms tos e =
+    record { near = nearOf N e; far = farOf N e; row = e / 2; end = sideOfEnd e; kind = kind (rowOfEnd N e); g = pos (gAt N k e); h = hAt N k recs froms tos e }
+
+-- its leg without a history
+abbrev pub bareOfEnd : Net → ℕ → ℕ → Leg
+bareOfEnd N k e = leg (nearOf N e) (farOf N e) (gAt N k e) z
+
+-- an end that is not the area's is idle
+unfoldable pub endLeg : Net → ℕ → ℕ → Words → Words → Words → ℕ → Leg
+endLeg N a k recs froms tos e = cond (ownEnd N a e) (legOfEnd N k recs froms tos e) idle
+
+-- a line is no switch
+pub line-conducts : (step k : ℕ) (r : Row) → isLine r ≡ true → conducts step k r ≡ conductance step r
+unfolding conducts isOpen
+line-conducts step k r e = rw (eqb-true (kind r) 4 e)
+
+-- ---- what is known where legs are laid: the lent memory has its lengths, and histories and sent values their range
+pub record Kept (records froms tos : Words) : Type 0 where
+  pub records-long : length records ≡ Limits.recordWords
+  pub froms-long : length froms ≡ Limits.storeWords
+  pub tos-long : length tos ≡ Limits.storeWords
+  pub held : (i : ℕ) → i < Limits.rowEnd → natAbs (word records (Records.historyAt i)) ≤ Limits.historyEnd
+  pub from-sent : (j : ℕ) → natAbs (word froms j) ≤ Limits.historyEnd
+  pub to-sent : (j : ℕ) → natAbs (word tos j) ≤ Limits.historyEnd

@@ -1,0 +1,1 @@
+// An area's own legs against the paper's two legs of every row. The crate is its specs.

@@ -1,0 +1,107 @@
+// One right side for the factors that an area keeps: what its legs draw, the equations' right sides as doubles, and the voltages of its free nodes, or
+// refusal 15 with the lowest node whose double is outside the range.
+ghost use Prim.Native.Nat.{_+_, _≤_, _<_};
+ghost use mathlib.Core.Path.{_≡_};
+ghost use mathlib.Core.List.{map};
+ghost use lib.ListN.{length};
+ghost use Rattle.whole.specs.Lists.{word};
+ghost use Rattle.whole.specs.Loans.{was, is};
+ghost use Rattle.paper.specs.Doubles.{inRange, nearestOf};
+ghost use Rattle.paper.specs.Solve.{settle, proposed};
+ghost use Rattle.step_legs.specs.Wires.{legsIn, Sized};
+ghost use Rattle.step_legs.specs.Shares.{Volts, drawn};
+ghost use Rattle.step_legs.specs.Sums.{Sums};
+ghost use Rattle.step_legs.specs.Free.{Free, InjectsWithin};
+ghost use Rattle.step_factors.specs.Factors.{Serves};
+ghost use Rattle.step_factors.specs.Positions.{bare};
+ghost use Rattle.step_factors.specs.Proposed.{matrixOf};
+ghost use Rattle.step_solve.specs.Rights.{Near, Rights};
+ghost use Rattle.step_solve.specs.Settling.{Solved, rounded};
+use paper::Rounded;
+use step_factors::Matrix;
+use step_legs::Line;
+
+// by node, what its legs would draw with the node at 0
+fn draws(legs: &[Line], still: &[i64; 33]) -> [i64; 33]
+    requires { ⌜ Sized (now legs) × Volts (now still) ⌝ }
+    ensures { λ r. ⌜ Sums (drawn (was still)) (legsIn (was legs)) r ⌝ }
+{
+    let mut sums = [0; 33];
+    let mut j = 0;
+    while j < legs.len() {
+        let l = step_legs::leg_at(legs, j);
+        let x = step_legs::drawn(l, still);
+        step_legs::add(&mut sums, l.near, x);
+        j += 1;
+    }
+    sums
+}
+
+// "The right side is injection minus histories .. plus conductance times fixed neighbour voltages, summed in whole numbers"
+fn right_sides(free: &[usize], inject: &[i64; 33], drawn: &[i64; 33]) -> [f64; 32]
+    requires { ⌜ Free (now free) × Near (now inject) (now drawn) ⌝ }
+    ensures { λ r. ⌜ Rights (length (was free)) (was free) (was inject) (was drawn) r ⌝ }
+{
+    let mut b = [0.0; 32];
+    let mut i = 0;
+    while i < free.len() {
+        let p = free[i];
+        let side = double::to_double(inject[p] - drawn[p]);
+        b[i] = side;
+        i += 1;
+    }
+    b
+}
+
+// node p's voltage from its double, and whether it is within the range
+fn put(v: &mut [i64; 33], p: usize, x: f64) -> bool
+    requires { ⌜ p < 33 ⌝ }
+    ensures { λ r. ⌜ r ≡ inRange x ⌝ }
+    ensures { λ _. ⌜ is v ≡ settle (was v) p (nearestOf x) ⌝ }
+{
+    let near = double::nearest(x);
+    match near {
+        Rounded::Whole(y) => {
+            v[p] = y;
+            true
+        }
+        Rounded::Outside => false,
+    }
+}
+
+// "Each x within the voltage range goes to the nearest whole number .. one that isn't within it, not-a-number included, is RANGE."
+fn put_all(xs: &[f64; 32], free: &[usize], v: &mut [i64; 33]) -> usize
+    requires { ⌜ Free (now free) × (length (now free) ≤ length (now xs)) ⌝ }
+    ensures { λ r. ⌜ Solved (was free) (rounded (length (was free)) (was xs)) (was v) (is v) r ⌝ }
+{
+    let mut i = 0;
+    while i < free.len() {
+        let p = free[i];
+        let ok = put(v, p, xs[i]);
+        if !ok {
+            return p;
+        }
+        i += 1;
+    }
+    0
+}
+
+// v has the fixed nodes' voltages at entry, and all the area's where the answer is 0.
+pub fn solve(
+    legs: &[Line],
+    free: &[usize],
+    inject: &[i64; 33],
+    a: &Matrix,
+    base: usize,
+    v: &mut [i64; 33],
+) -> usize
+    requires { ⌜ Sized (now legs) × Volts (now v) × InjectsWithin (now inject) × Free (now free) ⌝ }
+    requires { ⌜ base + length (now free) ≤ 32 ⌝ }
+    requires { ⌜ Serves base (length (now free)) (matrixOf (map bare (legsIn (now legs))) (now free)) (now a) ⌝ }
+    ensures { λ r. ⌜ Solved (was free) (proposed (legsIn (was legs)) (was free) (was v) (λ p. word (was inject) p)) (was v) (is v) r ⌝ }
+{
+    let drawn = draws(legs, v);
+    let mut b = right_sides(free, inject, &drawn);
+    step_factors::substitute(a, base, &mut b, free.len());
+    put_all(&b, free, v)
+}

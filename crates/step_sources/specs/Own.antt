@@ -1,0 +1,104 @@
+-- An area's own sources: their lines may be driven, and they give what the paper's sums over all rows have at the area's nodes. Assumes nothing.
+use Prim.Native.Nat.{ℕ, _≤_, _<_}
+use mathlib.Core.Path.{_≡_, refl, sym, _∙_}
+use mathlib.Core.Bool.{Bool, true, false, cond, _&&_}
+use mathlib.Core.List.{[]}
+use native.Mathlib.Omega.{arith}
+use native.Mathlib.Nat.{le-trans}
+use borrow.Author.Tests.{eq-eqb, eqb-true}
+use lib.Dec.{eqb}
+use lib.ListN.{length, getD, length-map}
+use lib.Seq.{ext-getD}
+use Rattle.whole.specs.Lists.{z, word, total}
+use Rattle.whole.specs.Folds.{and-left, and-right, length-keep, getD-map}
+use Rattle.whole.specs.Totals.{total-cong, total-map}
+use Rattle.whole.specs.Written.{count-imply, total-if}
+use Rattle.paper.specs.Limits as Limits
+use Rattle.paper.specs.Rows.{Row, isVS, isIS, isSource, at}
+use Rattle.paper.specs.Faults.{fixes}
+use Rattle.paper.specs.Areas.{Net, areaOf}
+use Rattle.paper.specs.Sources.{source, risen, held, injected}
+use Rattle.paper.specs.Solve.{stillOf}
+use Rattle.facts.specs.Fields.{wider}
+use Rattle.facts.specs.Sound.{SourceSound}
+use Rattle.facts.specs.Nets.{NetSound, rowAt}
+use Rattle.laws_volts.specs.Sources.{vs-source, is-source}
+use Rattle.laws_volts.specs.Still.{area-node, still-at, still-length}
+use Rattle.plan_ends.specs.Own.{ownSource, ownSources, sourceLine, sourceLines}
+use Rattle.step_sources.specs.Kept.{total-keep, keep-each}
+use Rattle.step_sources.specs.Table.{Sources, given}
+use Rattle.step_sources.specs.Given.{share, given-at, given-length}
+
+-- ---- the table's record
+
+line-sound : {nodes : ℕ} (r : Row) → nodes ≤ Limits.nodeEnd → SourceSound nodes r → SourceSound Limits.nodeEnd (sourceLine r)
+unfolding sourceLine
+line-sound r m s =
+    record {
+      atIn = rw (s .atIn .isNat) at (wider {a = 1} {b = Limits.nodeEnd} (s .atIn) (omega arith) m);
+      startIn = rw (s .startIn .isNat) at (s .startIn);
+      riseIn = rw (s .riseIn .isNat) at (s .riseIn);
+      peakMost = s .peakMost;
+      voltMost = s .voltMost;
+    }
+
+pub own-sources : (N : Net) → NetSound N → (a : ℕ) → Sources (sourceLines N a)
+unfolding ownSource ownSources sourceLine
+own-sources N s a =
+    record {
+      few = rw (long, length-keep (ownSource N a) (N .rows)) (le-trans (count-imply (ownSource N a) isSource (N .rows) a-source) (s .sourceMost));
+      kindIs = λ j h. rw (line j h);
+      sound = λ j h. rw (line j h) (each j (rw long at h));
+    }
+  where
+    a-source : (r : Row) → ownSource N a r ≡ true → isSource r ≡ true
+    a-source r e = and-left (isSource r) (eqb (areaOf N (at r)) a) e
+
+    each : (j : ℕ) → j < length (ownSources N a) → SourceSound Limits.nodeEnd (sourceLine (getD (ownSources N a) j []))
+    each =
+        keep-each (ownSource N a) (λ r. SourceSound Limits.nodeEnd (sourceLine r)) [] (N .rows)
+        (λ i l e. line-sound (rowAt N i) (s .nodeMost) (s .row i l .source (a-source (rowAt N i) e)))
+
+    long : length (sourceLines N a) ≡ length (ownSources N a)
+    long = length-map (ownSources N a) sourceLine
+
+    line : (j : ℕ) → j < length (sourceLines N a) → getD (sourceLines N a) j [] ≡ sourceLine (getD (ownSources N a) j [])
+    line j h = getD-map sourceLine (ownSources N a) j [] [] (rw long at h)
+
+-- ---- what they give
+
+-- those that pass by their kind
+module _ (N : Net) (a k : ℕ) (p : Row → Bool) (lined : (r : Row) → p (sourceLine r) ≡ p r) (some : (r : Row) → p r ≡ true → isSource r ≡ true) where
+  by-row : (n : ℕ) (r : Row) → cond (ownSource N a r) (share p k n (sourceLine r)) z ≡ cond (eqb (areaOf N n) a) (share p k n r) z
+  unfolding ownSource sourceLine source risen
+  by-row n r = rw (lined r) (by (p r && eqb (at r) n) refl)
+    where
+      never : (b : Bool) → cond b z z ≡ z
+      never true = refl
+      never false = refl
+
+      by : (b : Bool) → (p r && eqb (at r) n) ≡ b
+          → cond (isSource r && eqb (areaOf N (at r)) a) (cond b (source k r) z) z ≡ cond (eqb (areaOf N n) a) (cond b (source k r) z) z
+      by true e = rw (some r (and-left (p r) (eqb (at r) n) e), eqb-true (at r) n (and-right (p r) (eqb (at r) n) e))
+      by false e = never (isSource r && eqb (areaOf N (at r)) a) ∙ sym (never (eqb (areaOf N n) a))
+
+  own-at : (n : ℕ) → n ≤ Limits.nodeEnd → word (given p k (sourceLines N a)) n ≡ cond (eqb (areaOf N n) a) (total (share p k n) (N .rows)) z
+  unfolding ownSources
+  own-at n h =
+      given-at p k (sourceLines N a) n h
+      ∙ total-map (share p k n) sourceLine (ownSources N a)
+      ∙ total-keep (ownSource N a) (λ r. share p k n (sourceLine r)) (N .rows)
+      ∙ total-cong _ _ (N .rows) (by-row n)
+      ∙ total-if (eqb (areaOf N n) a) (share p k n) (N .rows)
+
+module _ (N : Net) (s : NetSound N) (a k : ℕ) (one : 1 ≤ a) where
+  pub own-injected : (n : ℕ) → areaOf N n ≡ a → word (given isIS k (sourceLines N a)) n ≡ injected (N .rows) k n
+  unfolding injected sourceLine
+  own-injected n e = own-at N a k isIS (λ r. refl) is-source n (le-trans (area-node N s a one n e .1) (s .nodeMost)) ∙ rw (eq-eqb (areaOf N n) a e)
+
+  pub own-still : given isVS k (sourceLines N a) ≡ stillOf N a k
+  unfolding held fixes sourceLine
+  own-still =
+      let long = given-length isVS k (sourceLines N a) in
+      ext-getD z (given isVS k (sourceLines N a)) (stillOf N a k) (long ∙ sym (still-length N s a k))
+      (λ n h. let l : n ≤ Limits.nodeEnd = omega (arith, long) in own-at N a k isVS (λ r. refl) vs-source n l ∙ sym (still-at N s a k n l))

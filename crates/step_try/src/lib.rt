@@ -1,0 +1,90 @@
+// One step of one area tried, on what is kept for its switches' positions: 15, 16 and 17 in turn, or the voltages. Nothing lent for the study is written.
+ghost use mathlib.Core.Path.{_≡_};
+ghost use mathlib.Core.List.{map};
+ghost use Prim.Native.Nat.{ℕ, _-_};
+ghost use Rattle.whole.specs.Lists.{word, nat};
+ghost use Rattle.whole.specs.Loans.{was, is};
+ghost use Rattle.paper.specs.Areas.{Net};
+ghost use Rattle.paper.specs.Solve.{unbalanced};
+ghost use Rattle.plan_rows.specs.Planned.{rowIn};
+ghost use Rattle.step_legs.specs.Wires.{legsIn, wiresIn};
+ghost use Rattle.step_flow.specs.Found.{flown};
+ghost use Rattle.step_flow.specs.Beyond.{firstBy};
+ghost use Rattle.step_try.specs.Trying.{Trying, Known, SameBut, Flow, inFlow, Tries};
+use paper::Advance;
+use plan_rows::Table;
+use step_factors::Matrix;
+use step_legs::Line;
+use step_sources::SourceLine;
+
+// What a step is tried at: where the area's factors begin, the step, and the limit of what may be out of balance.
+pub struct At {
+    pub base: usize,
+    pub k: usize,
+    pub limit: i64,
+}
+
+// What a try came to: the answer, and the voltages by node where the step can be taken.
+pub struct Outcome {
+    pub answer: Advance,
+    pub volts: [i64; 33],
+}
+
+// 16 and 17, from the voltages; each leg's line then has its current and what it passes on.
+fn flowing(
+    plan: &Table,
+    legs: &mut [Line],
+    free: &[usize],
+    inject: &[i64; 33],
+    v: &[i64; 33],
+    at: At,
+) -> Advance
+    requires { ⌜ Flow (now legs) (now free) (now inject) (now v) at ⌝ }
+    ensures { λ r. ⌜ r ≡ inFlow (at .k) (unbalanced (nat (at .limit)) (legsIn (was legs)) (λ p. word (was inject) p) (was v) (was free)) (firstBy (was v) (wiresIn (was legs))) (rowIn (was plan) (firstBy (was v) (wiresIn (was legs)) - 1) .number) ⌝ }
+    ensures { λ _. ⌜ is legs ≡ map (flown (was v)) (was legs) ⌝ }
+{
+    let sums = step_flow::flow(legs, v);
+    let node = step_flow::balance(&sums, inject, free, at.limit);
+    if node != 0 {
+        return Advance::Unbalanced(node as u64);
+    }
+    let place = step_flow::first_beyond(legs);
+    if place != 0 {
+        let r = plan_rows::row_at(plan, place - 1);
+        return Advance::History(r.number as u64);
+    }
+    Advance::Took(at.k as u64)
+}
+
+pub fn try_step<'a>(
+    plan: &Table,
+    sources: &[SourceLine],
+    free: &[usize],
+    legs: &mut [Line],
+    factors: &Matrix,
+    records: &[i64],
+    froms: &'a [i64],
+    tos: &'a [i64],
+    at: At,
+) -> Outcome
+    requires { ⌜ Known (now plan) (now sources) (now free) (now legs) (now factors) (now records) (now froms) (now tos) at ⌝ }
+    ensures { λ r. ⌜ ((N : Net) (a : ℕ) → Trying N a (was plan) (was sources) (was free) (was legs) (was factors) (was records) (was froms) (was tos) at → Tries N a (at .k) (was records) (was froms) (was tos) (is legs) r) ⌝ }
+    ensures { λ _. ⌜ SameBut (was legs) (is legs) ⌝ }
+{
+    step_histories::hear(plan, legs, records, froms, tos, at.k);
+    let mut v = [0; 33];
+    let mut inject = [0; 33];
+    step_sources::drive(sources, at.k, &mut v, &mut inject);
+    let node = step_solve::solve(legs, free, &inject, factors, at.base, &mut v);
+    if node != 0 {
+        return Outcome {
+            answer: Advance::Range(node as u64),
+            volts: v,
+        };
+    }
+    let answer = flowing(plan, legs, free, &inject, &v, at);
+    Outcome {
+        answer: answer,
+        volts: v,
+    }
+}

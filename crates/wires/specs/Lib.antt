@@ -1,6 +1,0 @@
-pub mod Wires
-pub mod Leaving
-pub mod Shares
-pub mod Sums
-pub mod Free
-pub mod Resting

@@ -1,1 +1,0 @@
-// An area's legs as a step keeps them: four arrays of numbers, by leg. The crate is its specs.
