@@ -34,6 +34,14 @@ fn part(words: &[i64], from: usize, end: usize, most: i64) -> bool
     whole::all_within(&words[from..end], most)
 }
 
+// Whether the words from..end are zero.
+fn unused(words: &[i64], from: usize, end: usize) -> bool
+    requires { ⌜ (from ≤ end) × (end ≤ length (now words)) ⌝ }
+    ensures { λ r. ⌜ r ≡ partFormed (was words) from end 0 ⌝ }
+{
+    whole::all_zero(&words[from..end])
+}
+
 // Whether the words from..end are, the first `used` of them, within `most`, and zero after that.
 fn section(words: &[i64], from: usize, used: usize, end: usize, most: i64) -> bool
     requires { ⌜ (from + used ≤ end) × (end ≤ length (now words)) × T (nonNeg most) ⌝ }
@@ -41,8 +49,8 @@ fn section(words: &[i64], from: usize, used: usize, end: usize, most: i64) -> bo
 {
     let mid = from + used;
     let taken = part(words, from, mid, most);
-    let unused = part(words, mid, end, 0);
-    taken & unused
+    let rest = unused(words, mid, end);
+    taken & rest
 }
 
 // Whether no word is below zero.
@@ -130,14 +138,9 @@ fn tails_formed(records: &[i64], rows: usize) -> bool
     requires { ⌜ (rows ≤ Limits.rowEnd) × (length (now records) ≡ Limits.recordWords) ⌝ }
     ensures { λ r. ⌜ r ≡ tailsFormed (was records) rows ⌝ }
 {
-    let currents = part(records, sections::CURRENTS + rows, sections::TO_CURRENTS, 0);
-    let to_currents = part(
-        records,
-        sections::TO_CURRENTS + rows,
-        sections::HISTORIES,
-        0,
-    );
-    let histories = part(records, sections::HISTORIES + rows, Room::RECORDS, 0);
+    let currents = unused(records, sections::CURRENTS + rows, sections::TO_CURRENTS);
+    let to_currents = unused(records, sections::TO_CURRENTS + rows, sections::HISTORIES);
+    let histories = unused(records, sections::HISTORIES + rows, Room::RECORDS);
     currents & (to_currents & histories)
 }
 

@@ -75,7 +75,7 @@ fn blank(net: &[i64], rows: usize) -> bool
     ensures { λ r. ⌜ r ≡ Judged.blank (now (net .entry)) rows ⌝ }
 {
     let end = 8 + 8 * rows;
-    whole::all_within(&net[4..8], 0) & whole::all_within(&net[end..], 0)
+    whole::all_zero(&net[4..8]) & whole::all_zero(&net[end..])
 }
 
 // each row in turn, after the study's

@@ -3,13 +3,13 @@ use Prim.Native.Nat.{ℕ, zero, suc, _-_, _<_, _≤_, _^_}
 use mathlib.Core.Path.{_≡_, refl, sym, ap, _∙_}
 use mathlib.Core.Bool.{Bool, true, false, _&&_, true≢false}
 use native.Mathlib.Omega.{arith}
-use borrow.Author.Tests.{ltb-true, ltb-false, lt-ltb, le-ltb, lt-leb, le-leb}
+use borrow.Author.Tests.{ltb-true, ltb-false, lt-ltb, le-ltb, lt-leb, le-leb, eqb-true, eqb-false, ne-eqb}
 use lib.Bits.{bitOr, or-lt, or-comm, or-add-and, and-le-r}
-use lib.Dec.{T, leb, ltb, leb·zero}
+use lib.Dec.{T, leb, ltb, eqb, leb·zero, leb·suc-zero, eqb·suc-zero}
 use lib.IntN.{ℤ, pos, negsuc, natAbs, subℕ, _+ℤ_, _-ℤ_}
 use lib.Signed.{mag, leZ, ltZ, nonNeg}
 use mir.Syntax.{w64}
-use mir.Val.{SFits, toZ}
+use mir.Val.{SFits, toZ, ofZ}
 use Rattle.whole.specs.Int.{subℕ-lt, subℕ-ge}
 use Rattle.whole.specs.Lists.{upTo}
 
@@ -76,3 +76,18 @@ or-sign a b = by-test (ltb a (2 ^ 63)) (ltb b (2 ^ 63)) refl refl
     by-test true true e f = lt-ltb (bitOr a b) (2 ^ 63) (or-lt 63 a b (ltb-true a (2 ^ 63) e) (ltb-true b (2 ^ 63) f))
     by-test true false e f = le-ltb (bitOr a b) (2 ^ 63) (omega (arith, ltb-false b (2 ^ 63) f, or-above b a, or-comm a b))
     by-test false t e f = le-ltb (bitOr a b) (2 ^ 63) (omega (arith, ltb-false a (2 ^ 63) e, or-above a b))
+
+-- ---- and a word is zero where it has no bit
+pub no-bit : (x : ℤ) → mag x < 2 ^ 63 → eqb (ofZ w64 x) 0 ≡ upTo 0 x
+unfolding upTo
+no-bit (pos zero) f = refl
+no-bit (pos (suc n)) f = eqb·suc-zero n ∙ sym (leb·suc-zero n)
+no-bit (negsuc n) f = ne-eqb (2 ^ 64 - suc n) 0 (λ q. omega (arith, f)) ∙ sym (leb·suc-zero n)
+
+pub or-zero : (a b : ℕ) → eqb (bitOr a b) 0 ≡ (eqb a 0 && eqb b 0)
+or-zero a b = by-test (eqb a 0) (eqb b 0) refl refl
+  where
+    by-test : (s t : Bool) → eqb a 0 ≡ s → eqb b 0 ≡ t → eqb (bitOr a b) 0 ≡ (s && t)
+    by-test true true e f = rw (eqb-true a 0 e, eqb-true b 0 f)
+    by-test true false e f = ne-eqb (bitOr a b) 0 (λ q. eqb-false b 0 f (omega (arith, or-above b a, or-comm a b)))
+    by-test false t e f = ne-eqb (bitOr a b) 0 (λ q. eqb-false a 0 e (omega (arith, or-above a b)))

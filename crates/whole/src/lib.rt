@@ -52,6 +52,20 @@ pub fn all_within(xs: &[i64], most: i64) -> bool
     0 <= all
 }
 
+// Whether each word is zero: their bits, taken together.
+pub fn all_zero(xs: &[i64]) -> bool
+    ensures { λ r. ⌜ r ≡ every (upTo 0) (now (xs .entry)) ⌝ }
+{
+    let mut all: i64 = 0;
+    let mut i = 0;
+    while i < xs.len() {
+        let x = xs[i];
+        all = all | x;
+        i += 1;
+    }
+    all == 0
+}
+
 // a / b to the nearest, halves up: by the rest, so that nothing is doubled and every a is taken.
 pub fn nearest_quotient(a: u64, b: u64) -> u64
     requires { ⌜ 0 < b ⌝ }

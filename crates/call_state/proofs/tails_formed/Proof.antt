@@ -6,7 +6,7 @@ use Rattle.call_state.proofs.tails_formed.Tie as tie
 
 returns : tie.Need-returns
 unfolding tailsFormed
-returns c = rw (c .before .before .part .ensures, c .before .part2 .ensures, c .part3 .ensures)
+returns c = rw (c .before .before .unused .ensures, c .before .unused2 .ensures, c .unused3 .ensures)
 
 pub tails-formed-spec : {M : Type 1} → statement M
 tails-formed-spec =

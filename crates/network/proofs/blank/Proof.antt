@@ -16,7 +16,7 @@ returns c =
     let net = s .args .net .now in
     let m = 8 + 8 * s .args .rows in
     let e : take (length net - m) (drop m net) ≡ drop m net = take-all (length net - m) (drop m net) (rw length-drop (omega arith)) in
-    rw (c .before .before .all-within .ensures, c .all-within2 .ensures, e)
+    rw (c .before .before .all-zero .ensures, c .all-zero2 .ensures, e)
 
 pub blank-spec : {M : Type 1} → statement M
 blank-spec =
