@@ -1,22 +1,87 @@
 #!/usr/bin/env bash
-# Every `File: name, name` of docs/PAPER.md is a file of crates/paper/specs and a name that it declares or brings in.
+# Every name on docs/PAPER.md stands where the page says. Its forms:
+#   File: `name`, `name`     declared, or brought in, by crates/paper/specs/File.antt
+#   `crate::name`            a function, type or constant of crates/crate/src
+#   `crate::File::name`      declared by crates/crate/specs/File.antt
+#   `crates/..`, `tests/..`  a file
+# Braces hold several names, `crate::{name, name}`. The columns code and theorem hold names of their form alone, or a dash; the second
+# column of the table of slips holds edits of its must-fail folder.
 set -u
 cd "$(dirname "$0")/.." || exit 1
 
-passed=0
-failed=0
-while IFS= read -r entry; do
-    file=crates/paper/specs/${entry%%:*}.antt
-    while IFS= read -r name; do
-        name=${name//\`/}
-        if grep -qF -- "$name" "$file" 2>/dev/null && grep -qE -- "(^|[ {])$name( |,|}|\$)" "$file"; then
-            passed=$((passed + 1))
-        else
-            echo "docs/PAPER.md: no $name in $file"
-            failed=$((failed + 1))
-        fi
-    done < <(grep -oE '`[^`]+`' <<<"$entry")
-done < <(grep -oE '[A-Z][A-Za-z]+: (`[^`]+`(, )?)+' docs/PAPER.md)
+awk '
+function tell(what) { print FILENAME ":" FNR ": " what; failed++ }
+function hold(known, name) { if (known) passed++; else tell("no " name) }
+function exists(path,    line) { return (getline line < path) >= 0 }
 
-echo "$passed passed, $failed failed"
-[ "$failed" -eq 0 ]
+function hold_each(token,    names, n, i, head) {
+    n = 1
+    names[1] = token
+    if (match(token, /\{.*\}$/)) {
+        head = substr(token, 1, RSTART - 1)
+        n = split(substr(token, RSTART + 1, RLENGTH - 2), names, ", ")
+    }
+    for (i = 1; i <= n; i++) hold((head names[i]) in stands, head names[i])
+}
+
+function hold_form(cell, form,    part, n, i) {
+    if (cell == "–") return
+    n = split(cell, part, "`")
+    if (n < 3) tell("neither a name nor a dash: " cell)
+    for (i = 1; i <= n; i++) if (i % 2 ? part[i] !~ /^(, )?$/ : part[i] !~ form) tell("not of this column: " part[i])
+}
+
+FNR == 1 { split(FILENAME, path, /[\/.]/) }
+
+FILENAME ~ /\.rt$/ {
+    sub(/\/\/.*/, "")
+    for (i = 1; i < NF; i++) if ($i ~ /^(fn|struct|enum|const|type)$/) {
+        name = $(i + 1)
+        sub(/[^A-Za-z0-9_].*/, "", name)
+        stands[path[2] "::" name]
+    }
+    next
+}
+
+FILENAME ~ /\.antt$/ {
+    if (!sub(/^ *((unfoldable|abbrev) )?pub ((record|data|ruleset) )?/, "")) next
+    n = split($1, names, " ")
+    if ($1 == "use") n = match($0, /\{.*\}/) ? split(substr($0, RSTART + 1, RLENGTH - 2), names, ", ") : 0
+    for (i = 1; i <= n; i++) stands[path[2] "::" path[4] "::" names[i]]
+    next
+}
+
+/^\|/ {
+    columns = split($0, cell, / *\| */)
+    if (cell[2] ~ /^the (paper|slip)$/) header = cell[3] "|" cell[4] "|" cell[5]
+    if (cell[2] ~ /^(the (paper|slip)|-+)$/) next
+    if (header == "definition|code|theorem") {
+        if (columns != 6) tell("not four columns")
+        hold_form(cell[4], "^[a-z_0-9]+::[^:]+$")
+        hold_form(cell[5], "^[a-z_0-9]+::[A-Z][A-Za-z]*::[^:]+$")
+    } else if (match(header, /crates\/[a-z_]+\/must-fail/)) {
+        edit = cell[3]
+        gsub(/`/, "", edit)
+        hold(exists(substr(header, RSTART, RLENGTH) "/" edit ".edit"), "edit " edit)
+    } else tell("a table of unknown columns")
+}
+
+{
+    rest = $0
+    while (match(rest, /[A-Z][A-Za-z]+: `[^`]+`(, `[^`]+`)*/)) {
+        n = split(substr(rest, RSTART, RLENGTH), names, "`")
+        sub(/: /, "", names[1])
+        for (i = 2; i < n; i += 2) hold(("paper::" names[1] "::" names[i]) in stands, "paper::" names[1] "::" names[i])
+        rest = substr(rest, RSTART + RLENGTH)
+    }
+    n = split($0, token, "`")
+    for (i = 2; i < n; i += 2) {
+        if (token[i] ~ /::/) hold_each(token[i])
+        else if (token[i] ~ /^(crates|tests)\//) hold(exists(token[i]), token[i])
+    }
+}
+
+END {
+    print passed + 0 " passed, " failed + 0 " failed"
+    exit failed > 0
+}' crates/*/src/*.rt crates/*/specs/*.antt docs/PAPER.md
