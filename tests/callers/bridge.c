@@ -1,8 +1,11 @@
 // The compiled calls for a program that cannot link them. It writes a block of 64-bit words to standard input, their number before it, and the block
 // comes back from standard output as the call has left it. Word 0 is the call, numbered from 0 in the order of emt.h, and afterwards its answer; word 1
 // the area; word 2 the second answer; from word 3 on stand place and length of the network, the records, the two line stores, and the text or buffer,
-// whose length is in bytes. What is lent lies behind these, with words between that no call may change.
+// whose length is in bytes. What is lent lies behind these, with words between that no call may change. Call 4 lists a text whole: in place of the block
+// come back the number of bytes of its listing, and the listing.
 #include <emt.h>
+#include <inttypes.h>
+#include <stdio.h>
 #include <stdlib.h>
 #include <unistd.h>
 
@@ -43,11 +46,44 @@ static uint64_t call(void) {
     }
 }
 
+// The listing of a text behind its own length, with room for one piece more; pieces are as long as emtrun's.
+enum { PIECE = 65536 };
+static uint8_t *listing;
+
+static uint8_t *piece_at(uint64_t end) {
+    static uint64_t room;
+    if (room < end + PIECE) listing = realloc(listing, room = 2 * (end + PIECE));
+    if (!listing) exit(1);
+    return listing + end;
+}
+
+// What emtrun does. No call spells the `bad` line: it is spelled here. Memory is lent as the last text left it.
+static int list_text(void) {
+    static int64_t network[EMT_NETWORK_WORDS], records[EMT_RECORD_WORDS], froms[EMT_STORE_WORDS], tos[EMT_STORE_WORDS];
+    uint64_t end = sizeof end, line, written;
+    uint64_t number = emt_read((uint8_t *)at(4), length(4), network, EMT_NETWORK_WORDS, &line);
+    if (number != EMT_ACCEPTED)
+        end += (uint64_t)sprintf((char *)piece_at(end), "bad\t%" PRIu64 "\t%" PRIu64 "\n", line, number);
+    else if (emt_reset(network, EMT_NETWORK_WORDS, records, EMT_RECORD_WORDS, froms, EMT_STORE_WORDS, tos, EMT_STORE_WORDS) != EMT_ACCEPTED)
+        return 0;
+    else
+        do {
+            number = emt_list(network, EMT_NETWORK_WORDS, records, EMT_RECORD_WORDS, froms, EMT_STORE_WORDS, tos, EMT_STORE_WORDS, piece_at(end), PIECE, &written);
+            end += written;
+        } while (number == EMT_MORE);
+    *(uint64_t *)listing = end - sizeof end;
+    return put(listing, end);
+}
+
 int main(void) {
     uint64_t words;
     while (get(&words, sizeof words)) {
         block = realloc(block, 8 * words);
         if (!block || !get(block, 8 * words)) return 1;
+        if (block[0] == 4) {
+            if (!list_text()) return 1;
+            continue;
+        }
         block[0] = (int64_t)call();
         if (!put(block, 8 * words)) return 1;
     }

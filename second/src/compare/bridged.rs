@@ -2,7 +2,7 @@
 //! `EMT_BRIDGE` names its command; the words that go to and fro are told by tests/callers/bridge.c.
 
 use super::lent::Lendable;
-use std::io::{Read, Write};
+use std::io::{self, BufWriter, Read, Write};
 use std::ops::Range;
 use std::process::{Child, ChildStdin, ChildStdout, Command, Stdio};
 use std::sync::{Mutex, MutexGuard, OnceLock};
@@ -18,6 +18,8 @@ const HEAD_WORDS: usize = 3 + 2 * PIECES;
 const PIECES: usize = 5;
 const NETWORK: usize = 0;
 const BYTES: usize = 4;
+/// A request goes in one piece, so that the bridge wakes once.
+const REQUEST_BYTES: usize = 1 << 17;
 
 /// Whether a bridge is named.
 pub fn named() -> bool {
@@ -84,9 +86,9 @@ fn on_state(
     bridge.answer()
 }
 
-struct Bridge {
+pub struct Bridge {
     process: Child,
-    requests: ChildStdin,
+    requests: BufWriter<ChildStdin>,
     answers: ChildStdout,
     /// The block as it was sent; what is taken from the other is written here too, so that all else must be
     /// the same in both.
@@ -94,14 +96,14 @@ struct Bridge {
     back: Vec<u8>,
 }
 
-/// The one bridge, started when it is first asked.
+/// The one bridge of the calls, started when it is first asked.
 fn bridge() -> MutexGuard<'static, Bridge> {
     static BRIDGE: OnceLock<Mutex<Bridge>> = OnceLock::new();
     BRIDGE.get_or_init(|| Mutex::new(Bridge::start())).lock().expect("no comparing thread has failed")
 }
 
 impl Bridge {
-    fn start() -> Bridge {
+    pub fn start() -> Bridge {
         let command = std::env::var_os(COMMAND).expect("EMT_BRIDGE names the bridge");
         let mut process = Command::new(command)
             .stdin(Stdio::piped())
@@ -109,8 +111,25 @@ impl Bridge {
             .spawn()
             .unwrap_or_else(|error| panic!("the bridge does not start: {error}"));
         let requests = process.stdin.take().expect("the bridge's input is piped");
+        let requests = BufWriter::with_capacity(REQUEST_BYTES, requests);
         let answers = process.stdout.take().expect("the bridge's output is piped");
         Bridge { process, requests, answers, sent: Vec::new(), back: Vec::new() }
+    }
+
+    /// What emtrun writes for this text; a note where the bridge ends over it, and a new bridge for the next.
+    pub fn listing(&mut self, text: &[u8]) -> String {
+        self.begin(4, 0);
+        self.lend_bytes(text);
+        let mut length = [0; 8];
+        let listed = self.send().and_then(|()| self.answers.read_exact(&mut length)).and_then(|()| {
+            self.back.resize(u64::from_le_bytes(length) as usize, 0);
+            self.answers.read_exact(&mut self.back)
+        });
+        if listed.is_err() {
+            let ended = std::mem::replace(self, Bridge::start()).process.wait();
+            return format!("(the bridge has ended: {})\n", ended.expect("it was started"));
+        }
+        String::from_utf8_lossy(&self.back).into_owned()
     }
 
     fn begin(&mut self, call: u64, area: u64) {
@@ -155,15 +174,16 @@ impl Bridge {
         start
     }
 
-    fn call(&mut self) {
+    fn send(&mut self) -> io::Result<()> {
         let words = (self.sent.len() / 8) as u64;
+        self.requests.write_all(&words.to_le_bytes())?;
+        self.requests.write_all(&self.sent)?;
+        self.requests.flush()
+    }
+
+    fn call(&mut self) {
         self.back.resize(self.sent.len(), 0);
-        let called = self
-            .requests
-            .write_all(&words.to_le_bytes())
-            .and_then(|()| self.requests.write_all(&self.sent))
-            .and_then(|()| self.answers.read_exact(&mut self.back));
-        if called.is_err() {
+        if self.send().and_then(|()| self.answers.read_exact(&mut self.back)).is_err() {
             panic!("the bridge has ended: {:?}", self.process.wait());
         }
     }

@@ -1,6 +1,8 @@
-//! `compare texts`: the listings of the program `emtrun` against ours, one process for each text.
+//! `compare texts`: the listings of the program `emtrun` against ours, by one process for each text or through
+//! a bridge for each job.
 
 use super::arguments::Arguments;
+use super::bridged::Bridge;
 use super::damage;
 use super::dice::Dice;
 use super::fixed;
@@ -17,9 +19,30 @@ use std::sync::Mutex;
 const MOST_REPORTS: u64 = 10;
 const SHRINK_TRIES: usize = 1_500;
 
+/// Who lists for the proved program: itself, started for each text, or a bridge.
+enum Proved {
+    Started(String),
+    Bridged(Bridge),
+}
+
+impl Proved {
+    fn of(arguments: &Arguments) -> Proved {
+        match arguments.text("--emtrun") {
+            Some(program) => Proved::Started(program),
+            None => Proved::Bridged(Bridge::start()),
+        }
+    }
+
+    fn listing(&mut self, text: &[u8]) -> String {
+        match self {
+            Proved::Started(program) => listing_by(program, text),
+            Proved::Bridged(bridge) => bridge.listing(text),
+        }
+    }
+}
+
 /// Compares the chosen texts; true where no listing differs.
 pub fn compare_texts(arguments: &Arguments) -> bool {
-    let program = arguments.text("--emtrun").expect("--emtrun names the program to compare");
     let seed = arguments.number("--seed", 1);
     let jobs = arguments.number("--jobs", 1).max(1) as usize;
     println!("seed {seed}");
@@ -28,10 +51,11 @@ pub fn compare_texts(arguments: &Arguments) -> bool {
     let next = AtomicUsize::new(0);
     std::thread::scope(|scope| {
         for _ in 0..jobs {
-            scope.spawn(|| loop {
-                let index = next.fetch_add(1, Ordering::Relaxed);
-                let Some(text) = texts.get(index) else { break };
-                compare_text(&program, text, &tally);
+            scope.spawn(|| {
+                let mut proved = Proved::of(arguments);
+                while let Some(text) = texts.get(next.fetch_add(1, Ordering::Relaxed)) {
+                    compare_text(&mut proved, text, &tally);
+                }
             });
         }
     });
@@ -69,9 +93,9 @@ pub fn numbered_text(seed: u64, index: u64) -> Vec<u8> {
     }
 }
 
-fn compare_text(program: &str, text: &[u8], tally: &Mutex<Tally>) {
+fn compare_text(proved: &mut Proved, text: &[u8], tally: &Mutex<Tally>) {
     let (ours, ending) = listing::listing_and_ending(text);
-    let same = listing_by(program, text) == ours;
+    let same = proved.listing(text) == ours;
     let mut tally = tally.lock().expect("no comparing thread has failed");
     tally.count_ending(ending);
     if same {
@@ -79,9 +103,9 @@ fn compare_text(program: &str, text: &[u8], tally: &Mutex<Tally>) {
     } else if tally.failed >= MOST_REPORTS {
         tally.failed += 1;
     } else {
-        let differs = &mut |text: &[u8]| listing_by(program, text) != listing::listing_of(text);
+        let differs = &mut |text: &[u8]| proved.listing(text) != listing::listing_of(text);
         let small = shrink::smallest(text, SHRINK_TRIES, differs);
-        tally.report(&small, &first_difference(&listing::listing_of(&small), &listing_by(program, &small)));
+        tally.report(&small, &first_difference(&listing::listing_of(&small), &proved.listing(&small)));
     }
 }
 
