@@ -68,7 +68,7 @@ module _ {N : Net} (s : NetSound N) {recs : Words} (c : CountsIn recs (areaCount
   unfolding rowOf ownerOf
   ends-in =
       let r = rowAt N i in
-      let line : LineSound (step N) r = s .row i h .line l in
+      let line : LineSound (N .head) r = s .row i h .line l in
       let branch : BranchSound (step N) (N .nodes) r = s .row i h .branch (rw (eqb-true (Rows.kind r) 4 l)) in
       rw l
       (record {

@@ -114,10 +114,10 @@ module _ (N : Net) (s : NetSound N) (a : ℕ) (m : Memory) (long : Long m) (good
       unfolding Solve.leaves plainLegs current through
       plain-share l b e =
           let is = plain-legs N a k (m .records) ears i l b e in
-          let w : fromCurrent n i ≡ current v (leg (from r) (to r) (conducts (step N) k r) (word (m .records) (historyAt i))) =
+          let w : fromCurrent n i ≡ current v (leg (from r) (to r) (conducts N (m .records) k i) (word (m .records) (historyAt i))) =
           written-from (ap (λ (x : Branch). x .fromEnd .own) is) ∙ ap (λ (x : Branch). current v (x .fromEnd .wire)) is in
           ap (λ (x : Branch). share (x .fromEnd .wire) +ℤ share (x .toEnd .wire)) is
-          ∙ rw (w, turned (conducts (step N) k r) (word v (from r)) (word v (to r)) (word (m .records) (historyAt i)))
+          ∙ rw (w, turned (conducts N (m .records) k i) (word v (from r)) (word v (to r)) (word (m .records) (historyAt i)))
 
       other-share : isLine r ≡ false → isBranch r ≡ true → (rowArea N r ≡ a → ⊥)
           → share (by i .fromEnd .wire) +ℤ share (by i .toEnd .wire) ≡ at-end p (from r) (fromCurrent n i) +ℤ at-end p (to r) (negℤ (fromCurrent n i))
@@ -144,8 +144,8 @@ module _ (N : Net) (s : NetSound N) (a : ℕ) (m : Memory) (long : Long m) (good
               ap (λ (x : Branch). share (x .fromEnd .wire) +ℤ share (x .toEnd .wire)) (row-else N a k (m .records) ears i l (rw b)) ∙ rw nothing-leaves
 
     -- what refusal 16 judges
-    pub imbalance-is : imbalance (bothLegs (legsNow N a m)) (injected (N .rows) k) v p ≡ imbalanceAt N k n p
+    pub imbalance-is : imbalance (bothLegs (legsNow N a m)) (injected N k) v p ≡ imbalanceAt N k n p
     unfolding imbalance imbalanceAt legsOf
     imbalance-is =
-        ap (λ (x : ℤ). x -ℤ injected (N .rows) k p)
+        ap (λ (x : ℤ). x -ℤ injected N k p)
         (both-total share by (numbers 0 (length (N .rows))) ∙ total-same _ _ 0 (length (N .rows)) (λ i l. row-share i (omega arith)))

@@ -16,7 +16,7 @@ use Rattle.paper.specs.Rows.{Row, kind, isBranch, isL, isC, isLine, isSwitch, f
 use Rattle.paper.specs.Conductance.{conductance}
 use Rattle.paper.specs.Areas.{Net, areaOf, areaCount, rowArea, step}
 use Rattle.paper.specs.Records.{historyAt, slotCount, wellFormed}
-use Rattle.paper.specs.Legs.{Leg, leg, End, ownEnd, otherEnd, Branch, branch, Heard, sentTo, heardBy, heard, isOpen, conducts, lineEnd, lineLegs, plainLegs, legsBy, through, current, echo, passedOn}
+use Rattle.paper.specs.Legs.{Leg, leg, End, ownEnd, otherEnd, Branch, branch, Heard, sentTo, sentAt, heardBy, heard, isOpen, conducts, lineEnd, lineLegs, plainLegs, legsBy, through, current, echo, passedOn}
 use Rattle.paper.specs.Advance.{Memory, written}
 use Rattle.facts.specs.Nets.{NetSound, rowAt, row-area-from, row-area-to}
 use Rattle.local.specs.Sound.{Sound, sound, line-branch}
@@ -46,7 +46,7 @@ minus-zero x = +ℤ-idr x
 
 module _ (N : Net) (a k : ℕ) (recs : Words) (ears : List Heard) (i : ℕ) where
   pub plain-legs : isLine (rowAt N i) ≡ false → isBranch (rowAt N i) ≡ true → rowArea N (rowAt N i) ≡ a
-      → legsBy N a k recs ears i ≡ plainLegs N k (rowAt N i) (word recs (historyAt i))
+      → legsBy N a k recs ears i ≡ plainLegs (rowAt N i) (conducts N recs k i) (word recs (historyAt i))
   unfolding legsBy
   plain-legs l b e = rw (l, b, eq-eqb (rowArea N (rowAt N i)) a e)
 
@@ -132,13 +132,13 @@ module _ (N : Net) (s : NetSound N) (a : ℕ) (m : Memory) (long : Long m) (good
         go (suc p) e = inr (record { area = sym (row-area-to N s i there b l (omega arith)) ∙ mine; low = omega arith; high = s .row i there .branch b .toIn .most })
 
     abbrev wire : Leg
-    wire = leg (from (rowAt N i)) (to (rowAt N i)) (conducts (step N) k (rowAt N i)) (history m i)
+    wire = leg (from (rowAt N i)) (to (rowAt N i)) (conducts N (m .records) k i) (history m i)
 
     own-from : by i .fromEnd ≡ ownEnd wire
     unfolding plainLegs
     own-from = ap (λ (b : Branch). b .fromEnd) (plain-legs N a k (m .records) ears i l b mine)
 
-    gu-of : isOpen k (rowAt N i) ≡ false → through v wire ≡ gu N proposal i
+    gu-of : isOpen N (m .records) k i ≡ false → through v wire ≡ gu N proposal i
     unfolding through conducts
     gu-of o = rw (o, volt-of (from (rowAt N i)) from-near, volt-of (to (rowAt N i)) to-near)
 
@@ -149,7 +149,7 @@ module _ (N : Net) (s : NetSound N) (a : ℕ) (m : Memory) (long : Long m) (good
         ∙ ap (λ (e : End). current v (e .wire)) own-from
 
     -- i = g·u + h
-    closed-current : isOpen k (rowAt N i) ≡ false → fromCurrent proposal i ≡ gu N proposal i +ℤ history m i
+    closed-current : isOpen N (m .records) k i ≡ false → fromCurrent proposal i ≡ gu N proposal i +ℤ history m i
     unfolding current
     closed-current o = current-of ∙ ap (λ (x : ℤ). x +ℤ history m i) (gu-of o)
 
@@ -157,10 +157,10 @@ module _ (N : Net) (s : NetSound N) (a : ℕ) (m : Memory) (long : Long m) (good
     no-history e =
         zero-size (history m i) (subst (λ (n : ℕ). natAbs (history m i) ≤ n) (end-history N snd i there ∙ ap (λ (b : Bool). cond b Limits.historyEnd 0) e) (formed N m good .records (historyAt i)))
 
-    resistive : isOpen k (rowAt N i) ≡ false → isL (rowAt N i) || isC (rowAt N i) ≡ false → fromCurrent proposal i ≡ gu N proposal i
+    resistive : isOpen N (m .records) k i ≡ false → isL (rowAt N i) || isC (rowAt N i) ≡ false → fromCurrent proposal i ≡ gu N proposal i
     resistive o e = closed-current o ∙ rw (no-history e) (+ℤ-idr (gu N proposal i))
 
-    open-current : isOpen k (rowAt N i) ≡ true → isL (rowAt N i) || isC (rowAt N i) ≡ false → fromCurrent proposal i ≡ z
+    open-current : isOpen N (m .records) k i ≡ true → isL (rowAt N i) || isC (rowAt N i) ≡ false → fromCurrent proposal i ≡ z
     unfolding current through conducts
     open-current o e = current-of ∙ rw (o, no-history e) (ap (λ (x : ℤ). x +ℤ z) (zero-*ℤ (word v (from (rowAt N i)) -ℤ word v (to (rowAt N i)))))
 
@@ -171,25 +171,16 @@ module _ (N : Net) (s : NetSound N) (a : ℕ) (m : Memory) (long : Long m) (good
         ∙ ap (λ (e : End). passedOn v (rowAt N i) (e .wire)) own-from
 
     -- i + g·u
-    echo-of : isOpen k (rowAt N i) ≡ false → echo v wire ≡ fromCurrent proposal i +ℤ gu N proposal i
+    echo-of : isOpen N (m .records) k i ≡ false → echo v wire ≡ fromCurrent proposal i +ℤ gu N proposal i
     unfolding echo
     echo-of o = rw (← current-of, gu-of o)
 
     kind-is : (j : ℕ) → eqb (kind (rowAt N i)) j ≡ true → kind (rowAt N i) ≡ j
     kind-is j e = eqb-true (kind (rowAt N i)) j e
 
-    never-open : (j : ℕ) → eqb j 5 ≡ false → kind (rowAt N i) ≡ j → isOpen k (rowAt N i) ≡ false
+    never-open : (j : ℕ) → eqb j 5 ≡ false → kind (rowAt N i) ≡ j → isOpen N (m .records) k i ≡ false
     unfolding isOpen
     never-open j e q = rw (q, e)
-
-    shut : isSwitch (rowAt N i) ≡ true → closes (rowAt N i) ≤ k → k < opens (rowAt N i) → isOpen k (rowAt N i) ≡ false
-    unfolding isOpen
-    shut e c o = rw (e, le-leb (closes (rowAt N i)) k c, lt-ltb k (opens (rowAt N i)) o)
-
-    unshut : isSwitch (rowAt N i) ≡ true → (k < closes (rowAt N i)) ⊎ (opens (rowAt N i) ≤ k) → isOpen k (rowAt N i) ≡ true
-    unfolding isOpen
-    unshut e (inl c) = rw (e, lt-leb (closes (rowAt N i)) k c)
-    unshut e (inr o) = rw (e, le-ltb k (opens (rowAt N i)) o) (ap not (and-false (leb (closes (rowAt N i)) k)))
 
     keeps-none : (j : ℕ) → eqb j 2 ≡ false → eqb j 3 ≡ false → kind (rowAt N i) ≡ j → isL (rowAt N i) || isC (rowAt N i) ≡ false
     keeps-none j p q e = rw (e, p, q)
@@ -205,8 +196,8 @@ module _ (N : Net) (s : NetSound N) (a : ℕ) (m : Memory) (long : Long m) (good
     pub plain-obeys : Obeys N k m proposal i
     plain-obeys = record {
       resistor = λ e. resistive (never-open 1 refl (kind-is 1 e)) (keeps-none 1 refl refl (kind-is 1 e));
-      closed = λ e c o. resistive (shut e c o) (keeps-none 5 refl refl (kind-is 5 e));
-      opened = λ e h. open-current (unshut e h) (keeps-none 5 refl refl (kind-is 5 e));
+      closed = λ e o. resistive o (keeps-none 5 refl refl (kind-is 5 e));
+      opened = λ e o. open-current o (keeps-none 5 refl refl (kind-is 5 e));
       inductor = λ e. closed-current (never-open 2 refl (kind-is 2 e));
       inductor-next = λ e. next-history (rw e) ∙ passes-L e ∙ echo-of (never-open 2 refl (kind-is 2 e));
       capacitor = λ e. closed-current (never-open 3 refl (kind-is 3 e));
@@ -242,12 +233,12 @@ module _ (N : Net) (s : NetSound N) (a : ℕ) (m : Memory) (long : Long m) (good
       passes-line i w e ∙ ap negℤ (+ℤ-comm (current v w) (through v w) ∙ sum)
 
   -- what an end hears
-  module _ (i : ℕ) (h : ℤ) (far : ℕ → ℤ) (heardIs : h ≡ cond (ltb (delayAt N i) k) (far (k - delayAt N i)) z) where
+  module _ (i : ℕ) (h : ℤ) (far : ℕ → ℤ) (heardIs : h ≡ cond (ltb 0 (k - delayAt N i)) (far (k - delayAt N i)) z) where
     hears-early : k ≤ delayAt N i → h ≡ z
-    hears-early e = heardIs ∙ rw (le-ltb (delayAt N i) k e)
+    hears-early e = heardIs ∙ rw (le-ltb 0 (k - delayAt N i) (omega arith))
 
     hears-later : delayAt N i < k → h ≡ far (k - delayAt N i)
-    hears-later e = heardIs ∙ rw (lt-ltb (delayAt N i) k e)
+    hears-later e = heardIs ∙ rw (lt-ltb 0 (k - delayAt N i) (omega arith))
 
     end-obeys : (p : ℕ) (current sends : ℤ) → current ≡ gv N proposal i p +ℤ h → sends ≡ negℤ (gv N proposal i p +ℤ (gv N proposal i p +ℤ h)) → EndObeys N k i p proposal current sends far
     end-obeys p current sends c d = record {
@@ -270,7 +261,7 @@ module _ (N : Net) (s : NetSound N) (a : ℕ) (m : Memory) (long : Long m) (good
     room-to = rw (long .tos) (snd .slots)
 
     pub from-obeys : areaOf N (from (rowAt N i)) ≡ a → EndObeys N k i (from (rowAt N i)) proposal (fromCurrent proposal i) (fromSent N proposal i k) (toSent N m i)
-    unfolding written heardBy sentTo
+    unfolding written heardBy sentTo sentAt
     from-obeys e =
         end-obeys i (ear .atFrom) (toSent N m i) (ap (λ (x : Heard). x .atFrom) (ear-is N a k (m .froms) (m .tos) i there) ∙ rw (l, eq-eqb (areaOf N (from (rowAt N i))) a e))
         (from (rowAt N i)) (fromCurrent proposal i) (fromSent N proposal i k)
@@ -284,7 +275,7 @@ module _ (N : Net) (s : NetSound N) (a : ℕ) (m : Memory) (long : Long m) (good
         n = node-at (from (rowAt N i)) e (s .row i there .line l .fromOff) (s .row i there .branch (line-branch (rowAt N i) l) .fromIn .most)
 
     pub to-obeys : areaOf N (to (rowAt N i)) ≡ a → EndObeys N k i (to (rowAt N i)) proposal (toCurrent proposal i) (toSent N proposal i k) (fromSent N m i)
-    unfolding written heardBy sentTo
+    unfolding written heardBy sentTo sentAt
     to-obeys e =
         end-obeys i (ear .atTo) (fromSent N m i) (ap (λ (x : Heard). x .atTo) (ear-is N a k (m .froms) (m .tos) i there) ∙ rw (l, eq-eqb (areaOf N (to (rowAt N i))) a e))
         (to (rowAt N i)) (toCurrent proposal i) (toSent N proposal i k)

@@ -4,7 +4,7 @@ use native.Mathlib.Omega.{arith}
 use mathlib.Core.Path.{_≡_, refl, sym, ap, _∙_}
 use mathlib.Core.Logic.{_≢_, _↔_}
 use mathlib.Core.Bool.{Bool, true, false, true≢false}
-use mathlib.Core.List.{[]}
+use mathlib.Core.List.{List, []}
 use lib.ListN.{length}
 use lib.Dec.{leb}
 use borrow.Author.Tests.{leb-true, leb-false, le-leb, lt-leb}
@@ -18,6 +18,7 @@ use Rattle.paper.specs.Rows.{isLine, steps}
 use Rattle.paper.specs.Areas.{Net, areaCount, branchNumber}
 use Rattle.paper.specs.Network.{isNetwork}
 use Rattle.paper.specs.Records.{countOf, wellFormed}
+use Rattle.paper.specs.Legs.{Branch}
 use Rattle.paper.specs.Solve.{stop, move, solve}
 use Rattle.paper.specs.Advance.{Memory, Advanced, waitsFor, takeStep, ready, onNext, onNet, fits, advanceOf}
 use Rattle.facts.specs.Nets.{rowAt, netIn}
@@ -63,7 +64,7 @@ module _ (net : Words) (a : ℕ) (m : Memory) where
     refused12 : Judged net m → IsArea N a → steps (N .head) ≤ countOf (m .records) a → advanceOf net a m .answer ≡ Done → Comes
     refused13 : Next net a m → (r : ℕ) → lateNow N a m ≡ suc r → advanceOf net a m .answer ≡ Wait (branchNumber N (suc r)) → Comes
     refused14-17 : Next net a m → lateNow N a m ≡ 0 → (x : Advance) → StepRefusal x → solve N a (stepOf N a m) (legsNow N a m) ≡ stop x → advanceOf net a m .answer ≡ x → Comes
-    accepted0 : Next net a m → lateNow N a m ≡ 0 → solve N a (stepOf N a m) (legsNow N a m) ≡ move (voltsOf N a (stepOf N a m) (legsNow N a m))
+    accepted0 : Next net a m → lateNow N a m ≡ 0 → solve N a (stepOf N a m) (legsNow N a m) ≡ move (legsNow N a m) (voltsOf N a (stepOf N a m) (legsNow N a m))
         → advanceOf net a m .answer ≡ Took (stepOf N a m) → Comes
 
   pub comes : Comes
@@ -117,9 +118,9 @@ module _ (net : Words) (a : ℕ) (m : Memory) where
   answers14-17 h l x e =
       answer-is (onNet N a m) (call-of net a m (h .judged)) ∙ rw (h .judged .formed, area-is (h .area), lt-leb (steps (N .head)) (countOf (m .records) a) (h .undone), l, e)
 
-  pub answers0 : Next net a m → lateNow N a m ≡ 0 → (v : Words) → solve N a (stepOf N a m) (legsNow N a m) ≡ move v → advanceOf net a m .answer ≡ Took (stepOf N a m)
+  pub answers0 : Next net a m → lateNow N a m ≡ 0 → (bs : List Branch) (v : Words) → solve N a (stepOf N a m) (legsNow N a m) ≡ move bs v → advanceOf net a m .answer ≡ Took (stepOf N a m)
   unfolding onNet onNext ready takeStep
-  answers0 h l v e =
+  answers0 h l bs v e =
       answer-is (onNet N a m) (call-of net a m (h .judged)) ∙ rw (h .judged .formed, area-is (h .area), lt-leb (steps (N .head)) (countOf (m .records) a) (h .undone), l, e)
 
   -- 11 AREA: "no such area"

@@ -161,9 +161,9 @@ module _ (N : Net) (s : NetSound N) (a : ℕ) (m : Memory) (long : Long m) (good
     -- ---- an R, L, C or SW
     module _ (l : isLine r ≡ false) (b : isBranch r ≡ true) (mine : rowArea N r ≡ a) where
       abbrev wire : Leg
-      wire = leg (from r) (to r) (conducts (step N) k r) (word (m .records) (historyAt i))
+      wire = leg (from r) (to r) (conducts N (m .records) k i) (word (m .records) (historyAt i))
 
-      own-is : by i ≡ plainLegs N k r (word (m .records) (historyAt i))
+      own-is : by i ≡ plainLegs r (conducts N (m .records) k i) (word (m .records) (historyAt i))
       own-is = plain-legs N a k (m .records) ears i l b mine
 
       A-is : A ≡ passedOn v r wire
@@ -174,7 +174,7 @@ module _ (N : Net) (s : NetSound N) (a : ℕ) (m : Memory) (long : Long m) (good
       unfolding plainLegs
       B-size =
           ap (λ (x : Branch). natAbs (passedOn v r (x .toEnd .wire))) own-is
-          ∙ turned-size v r (from r) (to r) (conducts (step N) k r) (word (m .records) (historyAt i)) ∙ sym (ap natAbs A-is)
+          ∙ turned-size v r (from r) (to r) (conducts N (m .records) k i) (word (m .records) (historyAt i)) ∙ sym (ap natAbs A-is)
 
       B-none : isL r || isC r ≡ false → B ≡ z
       B-none e = none-passes v r (by i .toEnd .wire) e l

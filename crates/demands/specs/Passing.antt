@@ -97,8 +97,8 @@ module _ where
 -- ---- what each refusal says of a step
 
 -- 14 FLOATING: none is floating, where every free node of the area has a path
-abbrev pub AllPaths : Net → ℕ → ℕ → Type 0
-AllPaths N a k = (p : ℕ) → NodeOf N a p → fixed N p ≡ false → HasPath N k p
+abbrev pub AllPaths : Net → ℕ → ℕ → Memory → Type 0
+AllPaths N a k m = (p : ℕ) → NodeOf N a p → fixed N p ≡ false → HasPath N (m .records) k p
 
 -- 15 RANGE: "a proposed voltage out of range"; n is the lowest free node, free nodes standing in rising order, whose double is
 pub record OutOfRange (N : Net) (a k : ℕ) (m : Memory) (n : ℕ) : Type 0 where
@@ -129,11 +129,11 @@ module _ (N : Net) (s : NetSound N) (a : ℕ) (m : Memory) (long : Long m) (good
   ears = heard N a k (m .froms) (m .tos)
 
   -- 14
-  pub lone-paths : lone N a k (legsNow N a m) ≡ 0 → AllPaths N a k
+  pub lone-paths : lone N a k (legsNow N a m) ≡ 0 → AllPaths N a k m
   unfolding floating
   lone-paths e p h f = sound N s a k (m .records) ears p (eqb-true _ 0 (not-false _ (first-all _ 0 (freeOf N a) (free-rising N a) e (of-free N a p h f))))
 
-  pub paths-lone : AllPaths N a k → lone N a k (legsNow N a m) ≡ 0
+  pub paths-lone : AllPaths N a k m → lone N a k (legsNow N a m) ≡ 0
   unfolding floating
   paths-lone h = all-first _ (freeOf N a) (λ p i. let q = free-of N a i in ap not (eq-eqb _ 0 (complete N s a k (m .records) ears p (q .0 .area) (q .0 .high) (h p (q .0) (q .1)))))
 
@@ -172,13 +172,13 @@ module _ (N : Net) (s : NetSound N) (a : ℕ) (m : Memory) (long : Long m) (good
   all-inside h = none-out (freeOf N a) (rounded N a k (legsNow N a m)) same-length (λ q l f. h q l (sym (at-place q l) ∙ f))
 
   -- 16
-  past : (p : ℕ) → NodeOf N a p → (b : Bool) → not (upTo (limit (N .head)) (imbalance (bothLegs (legsNow N a m)) (injected (N .rows) k) (voltsOf N a k (legsNow N a m)) p)) ≡ b
+  past : (p : ℕ) → NodeOf N a p → (b : Bool) → not (upTo (limit (N .head)) (imbalance (bothLegs (legsNow N a m)) (injected N k) (voltsOf N a k (legsNow N a m)) p)) ≡ b
       → not (leb (natAbs (imbalanceAt N k (offer N a m) p)) (limit (N .head))) ≡ b
   unfolding upTo
   past p h b e = rw (← imbalance-is N s a m long good one most p h) e
 
   unpast : (p : ℕ) → NodeOf N a p → (b : Bool) → not (leb (natAbs (imbalanceAt N k (offer N a m) p)) (limit (N .head))) ≡ b
-      → not (upTo (limit (N .head)) (imbalance (bothLegs (legsNow N a m)) (injected (N .rows) k) (voltsOf N a k (legsNow N a m)) p)) ≡ b
+      → not (upTo (limit (N .head)) (imbalance (bothLegs (legsNow N a m)) (injected N k) (voltsOf N a k (legsNow N a m)) p)) ≡ b
   unfolding upTo
   unpast p h b e = rw (imbalance-is N s a m long good one most p h) e
 

@@ -12,7 +12,7 @@ use Rattle.whole.specs.Members.{among-at}
 use Rattle.paper.specs.Answers.{advanceNumber}
 use Rattle.paper.specs.Areas.{Net, freeOf, branchNumber}
 use Rattle.paper.specs.Legs.{Branch}
-use Rattle.paper.specs.Solve.{stop, move, solve, solvedStep, rangeStep, balanceStep, historyStep}
+use Rattle.paper.specs.Solve.{stop, move, solve, settling, solvedStep, rangeStep, balanceStep, historyStep}
 use Rattle.paper.specs.Advance.{Memory, advanceOf}
 use Rattle.facts.specs.Nets.{NetSound, netIn, net-sound}
 use Rattle.floats.specs.Floats.{Floats, search-floats, floats-search}
@@ -34,23 +34,23 @@ pub record Ready (net : Words) (a : ℕ) (m : Memory) : Type 0 where
 -- the step, by what it finds in turn
 module _ (N : Net) (a k : ℕ) (bs : List Branch) where
   solve14 : (n : ℕ) → lone N a k bs ≡ suc n → solve N a k bs ≡ stop (Floating (suc n))
-  unfolding solve
+  unfolding solve settling
   solve14 n e = rw e
 
   solve15 : (n : ℕ) → lone N a k bs ≡ 0 → outside N a k bs ≡ suc n → solve N a k bs ≡ stop (Range (suc n))
-  unfolding solve solvedStep rangeStep
+  unfolding solve settling solvedStep rangeStep
   solve15 n p e = rw (p, e)
 
   solve16 : (n : ℕ) → lone N a k bs ≡ 0 → outside N a k bs ≡ 0 → heavy N a k bs ≡ suc n → solve N a k bs ≡ stop (Unbalanced (suc n))
-  unfolding solve solvedStep rangeStep balanceStep
+  unfolding solve settling solvedStep rangeStep balanceStep
   solve16 n p q e = rw (p, q, e)
 
   solve17 : (r : ℕ) → lone N a k bs ≡ 0 → outside N a k bs ≡ 0 → heavy N a k bs ≡ 0 → large N a k bs ≡ suc r → solve N a k bs ≡ stop (History (branchNumber N (suc r)))
-  unfolding solve solvedStep rangeStep balanceStep historyStep
+  unfolding solve settling solvedStep rangeStep balanceStep historyStep
   solve17 r p q h e = rw (p, q, h, e)
 
-  solve0 : lone N a k bs ≡ 0 → outside N a k bs ≡ 0 → heavy N a k bs ≡ 0 → large N a k bs ≡ 0 → solve N a k bs ≡ move (voltsOf N a k bs)
-  unfolding solve solvedStep rangeStep balanceStep historyStep
+  solve0 : lone N a k bs ≡ 0 → outside N a k bs ≡ 0 → heavy N a k bs ≡ 0 → large N a k bs ≡ 0 → solve N a k bs ≡ move bs (voltsOf N a k bs)
+  unfolding solve settling solvedStep rangeStep balanceStep historyStep
   solve0 p q h e = rw (p, q, h, e)
 
 module _ (net : Words) (a : ℕ) (m : Memory) where
@@ -95,10 +95,10 @@ module _ (net : Words) (a : ℕ) (m : Memory) where
     s : NetSound N
     s = net-sound net (j .judged .network)
 
-    paths : lone N a k bs ≡ 0 → AllPaths N a k
+    paths : lone N a k bs ≡ 0 → AllPaths N a k m
     paths = lone-paths N s a m (fits-long net m (j .judged .lengths)) (j .judged .formed) (j .area .one) (j .area .most)
 
-    lone0 : AllPaths N a k → lone N a k bs ≡ 0
+    lone0 : AllPaths N a k m → lone N a k bs ≡ 0
     lone0 = paths-lone N s a m (fits-long net m (j .judged .lengths)) (j .judged .formed) (j .area .one) (j .area .most)
 
     out : (n : ℕ) → outside N a k bs ≡ suc n → OutOfRange N a k m (suc n)
@@ -141,43 +141,43 @@ module _ (net : Words) (a : ℕ) (m : Memory) where
     free-over : (q : ℕ) → q < length (freeOf N a) → 0 < getD (freeOf N a) q 0
     free-over q h = omega (arith, free-of N a (among-at (freeOf N a) q 0 h) .0 .low)
 
-    range-stops : AllPaths N a k → (n : ℕ) → OutOfRange N a k m n → solve N a k bs ≡ stop (Range n)
+    range-stops : AllPaths N a k m → (n : ℕ) → OutOfRange N a k m n → solve N a k bs ≡ stop (Range n)
     range-stops p zero o = absurd (omega (arith, o .node, free-over (o .place) (o .inside)))
     range-stops p (suc n) o = solve15 N a k bs n (lone0 p) (outside-n (suc n) o)
 
-    balance-stops : AllPaths N a k → AllInRange N a k m → (n : ℕ) → Unbalances N a k m n → solve N a k bs ≡ stop (Unbalanced n)
+    balance-stops : AllPaths N a k m → AllInRange N a k m → (n : ℕ) → Unbalances N a k m n → solve N a k bs ≡ stop (Unbalanced n)
     balance-stops p q zero u = absurd (omega (arith, u .node .low))
     balance-stops p q (suc n) u = solve16 N a k bs n (lone0 p) (outside0 q) (heavy-n (suc n) u)
 
-    history-stops : AllPaths N a k → AllInRange N a k m → AllBalanced N a k m → (b : ℕ) → FirstExceeds N a k m b → solve N a k bs ≡ stop (History b)
+    history-stops : AllPaths N a k m → AllInRange N a k m → AllBalanced N a k m → (b : ℕ) → FirstExceeds N a k m b → solve N a k bs ≡ stop (History b)
     history-stops p q u b e = solve17 N a k bs (e .row) (lone0 p) (outside0 q) (heavy0 u) (large-b b e) ∙ ap (λ (x : ℕ). stop (History x)) (sym (e .number))
 
   wrong : {A : Type 0} {x y : Advance} → stop x ≡ stop y → advanceNumber x ≢ advanceNumber y → A
   wrong {x = x} {y = y} e d = let q : x ≡ y = cc in absurd (d (ap advanceNumber q))
 
   -- 14 FLOATING: "a free node has no path"
-  pub floating-exactly : (n : ℕ) → (advanceOf net a m .answer ≡ Floating n) ↔ (Ready net a m × Floats N a k n)
+  pub floating-exactly : (n : ℕ) → (advanceOf net a m .answer ≡ Floating n) ↔ (Ready net a m × Floats N a k (m .records) n)
   floating-exactly n = (λ e. forth (stopped-by (Floating n) floating14 e) (solving N a k bs), λ h. stops-with (h .0) (Floating n) (back n (h .0 .next) (h .1)))
     where
-      forth : Stopped (Floating n) → Solving N a k bs → Ready net a m × Floats N a k n
+      forth : Stopped (Floating n) → Solving N a k bs → Ready net a m × Floats N a k (m .records) n
       forth t (floats i p e) =
           let q : stop (Floating (suc i)) ≡ stop (Floating n) = sym e ∙ t .stopped in
           let same : suc i ≡ n = cc in
-          (t .ready, subst (Floats N a k) same (search-floats N (s (t .ready .next)) a k (m .records) (heard N a k (m .froms) (m .tos)) i p))
+          (t .ready, subst (Floats N a k (m .records)) same (search-floats N (s (t .ready .next)) a k (m .records) (heard N a k (m .froms) (m .tos)) i p))
       forth t (leaves i p o e) = wrong (sym e ∙ t .stopped) (λ q. omega arith)
       forth t (tips i p o h e) = wrong (sym e ∙ t .stopped) (λ q. omega arith)
       forth t (exceeds i p o h b e) = wrong (sym e ∙ t .stopped) (λ q. omega arith)
       forth t (solves p o h b e) = absurd (stop-move (sym (t .stopped) ∙ e))
 
-      back : (n : ℕ) → Next net a m → Floats N a k n → solve N a k bs ≡ stop (Floating n)
+      back : (n : ℕ) → Next net a m → Floats N a k (m .records) n → solve N a k bs ≡ stop (Floating n)
       back zero j f = absurd (omega (arith, f .node .low))
       back (suc n) j f = solve14 N a k bs n (floats-search N (s j) a k (m .records) (heard N a k (m .froms) (m .tos)) (suc n) f)
 
   -- 15 RANGE: "a proposed voltage out of range"
-  pub range-exactly : (n : ℕ) → (advanceOf net a m .answer ≡ Range n) ↔ (Ready net a m × AllPaths N a k × OutOfRange N a k m n)
+  pub range-exactly : (n : ℕ) → (advanceOf net a m .answer ≡ Range n) ↔ (Ready net a m × AllPaths N a k m × OutOfRange N a k m n)
   range-exactly n = (λ e. forth (stopped-by (Range n) range15 e) (solving N a k bs), λ h. stops-with (h .0) (Range n) (range-stops (h .0 .next) (h .1) n (h .2)))
     where
-      forth : Stopped (Range n) → Solving N a k bs → Ready net a m × AllPaths N a k × OutOfRange N a k m n
+      forth : Stopped (Range n) → Solving N a k bs → Ready net a m × AllPaths N a k m × OutOfRange N a k m n
       forth t (floats i p e) = wrong (sym e ∙ t .stopped) (λ q. omega arith)
       forth t (leaves i p o e) =
           let q : stop (Range (suc i)) ≡ stop (Range n) = sym e ∙ t .stopped in
@@ -188,10 +188,10 @@ module _ (net : Words) (a : ℕ) (m : Memory) where
       forth t (solves p o h b e) = absurd (stop-move (sym (t .stopped) ∙ e))
 
   -- 16 UNBALANCED: "the limit is passed at a node"
-  pub balance-exactly : (n : ℕ) → (advanceOf net a m .answer ≡ Unbalanced n) ↔ (Ready net a m × AllPaths N a k × AllInRange N a k m × Unbalances N a k m n)
+  pub balance-exactly : (n : ℕ) → (advanceOf net a m .answer ≡ Unbalanced n) ↔ (Ready net a m × AllPaths N a k m × AllInRange N a k m × Unbalances N a k m n)
   balance-exactly n = (λ e. forth (stopped-by (Unbalanced n) unbalanced16 e) (solving N a k bs), λ h. stops-with (h .0) (Unbalanced n) (balance-stops (h .0 .next) (h .1) (h .2) n (h .3)))
     where
-      forth : Stopped (Unbalanced n) → Solving N a k bs → Ready net a m × AllPaths N a k × AllInRange N a k m × Unbalances N a k m n
+      forth : Stopped (Unbalanced n) → Solving N a k bs → Ready net a m × AllPaths N a k m × AllInRange N a k m × Unbalances N a k m n
       forth t (floats i p e) = wrong (sym e ∙ t .stopped) (λ q. omega arith)
       forth t (leaves i p o e) = wrong (sym e ∙ t .stopped) (λ q. omega arith)
       forth t (tips i p o h e) =
@@ -202,11 +202,11 @@ module _ (net : Words) (a : ℕ) (m : Memory) where
       forth t (solves p o h b e) = absurd (stop-move (sym (t .stopped) ∙ e))
 
   -- 17 HISTORY: "a next history or sent value beyond 10^17"
-  pub history-exactly : (b : ℕ) → (advanceOf net a m .answer ≡ History b) ↔ (Ready net a m × AllPaths N a k × AllInRange N a k m × AllBalanced N a k m × FirstExceeds N a k m b)
+  pub history-exactly : (b : ℕ) → (advanceOf net a m .answer ≡ History b) ↔ (Ready net a m × AllPaths N a k m × AllInRange N a k m × AllBalanced N a k m × FirstExceeds N a k m b)
   history-exactly b =
       (λ e. forth (stopped-by (History b) history17 e) (solving N a k bs), λ h. stops-with (h .0) (History b) (history-stops (h .0 .next) (h .1) (h .2) (h .3) b (h .4)))
     where
-      forth : Stopped (History b) → Solving N a k bs → Ready net a m × AllPaths N a k × AllInRange N a k m × AllBalanced N a k m × FirstExceeds N a k m b
+      forth : Stopped (History b) → Solving N a k bs → Ready net a m × AllPaths N a k m × AllInRange N a k m × AllBalanced N a k m × FirstExceeds N a k m b
       forth t (floats i p e) = wrong (sym e ∙ t .stopped) (λ q. omega arith)
       forth t (leaves i p o e) = wrong (sym e ∙ t .stopped) (λ q. omega arith)
       forth t (tips i p o h e) = wrong (sym e ∙ t .stopped) (λ q. omega arith)
@@ -217,17 +217,17 @@ module _ (net : Words) (a : ℕ) (m : Memory) where
       forth t (solves p o h l e) = absurd (stop-move (sym (t .stopped) ∙ e))
 
   -- accepted: exactly when no refusal applies
-  pub accepted-exactly : (x : ℕ) → (advanceOf net a m .answer ≡ Took x) ↔ (Ready net a m × (x ≡ k) × AllPaths N a k × AllInRange N a k m × AllBalanced N a k m × AllWithin N a k m)
+  pub accepted-exactly : (x : ℕ) → (advanceOf net a m .answer ≡ Took x) ↔ (Ready net a m × (x ≡ k) × AllPaths N a k m × AllInRange N a k m × AllBalanced N a k m × AllWithin N a k m)
   accepted-exactly x = (λ e. forth e (comes net a m), back)
     where
-      passed : Ready net a m → solve N a k bs ≡ move (voltsOf N a k bs) → Solving N a k bs → Ready net a m × (k ≡ k) × AllPaths N a k × AllInRange N a k m × AllBalanced N a k m × AllWithin N a k m
+      passed : Ready net a m → solve N a k bs ≡ move bs (voltsOf N a k bs) → Solving N a k bs → Ready net a m × (k ≡ k) × AllPaths N a k m × AllInRange N a k m × AllBalanced N a k m × AllWithin N a k m
       passed r v (floats i p e) = absurd (stop-move (sym e ∙ v))
       passed r v (leaves i p o e) = absurd (stop-move (sym e ∙ v))
       passed r v (tips i p o h e) = absurd (stop-move (sym e ∙ v))
       passed r v (exceeds i p o h l e) = absurd (stop-move (sym e ∙ v))
       passed r v (solves p o h l e) = (r, refl, paths (r .next) p, ranged (r .next) o, balanced (r .next) h, within (r .next) l)
 
-      forth : advanceOf net a m .answer ≡ Took x → Comes net a m → Ready net a m × (x ≡ k) × AllPaths N a k × AllInRange N a k m × AllBalanced N a k m × AllWithin N a k m
+      forth : advanceOf net a m .answer ≡ Took x → Comes net a m → Ready net a m × (x ≡ k) × AllPaths N a k m × AllInRange N a k m × AllBalanced N a k m × AllWithin N a k m
       forth e (refused9 f q) = absurd (omega (arith, number net a m q e))
       forth e (refused8 f n q) = absurd (omega (arith, number net a m q e))
       forth e (refused10 f n w q) = absurd (omega (arith, number net a m q e))
@@ -241,7 +241,7 @@ module _ (net : Words) (a : ℕ) (m : Memory) where
           let w = passed (late-ready j l) v (solving N a k bs) in
           (w .0, same, w .2, w .3, w .4, w .5)
 
-      back : Ready net a m × (x ≡ k) × AllPaths N a k × AllInRange N a k m × AllBalanced N a k m × AllWithin N a k m → advanceOf net a m .answer ≡ Took x
+      back : Ready net a m × (x ≡ k) × AllPaths N a k m × AllInRange N a k m × AllBalanced N a k m × AllWithin N a k m → advanceOf net a m .answer ≡ Took x
       back h =
-          answers0 net a m (h .0 .next) (ready-late (h .0)) (voltsOf N a k bs) (solve0 N a k bs (lone0 (h .0 .next) (h .2)) (outside0 (h .0 .next) (h .3)) (heavy0 (h .0 .next) (h .4)) (large0 (h .0 .next) (h .5)))
+          answers0 net a m (h .0 .next) (ready-late (h .0)) bs (voltsOf N a k bs) (solve0 N a k bs (lone0 (h .0 .next) (h .2)) (outside0 (h .0 .next) (h .3)) (heavy0 (h .0 .next) (h .4)) (large0 (h .0 .next) (h .5)))
           ∙ ap Took (sym (h .1))

@@ -2,7 +2,7 @@
 -- beside the paper. Assumes nothing.
 use Prim.Native.Nat.{ℕ, zero, suc, _+_, _-_, _≤_, _<_}
 use mathlib.Core.Path.{_≡_}
-use mathlib.Core.Logic.{_≢_, _⊎_}
+use mathlib.Core.Logic.{_≢_}
 use mathlib.Core.Bool.{true, false, cond, _||_}
 use mathlib.Core.List.{List}
 use lib.ListN.{length, getD}
@@ -11,12 +11,12 @@ use lib.IntN.{ℤ, pos, negℤ, natAbs, _+ℤ_, _-ℤ_, _*ℤ_}
 use lib.Ieee.{Float, nan}
 use Rattle.paper.specs.declared.Rounded.the-variants.{Whole}
 use Rattle.whole.specs.Lists.{z, word, numbers, total}
-use Rattle.paper.specs.Rows.{isBranch, isR, isL, isC, isLine, isSwitch, isVS, from, to, at, closes, opens, limit}
+use Rattle.paper.specs.Rows.{isBranch, isR, isL, isC, isLine, isSwitch, isVS, from, to, at, limit}
 use Rattle.paper.specs.Conductance.{conductance}
 use Rattle.paper.specs.Areas.{Net, areaOf, areaCount, rowArea, step, fixed, freeOf}
 use Rattle.paper.specs.Sources.{source, injected}
 use Rattle.paper.specs.Records.{countAt, voltAt, currentAt, toCurrentAt, historyAt, countOf}
-use Rattle.paper.specs.Legs.{Branch, bothLegs, heard, legsOf}
+use Rattle.paper.specs.Legs.{Branch, bothLegs, heard, isOpen, legsOf}
 use Rattle.paper.specs.Doubles.{nearestOf}
 use Rattle.paper.specs.Elimination.{voltages}
 use Rattle.paper.specs.Solve.{system, stillOf}
@@ -72,8 +72,8 @@ gv N n i p = g N i *ℤ voltage n p
 pub record Obeys (N : Net) (k : ℕ) (m n : Memory) (i : ℕ) : Type 0 where
   -- "R and closed SW: i = g·u. Open SW: i = 0 and no conductance. Closed at steps close to open - 1."
   pub resistor : isR (rowAt N i) ≡ true → fromCurrent n i ≡ gu N n i
-  pub closed : isSwitch (rowAt N i) ≡ true → closes (rowAt N i) ≤ k → k < opens (rowAt N i) → fromCurrent n i ≡ gu N n i
-  pub opened : isSwitch (rowAt N i) ≡ true → (k < closes (rowAt N i)) ⊎ (opens (rowAt N i) ≤ k) → fromCurrent n i ≡ z
+  pub closed : isSwitch (rowAt N i) ≡ true → isOpen N (m .records) k i ≡ false → fromCurrent n i ≡ gu N n i
+  pub opened : isSwitch (rowAt N i) ≡ true → isOpen N (m .records) k i ≡ true → fromCurrent n i ≡ z
   -- "L: i = g·u + h; next h is i + g·u."
   pub inductor : isL (rowAt N i) ≡ true → fromCurrent n i ≡ gu N n i +ℤ history m i
   pub inductor-next : isL (rowAt N i) ≡ true → history n i ≡ fromCurrent n i +ℤ gu N n i
@@ -102,7 +102,7 @@ leaves N n p i =
 
 -- "the exact whole-number sum of currents leaving, minus injection"
 unfoldable pub imbalanceAt : Net → ℕ → Memory → ℕ → ℤ
-imbalanceAt N k n p = total (leaves N n p) (numbers 0 (length (N .rows))) -ℤ injected (N .rows) k p
+imbalanceAt N k n p = total (leaves N n p) (numbers 0 (length (N .rows))) -ℤ injected N k p
 
 -- ---- "Elimination", over the free nodes in rising order: the doubles x
 
@@ -110,7 +110,7 @@ abbrev pub legsAt : Net → ℕ → ℕ → Memory → List Branch
 legsAt N a k m = legsOf N a k (m .records) (heard N a k (m .froms) (m .tos))
 
 abbrev pub solution : Net → ℕ → ℕ → Memory → List Float
-solution N a k m = voltages (length (freeOf N a)) (system (bothLegs (legsAt N a k m)) (freeOf N a) (stillOf N a k) (injected (N .rows) k))
+solution N a k m = voltages (length (freeOf N a)) (system (bothLegs (legsAt N a k m)) (freeOf N a) (stillOf N a k) (injected N k))
 
 -- what area a's next step writes, if it is accepted: the paper's proposed voltages, and the currents, histories and sent values that go with them
 abbrev pub offer : Net → ℕ → Memory → Memory
@@ -123,7 +123,7 @@ pub record Stepped (N : Net) (a k : ℕ) (m n : Memory) : Type 0 where
   pub next : k ≡ suc (countOf (m .records) a)
   pub count : word (n .records) (countAt a) ≡ pos k
   -- a fixed node has its source's value
-  pub fixed-node : (p i : ℕ) → NodeOf N a p → i < length (N .rows) → isVS (rowAt N i) ≡ true → at (rowAt N i) ≡ p → voltage n p ≡ source k (rowAt N i)
+  pub fixed-node : (p i : ℕ) → NodeOf N a p → i < length (N .rows) → isVS (rowAt N i) ≡ true → at (rowAt N i) ≡ p → voltage n p ≡ source N k (rowAt N i)
   -- a free node has the double of the stated elimination, rounded to the nearest whole number
   pub free-node : (q : ℕ) → q < length (freeOf N a) → nearestOf (getD (solution N a k m) q nan) ≡ Whole (voltage n (getD (freeOf N a) q 0))
   -- each branch of the area obeys its own equation

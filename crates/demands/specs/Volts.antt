@@ -99,10 +99,10 @@ free-few N a =
 
 module _ (N : Net) (s : NetSound N) (a k : ℕ) (bs : List Branch) where
   abbrev x : List Float
-  x = voltages (length (freeOf N a)) (system (bothLegs bs) (freeOf N a) (stillOf N a k) (injected (N .rows) k))
+  x = voltages (length (freeOf N a)) (system (bothLegs bs) (freeOf N a) (stillOf N a k) (injected N k))
 
   enough : length (freeOf N a) ≤ length x
-  enough = rw (solved-length (length (freeOf N a)) (system (bothLegs bs) (freeOf N a) (stillOf N a k) (injected (N .rows) k))) (omega (arith, free-few N a, s .nodeMost))
+  enough = rw (solved-length (length (freeOf N a)) (system (bothLegs bs) (freeOf N a) (stillOf N a k) (injected N k))) (omega (arith, free-few N a, s .nodeMost))
 
   pub rounded-length : length (rounded N a k bs) ≡ length (freeOf N a)
   unfolding proposed
@@ -127,7 +127,7 @@ module _ (N : Net) (s : NetSound N) (a k : ℕ) (bs : List Branch) where
       ∙ still-ground N s a k
 
   -- a fixed node has its source's value
-  pub fixed-volt : (p i : ℕ) → NodeOf N a p → i < length (N .rows) → fixes p (rowAt N i) ≡ true → word v p ≡ source k (rowAt N i)
+  pub fixed-volt : (p i : ℕ) → NodeOf N a p → i < length (N .rows) → fixes p (rowAt N i) ≡ true → word v p ≡ source N k (rowAt N i)
   unfolding fixed
   fixed-volt p i n h e =
       let f : fixed N p ≡ true = some-if (fixes p) (N .rows) [] i h e in

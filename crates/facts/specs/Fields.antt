@@ -60,9 +60,9 @@ none-of-four a b c d e =
     let f = none-of-three a b c (or-left (a || b || c) d e) in
     (f .0, f .1, f .2, or-right (a || b || c) d e)
 
-pub in-range : (step : ℕ) (r : Row) → nodeFault r ≡ false → valueFault step r ≡ false → InRange r
+pub in-range : (head r : Row) → nodeFault r ≡ false → valueFault head r ≡ false → InRange r
 unfolding nodeFault valueFault
-in-range step r p q =
+in-range head r p q =
     let a : outside true (fieldsOf (kind r)) (tail r) ≡ false = none-of-four _ _ _ _ p .0 in
     let b : outside false (fieldsOf (kind r)) (tail r) ≡ false = none-of-three _ _ _ q .0 in
     record {

@@ -21,9 +21,10 @@ use Rattle.paper.specs.Limits as Limits
 use Rattle.paper.specs.Rows.{Row, kinds, fieldsOf, kind, isBranch, isSource, isLine, from, to, travel}
 use Rattle.paper.specs.Faults.{fixes, slots}
 use Rattle.paper.specs.Network.{tableOf, passes, isNetwork}
-use Rattle.paper.specs.Areas.{Net, netOf, netOn, step, areaOf, areaCount, rowArea, joins, branchNumber}
+use Rattle.paper.specs.Areas.{Net, netOf, netOn, areaOf, areaCount, rowArea, joins, branchNumber}
 use Rattle.paper.specs.Records.{offset, slotCount}
 use Rattle.paper.specs.Sources.{source, held}
+use Rattle.paper.specs.Legs.{isOpen, conducts}
 use Rattle.paths.specs.Paths.{Linked}
 use Rattle.paths.specs.Meaning.{areaJoins}
 use Rattle.facts.specs.Sound.{StudySound, RowSound}
@@ -36,7 +37,7 @@ rowAt N i = getD (N .rows) i []
 
 pub record NetSound (N : Net) : Type 0 where
   pub study : StudySound (N .head)
-  pub row : (i : ℕ) → i < length (N .rows) → RowSound (step N) (N .nodes) (rowAt N i)
+  pub row : (i : ℕ) → i < length (N .rows) → RowSound (N .head) (N .nodes) (rowAt N i)
   pub nodeMost : N .nodes ≤ Limits.nodeEnd
   pub rowMost : length (N .rows) ≤ Limits.rowEnd
   pub branchMost : count isBranch (N .rows) ≤ Limits.branchEnd
@@ -75,7 +76,7 @@ table-sound h rows e =
 
 -- ---- the fourth field, of whatever kind
 
-fourth : (r : Row) {step nodes : ℕ} → RowSound step nodes r → (Layout.roomOf r ≤ 4 → word r 4 ≡ z) → word r 4 ≡ pos (travel r)
+fourth : (r : Row) {head : Row} {nodes : ℕ} → RowSound head nodes r → (Layout.roomOf r ≤ 4 → word r 4 ≡ z) → word r 4 ≡ pos (travel r)
 unfolding fieldsOf kinds
 fourth r s rest = go (kind r) refl (s .kindLeast) (s .kindMost)
   where
@@ -95,19 +96,24 @@ fourth r s rest = go (kind r) refl (s .kindLeast) (s .kindMost)
 
 -- ---- slots: "slots stand in table order"
 
-pub slots-within : (N : Net) (i : ℕ) → i < length (N .rows) → offset N i + slots (step N) (rowAt N i) ≤ slotCount N
+pub slots-within : (N : Net) (i : ℕ) → i < length (N .rows) → offset N i + slots (N .head) (rowAt N i) ≤ slotCount N
 unfolding offset slotCount
-slots-within N i h = sum-within [] (slots (step N)) (N .rows) i h
+slots-within N i h = sum-within [] (slots (N .head)) (N .rows) i h
 
-pub slots-apart : (N : Net) (i j : ℕ) → i < j → i < length (N .rows) → offset N i + slots (step N) (rowAt N i) ≤ offset N j
+pub slots-apart : (N : Net) (i j : ℕ) → i < j → i < length (N .rows) → offset N i + slots (N .head) (rowAt N i) ≤ offset N j
 unfolding offset
-slots-apart N i j l h = sum-below [] (slots (step N)) (N .rows) i j l h
+slots-apart N i j l h = sum-below [] (slots (N .head)) (N .rows) i j l h
+
+-- ---- whatever the records hold, a row conducts the same
+pub conducts-same : (N : Net) (recs recs′ : Words) (k i : ℕ) → conducts N recs k i ≡ conducts N recs′ k i
+unfolding conducts isOpen
+conducts-same N recs recs′ k i = refl
 
 -- ---- a fixed node's voltage is that of its one VS
 
-pub held-is : (N : Net) → NetSound N → (k n i : ℕ) → i < length (N .rows) → fixes n (rowAt N i) ≡ true → held (N .rows) k n ≡ source k (rowAt N i)
+pub held-is : (N : Net) → NetSound N → (k n i : ℕ) → i < length (N .rows) → fixes n (rowAt N i) ≡ true → held N k n ≡ source N k (rowAt N i)
 unfolding held
-held-is N s k n i h f = total-alone [] (fixes n) (source k) (N .rows) i h f others
+held-is N s k n i h f = total-alone [] (fixes n) (source N k) (N .rows) i h f others
   where
     others : (j : ℕ) → j < length (N .rows) → (i ≡ j → ⊥) → fixes n (rowAt N j) ≡ false
     others j q u = go (fixes n (rowAt N j)) refl

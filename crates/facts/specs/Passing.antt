@@ -9,7 +9,7 @@ use lib.Dec.{leb, eqb}
 use borrow.Author.Tests.{leb-true, eqb-true}
 use Rattle.whole.specs.Lists.{empty, fold}
 use Rattle.whole.specs.Folds.{and-left, and-right}
-use Rattle.paper.specs.Rows.{Row, kind, noKind, isStudy, stepLength}
+use Rattle.paper.specs.Rows.{Row, kind, noKind, isStudy}
 use Rattle.paper.specs.Faults.{nodeFault, valueFault, travelFault, doubleFault, fullFault, lineFault, rowFault}
 use Rattle.paper.specs.Network.{Table, Replay, replayed, passes, sound}
 
@@ -31,12 +31,12 @@ passes-at t i e h = replayed-at (record { ok = true; seen = [] }) t i e h
 -- ---- what a sound row is
 
 -- no fault of 2 to 6
-pub record Clean (step : ℕ) (before : List Row) (r : Row) : Type 0 where
+pub record Clean (head : Row) (before : List Row) (r : Row) : Type 0 where
   pub node : nodeFault r ≡ false
-  pub value : valueFault step r ≡ false
-  pub travel : travelFault step r ≡ false
+  pub value : valueFault head r ≡ false
+  pub travel : travelFault head r ≡ false
   pub double : doubleFault before r ≡ false
-  pub full : fullFault step before r ≡ false
+  pub full : fullFault head before r ≡ false
 
 no-fault : (a b c d f : Bool) → _≡_ {A = ℕ} (cond a 2 (cond b 3 (cond c 4 (cond d 5 (cond f 6 0))))) 0
     → (a ≡ false) × (b ≡ false) × (c ≡ false) × (d ≡ false) × (f ≡ false)
@@ -47,16 +47,16 @@ no-fault false false false true f e = absurd (omega (arith, e))
 no-fault false false false false true e = absurd (omega (arith, e))
 no-fault false false false false false e = (refl, refl, refl, refl, refl)
 
-pub clean : (step : ℕ) (before : List Row) (r : Row) → lineFault step before r ≡ 0 → Clean step before r
+pub clean : (head : Row) (before : List Row) (r : Row) → lineFault head before r ≡ 0 → Clean head before r
 unfolding lineFault
-clean step before r e =
-    let f = no-fault (nodeFault r) (valueFault step r) (travelFault step r) (doubleFault before r) (fullFault step before r) e in
+clean head before r e =
+    let f = no-fault (nodeFault r) (valueFault head r) (travelFault head r) (doubleFault before r) (fullFault head before r) e in
     record { node = f .0; value = f .1; travel = f .2; double = f .3; full = f .4 }
 
-pub record Taken (first : Bool) (step : ℕ) (before : List Row) (r : Row) : Type 0 where
+pub record Taken (first : Bool) (head : Row) (before : List Row) (r : Row) : Type 0 where
   pub known : kind r < noKind
   pub study : isStudy r ≡ first
-  pub clean : Clean step before r
+  pub clean : Clean head before r
 
 beq-eq : (a b : Bool) → Bool·beq a b ≡ true → b ≡ a
 beq-eq true true e = refl
@@ -64,7 +64,7 @@ beq-eq true false e = e
 beq-eq false true e = sym e
 beq-eq false false e = refl
 
-pub taken : (seen : Table) (r : Row) → sound seen r ≡ true → Taken (empty seen) (stepLength (getD seen 0 [])) (tail seen) r
+pub taken : (seen : Table) (r : Row) → sound seen r ≡ true → Taken (empty seen) (getD seen 0 []) (tail seen) r
 unfolding sound rowFault
 taken seen r e =
     let a = and-left (leb (suc (kind r)) noKind && Bool·beq (empty seen) (isStudy r)) (eqb (rowFault seen r) 0) e in
@@ -72,12 +72,12 @@ taken seen r e =
     record {
       known = leb-true (suc (kind r)) noKind (and-left (leb (suc (kind r)) noKind) (Bool·beq (empty seen) (isStudy r)) a);
       study = beq-eq (empty seen) (isStudy r) (and-right (leb (suc (kind r)) noKind) (Bool·beq (empty seen) (isStudy r)) a);
-      clean = clean (stepLength (getD seen 0 [])) (tail seen) r (eqb-true (rowFault seen r) 0 b);
+      clean = clean (getD seen 0 []) (tail seen) r (eqb-true (rowFault seen r) 0 b);
     }
 
 -- the study's row and the others
-pub head-taken : (h : Row) (rows : List Row) → passes (h ∷ rows) ≡ true → Taken true 0 [] h
+pub head-taken : (h : Row) (rows : List Row) → passes (h ∷ rows) ≡ true → Taken true [] [] h
 head-taken h rows e = taken [] h (passes-at (h ∷ rows) 0 e (omega arith))
 
-pub row-taken : (h : Row) (rows : List Row) (i : ℕ) → passes (h ∷ rows) ≡ true → i < length rows → Taken false (stepLength h) (take i rows) (getD rows i [])
+pub row-taken : (h : Row) (rows : List Row) (i : ℕ) → passes (h ∷ rows) ≡ true → i < length rows → Taken false h (take i rows) (getD rows i [])
 row-taken h rows i e k = taken (h ∷ take i rows) (getD rows i []) (passes-at (h ∷ rows) (suc i) e (omega arith))

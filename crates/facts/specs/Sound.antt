@@ -39,13 +39,13 @@ pub record BranchSound (step nodes : ℕ) (r : Row) : Type 0 where
   pub gMost : conductance step r ≤ Limits.conductanceEnd
 
 -- LINE: "No line ends on ground"; "LINE of d = travel / step"
-pub record LineSound (step : ℕ) (r : Row) : Type 0 where
+pub record LineSound (head r : Row) : Type 0 where
   pub travelIn : Within 1 Limits.travelEnd (word r 4)
   pub fromOff : 1 ≤ from r
   pub toOff : 1 ≤ to r
-  pub even : delay step r * step ≡ travel r
-  pub late : 1 ≤ delay step r
-  pub ring : slots step r ≡ 2 * delay step r + depth
+  pub even : delay (stepLength head) r * stepLength head ≡ travel r
+  pub late : 1 ≤ delay (stepLength head) r
+  pub ring : slots head r ≡ 2 * delay (stepLength head) r + depth head r
 
 -- SW: "1 ≤ close < open ≤ 1,000,001"
 pub record SwitchSound (r : Row) : Type 0 where
@@ -61,12 +61,12 @@ pub record SourceSound (nodes : ℕ) (r : Row) : Type 0 where
   pub peakMost : natAbs (peak r) ≤ Limits.injectionEnd
   pub voltMost : isVS r ≡ true → natAbs (peak r) ≤ Limits.voltageEnd
 
-pub record RowSound (step nodes : ℕ) (r : Row) : Type 0 where
+pub record RowSound (head : Row) (nodes : ℕ) (r : Row) : Type 0 where
   pub kindIs : word r 0 ≡ pos (kind r)
   pub kindLeast : 1 ≤ kind r
   pub kindMost : kind r ≤ 7
-  pub branch : isBranch r ≡ true → BranchSound step nodes r
-  pub line : isLine r ≡ true → LineSound step r
+  pub branch : isBranch r ≡ true → BranchSound (stepLength head) nodes r
+  pub line : isLine r ≡ true → LineSound head r
   pub switch : isSwitch r ≡ true → SwitchSound r
   pub source : isSource r ≡ true → SourceSound nodes r
 
@@ -112,12 +112,13 @@ record Parts (step : ℕ) (r : Row) : Type 0 where
   range : (isBranch r && not (leb 1 (conductance step r) && leb (conductance step r) Limits.conductanceEnd)) ≡ false
   multiple : (isLine r && not (eqb (travel r % step) 0)) ≡ false
 
-parts : (step : ℕ) (before : List Row) (r : Row) → Clean step before r → Parts step r
+parts : (head : Row) (before : List Row) (r : Row) → Clean head before r → Parts (stepLength head) r
 unfolding nodeFault valueFault travelFault
-parts step before r c =
+parts head before r c =
+    let step = stepLength head in
     let n = none-of-four (outside true (fieldsOf (kind r)) (tail r)) (isBranch r && eqb (from r) (to r)) (isSource r && eqb (at r) 0) (isLine r && (eqb (from r) 0 || eqb (to r) 0)) (c .node) in
     let v = none-of-three (outside false (fieldsOf (kind r)) (tail r)) (isSwitch r && leb (opens r) (closes r)) (isBranch r && not (leb 1 (conductance step r) && leb (conductance step r) Limits.conductanceEnd)) (c .value) in
-    record { fields = in-range step r (c .node) (c .value); apart = n .1; off = n .2; ends = n .3; order = v .1; range = v .2; multiple = c .travel }
+    record { fields = in-range head r (c .node) (c .value); apart = n .1; off = n .2; ends = n .3; order = v .1; range = v .2; multiple = c .travel }
 
 study-sound : (h : Row) → kind h ≡ 0 → InRange h → StudySound h
 unfolding fieldsOf kinds
@@ -167,9 +168,10 @@ branch-sound step r p b =
 not-zero : (n : ℕ) → eqb n 0 ≡ false → 1 ≤ n
 not-zero n e = let h : n ≢ 0 = eqb-false n 0 e in omega arith
 
-line-sound : (step : ℕ) (r : Row) → Parts step r → isLine r ≡ true → LineSound step r
+line-sound : (head r : Row) → Parts (stepLength head) r → isLine r ≡ true → LineSound head r
 unfolding fieldsOf kinds slots
-line-sound step r p l =
+line-sound head r p l =
+    let step = stepLength head in
     let e = eqb-true (kind r) 4 l in
     let t = within 1 Limits.travelEnd (word r 4) (field 4 3 r e (p .fields) tt) in
     let o = unless (isLine r) (eqb (from r) 0 || eqb (to r) 0) (p .ends) l in
@@ -184,7 +186,7 @@ line-sound step r p l =
       ring = rw l;
     }
   where
-    late-one : (d : ℕ) → d * step ≡ travel r → 1 ≤ travel r → 1 ≤ d
+    late-one : (d : ℕ) → d * stepLength head ≡ travel r → 1 ≤ travel r → 1 ≤ d
     late-one zero e h = absurd (omega arith)
     late-one (suc d) e h = omega arith
 
@@ -231,20 +233,20 @@ source-sound step r p s =
 
 -- ---- a row as the reader takes it
 
-pub study-of : (h : Row) → Taken true 0 [] h → StudySound h
-study-of h t = study-sound h (eqb-true (kind h) 0 (t .study)) (in-range 0 h (t .clean .node) (t .clean .value))
+pub study-of : (h : Row) → Taken true [] [] h → StudySound h
+study-of h t = study-sound h (eqb-true (kind h) 0 (t .study)) (in-range [] h (t .clean .node) (t .clean .value))
 
-pub row-of : (step : ℕ) (before : List Row) (r : Row) → Taken false step before r → RowSound step Limits.nodeEnd r
-row-of step before r t =
-    let p = parts step before r (t .clean) in
+pub row-of : (head : Row) (before : List Row) (r : Row) → Taken false head before r → RowSound head Limits.nodeEnd r
+row-of head before r t =
+    let p = parts head before r (t .clean) in
     record {
       kindIs = kind-is r (t .known);
       kindLeast = not-zero (kind r) (t .study);
       kindMost = omega (arith, t .known);
-      branch = branch-sound step r p;
-      line = line-sound step r p;
-      switch = switch-sound step r p;
-      source = source-sound step r p;
+      branch = branch-sound _ r p;
+      line = line-sound head r p;
+      switch = switch-sound _ r p;
+      source = source-sound _ r p;
     }
 
 -- ---- "The node count is the largest node named."
@@ -254,9 +256,9 @@ by-kind P true s x y f g h = f refl
 by-kind P false true x y f g h = g refl
 by-kind P false false x y f g h = h
 
-pub named-most : (step nodes : ℕ) (r : Row) → RowSound step nodes r → named r ≤ nodes
+pub named-most : (head : Row) (nodes : ℕ) (r : Row) → RowSound head nodes r → named r ≤ nodes
 unfolding named
-named-most step nodes r s =
+named-most head nodes r s =
     by-kind (λ n. n ≤ nodes) (isBranch r) (isSource r) _ _
     (λ b. omega (arith, s .branch b .fromIn .most, s .branch b .toIn .most)) (λ b. s .source b .atIn .most) (omega arith)
 
@@ -272,8 +274,8 @@ unfolding named
 named-source r s = rw (source-no-branch (kind r) s, s)
 
 -- so a row's nodes are at most as many as are named
-pub sound-named : (step most nodes : ℕ) (r : Row) → RowSound step most r → named r ≤ nodes → RowSound step nodes r
-sound-named step most nodes r s n =
+pub sound-named : (head : Row) (most nodes : ℕ) (r : Row) → RowSound head most r → named r ≤ nodes → RowSound head nodes r
+sound-named head most nodes r s n =
     record {
       kindIs = s .kindIs;
       kindLeast = s .kindLeast;

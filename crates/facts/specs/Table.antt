@@ -14,7 +14,7 @@ use Rattle.whole.specs.Folds.{and-left, and-right, none-at}
 use Rattle.whole.specs.Prefix.{count-room, sum-room, count-parts}
 use Rattle.whole.specs.Most.{most-at, most-least}
 use Rattle.paper.specs.Limits as Limits
-use Rattle.paper.specs.Rows.{Row, kind, isBranch, isSource, isVS, at, stepLength}
+use Rattle.paper.specs.Rows.{Row, kind, isBranch, isSource, isVS, at}
 use Rattle.paper.specs.Faults.{doubleFault, fullFault, fixes, slots}
 use Rattle.paper.specs.Network.{passes}
 use Rattle.paper.specs.Areas.{named, nodeCount}
@@ -26,32 +26,29 @@ module _ (h : Row) (rows : List Row) (e : passes (h ∷ rows) ≡ true) where
   abbrev rowAt : ℕ → Row
   rowAt i = getD rows i []
 
-  abbrev step : ℕ
-  step = stepLength h
-
   pub study-sound : StudySound h
   study-sound = study-of h (head-taken h rows e)
 
-  taken-at : (i : ℕ) → i < length rows → Taken false step (take i rows) (rowAt i)
+  taken-at : (i : ℕ) → i < length rows → Taken false h (take i rows) (rowAt i)
   taken-at i k = row-taken h rows i e k
 
-  sound-at : (i : ℕ) → i < length rows → RowSound step Limits.nodeEnd (rowAt i)
-  sound-at i k = row-of step (take i rows) (rowAt i) (taken-at i k)
+  sound-at : (i : ℕ) → i < length rows → RowSound h Limits.nodeEnd (rowAt i)
+  sound-at i k = row-of h (take i rows) (rowAt i) (taken-at i k)
 
   pub node-most : nodeCount rows ≤ Limits.nodeEnd
   unfolding nodeCount
-  node-most = most-least named 0 Limits.nodeEnd rows [] (omega arith) (λ i k. named-most step Limits.nodeEnd (rowAt i) (sound-at i k))
+  node-most = most-least named 0 Limits.nodeEnd rows [] (omega arith) (λ i k. named-most h Limits.nodeEnd (rowAt i) (sound-at i k))
 
-  pub row-sound : (i : ℕ) → i < length rows → RowSound step (nodeCount rows) (rowAt i)
+  pub row-sound : (i : ℕ) → i < length rows → RowSound h (nodeCount rows) (rowAt i)
   unfolding nodeCount
-  row-sound i k = sound-named step Limits.nodeEnd (nodeCount rows) (rowAt i) (sound-at i k) (most-at named 0 rows [] i k)
+  row-sound i k = sound-named h Limits.nodeEnd (nodeCount rows) (rowAt i) (sound-at i k) (most-at named 0 rows [] i k)
 
   -- ---- counts
 
   record Room (i : ℕ) : Type 0 where
     branch : (isBranch (rowAt i) && leb Limits.branchEnd (count isBranch (take i rows))) ≡ false
     source : (isSource (rowAt i) && leb Limits.sourceEnd (count isSource (take i rows))) ≡ false
-    slot : ltb Limits.slotEnd (sum (slots step) (take i rows) + slots step (rowAt i)) ≡ false
+    slot : ltb Limits.slotEnd (sum (slots h) (take i rows) + slots h (rowAt i)) ≡ false
 
   room : (i : ℕ) → i < length rows → Room i
   unfolding fullFault
@@ -65,8 +62,8 @@ module _ (h : Row) (rows : List Row) (e : passes (h ∷ rows) ≡ true) where
   pub source-most : count isSource rows ≤ Limits.sourceEnd
   source-most = rw take-length at (count-room [] isSource Limits.sourceEnd rows (λ i k. room i k .source) (length rows) (omega arith))
 
-  pub slot-most : sum (slots step) rows ≤ Limits.slotEnd
-  slot-most = rw take-length at (sum-room [] (slots step) Limits.slotEnd rows (λ i k. room i k .slot) (length rows) (omega arith))
+  pub slot-most : sum (slots h) rows ≤ Limits.slotEnd
+  slot-most = rw take-length at (sum-room [] (slots h) Limits.slotEnd rows (λ i k. room i k .slot) (length rows) (omega arith))
 
   pub row-most : length rows ≤ Limits.rowEnd
   row-most =

@@ -18,7 +18,7 @@ use Rattle.paper.specs.Network.{Table, rowOfWords}
 use Rattle.kinds.specs.Table.{namesOf, low, high, outsideFrom}
 use Rattle.kinds.specs.Fields.{outside-values, field-in, in-range}
 use Rattle.faults.specs.declared.Seen.{Seen}
-use Rattle.faults.specs.Seen.{Held, seenFull, seenFault, fixedAfter, seenAfter}
+use Rattle.faults.specs.Seen.{headOf, Held, seenFull, seenFault, fixedAfter, seenAfter}
 use Rattle.faults.specs.Laws.{Faultless, faultless}
 use Rattle.faults.specs.Stands.{Stands, row-kind, row-slots, row-fixes, row-study, source-node}
 
@@ -28,9 +28,9 @@ study-range : (w : Words) → outsideFrom 0 (namesOf 0) (length (fieldsOf 0)) w 
 unfolding namesOf fieldsOf kinds bytes count low high
 study-range w o = field-in 0 0 3 w o 0 (omega arith) (omega arith)
 
-pub study-step : (w : Words) → 6 ≤ length w → kind w < 8 → (step : ℕ) → valueFault step w ≡ false → kind w ≡ 0 → (1 ≤ stepLength w) × (stepLength w ≤ 1000000)
+pub study-step : (w : Words) → 6 ≤ length w → kind w < 8 → (head : Row) → valueFault head w ≡ false → kind w ≡ 0 → (1 ≤ stepLength w) × (stepLength w ≤ 1000000)
 unfolding valueFault
-study-step w few known step f = of-study (kind w) (outside-values w few (kind w) known ∙ or-left _ _ (or-left _ _ f))
+study-step w few known head f = of-study (kind w) (outside-values w few (kind w) known ∙ or-left _ _ (or-left _ _ f))
   where
     of-study : (k : ℕ) → outsideFrom k (namesOf k) (length (fieldsOf k)) w ≡ false → k ≡ 0 → (1 ≤ nat (word w 1)) × (nat (word w 1) ≤ 1000000)
     of-study k o e = in-range 1 1000000 (word w 1) (study-range w (rw e at o)) .1
@@ -85,7 +85,7 @@ module _ (s : Seen) (w : Words) (few : 6 ≤ length w) (known : kind w < 8) (ok 
   further r before h e =
       let a = isBranch w && leb 64 (s .branches) in
       let b = isSource w && leb 16 (s .sources) in
-      let c = ltb 4096 (s .slots + slots (s .step) w) in
+      let c = ltb 4096 (s .slots + slots (headOf (s .step)) w) in
       let full = ok .full in
       record {
         held =
@@ -94,13 +94,13 @@ module _ (s : Seen) (w : Words) (few : 6 ≤ length w) (known : kind w < 8) (ok 
               short = rw e (h .held .short);
               branches = room (isBranch w) (s .branches) 64 (or-left a b (or-left (a || b) c full)) (h .held .branches);
               sources = room (isSource w) (s .sources) 16 (or-right a b (or-left (a || b) c full)) (h .held .sources);
-              slots = ltb-false 4096 (s .slots + slots (s .step) w) (or-right (a || b) c full);
+              slots = ltb-false 4096 (s .slots + slots (headOf (s .step)) w) (or-right (a || b) c full);
             };
         wide = fixed-wide (s .fixed) w ∙ h .wide;
         step = λ _. rw e (h .step refl);
         branches = rw (count-one isBranch before (rowOfWords w), row-kind w few known, h .branches);
         sources = rw (count-one isSource before (rowOfWords w), row-kind w few known, h .sources);
-        slots = rw (e, sum-one (slots (s .step)) before (rowOfWords w), row-slots w few known (s .step), h .slots);
+        slots = rw (e, sum-one (slots (headOf (s .step))) before (rowOfWords w), row-slots w few known (headOf (s .step)), h .slots);
         fixed = λ n l. fixed-one (s .fixed) w n (h .wide) l ∙ rw (any-one (fixes n) before (rowOfWords w), row-fixes w few known n, h .fixed n l);
       }
 
@@ -108,7 +108,7 @@ module _ (s : Seen) (w : Words) (few : 6 ≤ length w) (known : kind w < 8) (ok 
   first : Stands s [] → kind w ≡ 0 → Stands (seenAfter s w) (rowOfWords w ∷ [])
   unfolding seenAfter slots count sum any
   first h e =
-      let range = study-step w few known (s .step) (ok .value) e in
+      let range = study-step w few known (headOf (s .step)) (ok .value) e in
       record {
         held =
             record {

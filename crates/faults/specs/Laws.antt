@@ -16,7 +16,7 @@ use Rattle.paper.specs.Faults.{outside, nodeFault, valueFault, travelFault, slo
 use Rattle.kinds.specs.Table.{namesOf, low, high, outsideFrom}
 use Rattle.kinds.specs.Fields.{each, names-few, fields-few, outside-names, outside-values, field-in, in-range}
 use Rattle.faults.specs.declared.Seen.{Seen}
-use Rattle.faults.specs.Seen.{Sized, conductanceOf, seenDouble, seenFull, seenFault, fixedAfter, seenAfter}
+use Rattle.faults.specs.Seen.{headOf, Sized, conductanceOf, seenDouble, seenFull, seenFault, fixedAfter, seenAfter}
 use borrow.Author.Tests.{ne-eqb, eqb-true}
 use native.Mathlib.Nat.{le-trans, div-le-self}
 
@@ -78,11 +78,11 @@ module _ (w : Words) (few : 6 ≤ length w) (known : kind w < 8) {k : ℕ} (e : 
   pub values-are : {n m : ℕ} {o : Bool} → n ≡ namesOf k → m ≡ length (fieldsOf k) → o ≡ outsideFrom k n m w → o ≡ outside false (fieldsOf (kind w)) (tail w)
   values-are p q r = rw (r, p, q, e) (outside-values w few (kind w) known)
 
-  pub value-out : (step : ℕ) → outside false (fieldsOf (kind w)) (tail w) ≡ true → true ≡ valueFault step w
+  pub value-out : (step : ℕ) → outside false (fieldsOf (kind w)) (tail w) ≡ true → true ≡ valueFault (headOf step) w
   unfolding valueFault
   value-out step o = rw o
 
-  pub value-none : (step : ℕ) {br : Bool} → outside false (fieldsOf (kind w)) (tail w) ≡ false → br ≡ (leb 1 k && leb k 5) → br ≡ false → false ≡ valueFault step w
+  pub value-none : (step : ℕ) {br : Bool} → outside false (fieldsOf (kind w)) (tail w) ≡ false → br ≡ (leb 1 k && leb k 5) → br ≡ false → false ≡ valueFault (headOf step) w
   unfolding valueFault
   value-none step {br} o p q =
       let n : isBranch w ≡ false = rw (← e) (sym p ∙ q) in
@@ -90,7 +90,7 @@ module _ (w : Words) (few : 6 ≤ length w) (known : kind w < 8) {k : ℕ} (e : 
 
   pub value-is : (step : ℕ) {br : Bool} {g shut opened size : ℕ} → outside false (fieldsOf (kind w)) (tail w) ≡ false → br ≡ (leb 1 k && leb k 5) → br ≡ true
       → size ≡ nat (word w 3) → g ≡ conductanceOf step k size → shut ≡ closes w → opened ≡ opens w
-      → ((eqb k 5 && leb opened shut) || not (leb 1 g && leb g 1000000000)) ≡ valueFault step w
+      → ((eqb k 5 && leb opened shut) || not (leb 1 g && leb g 1000000000)) ≡ valueFault (headOf step) w
   unfolding valueFault conductance ofOhms ofHenries ofFarads conductanceOf
   value-is step o p q r s t u = let b : isBranch w ≡ true = rw (← e) (sym p ∙ q) in rw (o, b, s, r, t, u, e)
 
@@ -101,7 +101,7 @@ module _ (w : Words) (few : 6 ≤ length w) (known : kind w < 8) {k : ℕ} (e : 
 
 -- ---- a line's slots
 
-pub line-travel : (w : Words) → 6 ≤ length w → (step : ℕ) → kind w ≡ 4 → valueFault step w ≡ false → travel w ≤ 1000000000
+pub line-travel : (w : Words) → 6 ≤ length w → (step : ℕ) → kind w ≡ 4 → valueFault (headOf step) w ≡ false → travel w ≤ 1000000000
 unfolding valueFault fieldsOf kinds bytes low high namesOf count
 line-travel w few step e f =
     let known : kind w < 8 = rw e (omega arith) in
@@ -112,15 +112,15 @@ line-travel w few step e f =
 
 -- ---- what is seen
 
-pub slots-small : (w : Words) → 6 ≤ length w → (step : ℕ) → valueFault step w ≡ false → slots step w ≤ 2000000000
+pub slots-small : (w : Words) → 6 ≤ length w → (step : ℕ) → valueFault (headOf step) w ≡ false → slots (headOf step) w ≤ 2000000000
 unfolding slots
 slots-small w few step f = by-test (eqb (kind w) 4) refl
   where
-    by-test : (t : Bool) → eqb (kind w) 4 ≡ t → slots step w ≤ 2000000000
+    by-test : (t : Bool) → eqb (kind w) 4 ≡ t → slots (headOf step) w ≤ 2000000000
     by-test true e = let t = line-travel w few step (eqb-true (kind w) 4 e) f in rw e (omega (arith, div-le-self (travel w) step))
     by-test false e = rw e (omega arith)
 
-pub full-is : (s : Seen) (w : Words) {k n : ℕ} {br so : Bool} → k ≡ kind w → br ≡ (leb 1 k && leb k 5) → so ≡ (eqb k 6 || eqb k 7) → n ≡ slots (s .step) w
+pub full-is : (s : Seen) (w : Words) {k n : ℕ} {br so : Bool} → k ≡ kind w → br ≡ (leb 1 k && leb k 5) → so ≡ (eqb k 6 || eqb k 7) → n ≡ slots (headOf (s .step)) w
     → ((br && leb 64 (s .branches)) || (so && leb 16 (s .sources)) || ltb 4096 (s .slots + n)) ≡ seenFull s w
 unfolding seenFull
 full-is s w e p q r = rw (p, q, r, e)
@@ -129,8 +129,8 @@ full-is s w e p q r = rw (p, q, r, e)
 
 pub record Faultless (s : Seen) (w : Words) : Type 0 where
   pub node : nodeFault w ≡ false
-  pub value : valueFault (s .step) w ≡ false
-  pub travel : travelFault (s .step) w ≡ false
+  pub value : valueFault (headOf (s .step)) w ≡ false
+  pub travel : travelFault (headOf (s .step)) w ≡ false
   pub double : seenDouble s w ≡ false
   pub full : seenFull s w ≡ false
 
@@ -143,8 +143,8 @@ pub faultless : (s : Seen) (w : Words) → seenFault s w ≡ 0 → Faultless s w
 unfolding seenFault
 faultless s w e =
     let a = none-first (nodeFault w) 1 _ e in
-    let b = none-first (valueFault (s .step) w) 2 _ (a .1) in
-    let c = none-first (travelFault (s .step) w) 3 _ (b .1) in
+    let b = none-first (valueFault (headOf (s .step)) w) 2 _ (a .1) in
+    let c = none-first (travelFault (headOf (s .step)) w) 3 _ (b .1) in
     let d = none-first (seenDouble s w) 4 _ (c .1) in
     let f = none-first (seenFull s w) 5 0 (d .1) in
     record { node = a .0; value = b .0; travel = c .0; double = d .0; full = f .0 }
@@ -154,7 +154,7 @@ one-most true e = omega arith
 one-most false e = omega arith
 
 pub after-is : (s : Seen) (w : Words) {k step n b o : ℕ} {br so : Bool} {fixed : List Bool} → k ≡ kind w → fixed ≡ fixedAfter (s .fixed) w
-    → step ≡ cond (isStudy w) (stepLength w) (s .step) → br ≡ (leb 1 k && leb k 5) → b ≡ cond br 1 0 → so ≡ (eqb k 6 || eqb k 7) → o ≡ cond so 1 0 → n ≡ slots (s .step) w
+    → step ≡ cond (isStudy w) (stepLength w) (s .step) → br ≡ (leb 1 k && leb k 5) → b ≡ cond br 1 0 → so ≡ (eqb k 6 || eqb k 7) → o ≡ cond so 1 0 → n ≡ slots (headOf (s .step)) w
     → _≡_ {A = Seen} (record { step = step; branches = s .branches + b; sources = s .sources + o; slots = s .slots + n; fixed = fixed }) (seenAfter s w)
 unfolding seenAfter
 after-is s w e f g h i j k l = rw (f, g, i, h, k, j, l, e)

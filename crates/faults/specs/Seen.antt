@@ -2,15 +2,20 @@
 use Prim.Native.Nat.{ℕ, _+_, _*_, _≤_, _^_}
 use mathlib.Core.Path.{_≡_}
 use mathlib.Core.Bool.{Bool, true, false, cond, _&&_, _||_}
-use mathlib.Core.List.{List}
+use mathlib.Core.List.{List, [], _∷_}
 use lib.ListN.{getD, set, replicate}
 use lib.Dec.{leb, ltb, eqb}
-use Rattle.whole.specs.Lists.{Words}
+use lib.IntN.{pos}
+use Rattle.whole.specs.Lists.{Words, z}
 use Rattle.paper.specs.Limits as Limits
-use Rattle.paper.specs.Rows.{isStudy, isBranch, isSource, isVS, at, stepLength}
+use Rattle.paper.specs.Rows.{Row, isStudy, isBranch, isSource, isVS, at, stepLength}
 use Rattle.paper.specs.Conductance.{nearest}
 use Rattle.paper.specs.Faults.{nodeFault, valueFault, travelFault, slots}
 use Rattle.faults.specs.declared.Seen.{Seen}
+
+-- a study's row of that step length: all that the faults of other rows ask of it
+abbrev pub headOf : ℕ → Row
+headOf step = z ∷ pos step ∷ []
 
 pub record Held (s : Seen) : Type 0 where
   pub long : 1 ≤ s .step
@@ -41,13 +46,13 @@ unfoldable pub seenFull : Seen → Words → Bool
 seenFull s w =
     (isBranch w && leb Limits.branchEnd (s .branches))
     || (isSource w && leb Limits.sourceEnd (s .sources))
-    || ltb Limits.slotEnd (s .slots + slots (s .step) w)
+    || ltb Limits.slotEnd (s .slots + slots (headOf (s .step)) w)
 
 unfoldable pub seenFault : Seen → Words → ℕ
 seenFault s w =
     cond (nodeFault w) 2
-    (cond (valueFault (s .step) w) 3
-    (cond (travelFault (s .step) w) 4
+    (cond (valueFault (headOf (s .step)) w) 3
+    (cond (travelFault (headOf (s .step)) w) 4
     (cond (seenDouble s w) 5
     (cond (seenFull s w) 6 0))))
 
@@ -60,6 +65,6 @@ seenAfter s w =
       step = cond (isStudy w) (stepLength w) (s .step);
       branches = s .branches + cond (isBranch w) 1 0;
       sources = s .sources + cond (isSource w) 1 0;
-      slots = s .slots + slots (s .step) w;
+      slots = s .slots + slots (headOf (s .step)) w;
       fixed = fixedAfter (s .fixed) w;
     }

@@ -19,7 +19,7 @@ use Rattle.paper.specs.Network.{Table, rowOfWords}
 use Rattle.kinds.specs.Table.{namesOf, low, high, outsideFrom}
 use Rattle.kinds.specs.Fields.{each, five, outside-names, field-in, in-range}
 use Rattle.faults.specs.declared.Seen.{Seen}
-use Rattle.faults.specs.Seen.{Held, nothingSeen, seenDouble, seenFull, seenFault, fixedAfter, seenAfter}
+use Rattle.faults.specs.Seen.{headOf, Held, nothingSeen, seenDouble, seenFull, seenFault, fixedAfter, seenAfter}
 
 -- what is seen of the study's row and the rows after it. Before the study's row no step length is known, and none is asked for
 pub record Stands (s : Seen) (t : Table) : Type 0 where
@@ -28,7 +28,7 @@ pub record Stands (s : Seen) (t : Table) : Type 0 where
   pub step : empty t ≡ false → s .step ≡ stepLength (getD t 0 [])
   pub branches : s .branches ≡ count isBranch (tail t)
   pub sources : s .sources ≡ count isSource (tail t)
-  pub slots : s .slots ≡ sum (slots (s .step)) (tail t)
+  pub slots : s .slots ≡ sum (slots (headOf (s .step))) (tail t)
   pub fixed : (n : ℕ) → n ≤ 32 → getD (s .fixed) n false ≡ any (fixes n) (tail t)
 
 pub stands-none : Stands nothingSeen []
@@ -79,13 +79,13 @@ module _ (w : Words) (few : 6 ≤ length w) (known : kind w < 8) where
   unfolding words rowOfWords fieldsOf kinds bytes
   row-kind = by-kind (λ v. kind (rowOfWords v) ≡ kind v) w few known refl refl refl refl refl refl refl refl
 
-  pub row-line-fault : (step : ℕ) (before : List Row) → lineFault step before (rowOfWords w) ≡ lineFault step before w
+  pub row-line-fault : (head : Row) (before : List Row) → lineFault head before (rowOfWords w) ≡ lineFault head before w
   unfolding words rowOfWords fieldsOf kinds bytes lineFault nodeFault valueFault travelFault doubleFault fullFault outside conductance ofOhms ofHenries ofFarads slots
-  row-line-fault step before = by-kind (λ v. lineFault step before (rowOfWords v) ≡ lineFault step before v) w few known refl refl refl refl refl refl refl refl
+  row-line-fault head before = by-kind (λ v. lineFault head before (rowOfWords v) ≡ lineFault head before v) w few known refl refl refl refl refl refl refl refl
 
-  pub row-slots : (step : ℕ) → slots step (rowOfWords w) ≡ slots step w
+  pub row-slots : (head : Row) → slots head (rowOfWords w) ≡ slots head w
   unfolding words rowOfWords fieldsOf kinds bytes slots
-  row-slots step = by-kind (λ v. slots step (rowOfWords v) ≡ slots step v) w few known refl refl refl refl refl refl refl refl
+  row-slots head = by-kind (λ v. slots head (rowOfWords v) ≡ slots head v) w few known refl refl refl refl refl refl refl refl
 
   pub row-fixes : (n : ℕ) → fixes n (rowOfWords w) ≡ fixes n w
   unfolding words rowOfWords fieldsOf kinds bytes fixes
@@ -112,25 +112,30 @@ seen-double s before w h l = by-test (eqb (kind w) 6) refl
     by-test true e = rw (h (at w) (l (eqb-true (kind w) 6 e)))
     by-test false e = rw e
 
-seen-full : (s : Seen) (before : List Row) (w : Words) → s .branches ≡ count isBranch before → s .sources ≡ count isSource before → s .slots ≡ sum (slots (s .step)) before
-    → seenFull s w ≡ fullFault (s .step) before w
+seen-full : (s : Seen) (before : List Row) (w : Words) → s .branches ≡ count isBranch before → s .sources ≡ count isSource before → s .slots ≡ sum (slots (headOf (s .step))) before
+    → seenFull s w ≡ fullFault (headOf (s .step)) before w
 unfolding seenFull fullFault
 seen-full s before w p q r = rw (p, q, r)
 
-module _ (s : Seen) (w : Words) (few : 6 ≤ length w) (known : kind w < 8) where
-  after-study : (before : List Row) (step : ℕ) → s .step ≡ step → s .branches ≡ count isBranch before → s .sources ≡ count isSource before → s .slots ≡ sum (slots (s .step)) before
-      → ((n : ℕ) → n ≤ 32 → getD (s .fixed) n false ≡ any (fixes n) before) → seenFault s w ≡ lineFault step before w
-  unfolding seenFault lineFault
-  after-study before step e p q r h = by-test (nodeFault w) refl
-    where
-      by-test : (t : Bool) → nodeFault w ≡ t → seenFault s w ≡ lineFault step before w
-      by-test true f = rw f
-      by-test false f = rw (f, seen-double s before w h (source-node w few known f), seen-full s before w p q r, e)
+-- of the study's row its step length alone matters
+by-step : (head : Row) (before : List Row) (w : Words) → lineFault (headOf (stepLength head)) before w ≡ lineFault head before w
+unfolding lineFault valueFault travelFault fullFault slots
+by-step head before w = refl
 
-  first-study : isStudy w ≡ true → s .slots ≡ 0 → seenFault s w ≡ lineFault 0 [] w
+module _ (s : Seen) (w : Words) (few : 6 ≤ length w) (known : kind w < 8) where
+  after-study : (before : List Row) → s .branches ≡ count isBranch before → s .sources ≡ count isSource before → s .slots ≡ sum (slots (headOf (s .step))) before
+      → ((n : ℕ) → n ≤ 32 → getD (s .fixed) n false ≡ any (fixes n) before) → seenFault s w ≡ lineFault (headOf (s .step)) before w
+  unfolding seenFault lineFault
+  after-study before p q r h = by-test (nodeFault w) refl
+    where
+      by-test : (t : Bool) → nodeFault w ≡ t → seenFault s w ≡ lineFault (headOf (s .step)) before w
+      by-test true f = rw f
+      by-test false f = rw (f, seen-double s before w h (source-node w few known f), seen-full s before w p q r)
+
+  first-study : isStudy w ≡ true → s .slots ≡ 0 → seenFault s w ≡ lineFault [] [] w
   unfolding words seenFault seenDouble seenFull fieldsOf kinds bytes lineFault nodeFault valueFault travelFault doubleFault fullFault outside conductance ofOhms ofHenries ofFarads slots sum
   first-study =
-      by-kind (λ v. isStudy v ≡ true → s .slots ≡ 0 → seenFault s v ≡ lineFault 0 [] v) w few known
+      by-kind (λ v. isStudy v ≡ true → s .slots ≡ 0 → seenFault s v ≡ lineFault [] [] v) w few known
       (λ i e. rw e)
       (λ i e. absurd (false≢true i)) (λ i e. absurd (false≢true i)) (λ i e. absurd (false≢true i)) (λ i e. absurd (false≢true i))
       (λ i e. absurd (false≢true i)) (λ i e. absurd (false≢true i)) (λ i e. absurd (false≢true i))
@@ -138,7 +143,9 @@ module _ (s : Seen) (w : Words) (few : 6 ≤ length w) (known : kind w < 8) wher
   -- "in it 1 to 6 in turn": one function, and the paper's
   pub fault-is : (t : Table) → Stands s t → empty t ≡ isStudy w → seenFault s w ≡ rowFault t (rowOfWords w)
   unfolding rowFault count sum
-  fault-is [] h e = first-study (sym e) (h .slots) ∙ sym (row-line-fault w few known 0 [])
+  fault-is [] h e = first-study (sym e) (h .slots) ∙ sym (row-line-fault w few known [] [])
   fault-is (r ∷ before) h e =
-      after-study before (stepLength r) (h .step refl) (h .branches) (h .sources) (h .slots) (h .fixed)
-      ∙ sym (row-line-fault w few known (stepLength r) before)
+      after-study before (h .branches) (h .sources) (h .slots) (h .fixed)
+      ∙ ap (λ (n : ℕ). lineFault (headOf n) before w) (h .step refl)
+      ∙ by-step r before w
+      ∙ sym (row-line-fault w few known r before)

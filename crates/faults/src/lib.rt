@@ -9,7 +9,7 @@ ghost use lib.Dec.{leb, eqb};
 ghost use Rattle.whole.specs.Lists.{word};
 ghost use Rattle.paper.specs.Rows.{kind, isStudy, stepLength};
 ghost use Rattle.paper.specs.Faults as Faults;
-ghost use Rattle.faults.specs.Seen.{Held, conductanceOf, seenDouble, seenFull, seenFault, fixedAfter, seenAfter, nothingSeen, Sized};
+ghost use Rattle.faults.specs.Seen.{headOf, Held, conductanceOf, seenDouble, seenFull, seenFault, fixedAfter, seenAfter, nothingSeen, Sized};
 use paper::Conductance;
 use paper::Room;
 
@@ -93,7 +93,7 @@ pub fn conductance(step: u64, kind: usize, size: u64) -> u64
 // 3 VALUE: "a field, or its conductance, out of range"; SW: "1 ≤ close < open"
 fn value_fault(step: u64, row: [i64; 8]) -> bool
     requires { ⌜ (kind row < 8) × ((1 ≤ step) × (step ≤ 1000000)) ⌝ }
-    ensures { λ r. ⌜ r ≡ Faults.valueFault step row ⌝ }
+    ensures { λ r. ⌜ r ≡ Faults.valueFault (headOf step) row ⌝ }
 {
     let k = kind_of(row);
     if kinds::outside(k, kinds::names(k), kinds::fields(k), row) {
@@ -112,7 +112,7 @@ fn value_fault(step: u64, row: [i64; 8]) -> bool
 // 4 TRAVEL: "travel not a multiple of the step"
 fn travel_fault(step: u64, row: [i64; 8]) -> bool
     requires { ⌜ (kind row < 8) × (1 ≤ step) ⌝ }
-    ensures { λ r. ⌜ r ≡ Faults.travelFault step row ⌝ }
+    ensures { λ r. ⌜ r ≡ Faults.travelFault (headOf step) row ⌝ }
 {
     let travel = field(row, 4);
     (kind_of(row) == 4) & !(travel % step == 0)
@@ -139,8 +139,8 @@ fn double_fault(seen: Seen, row: [i64; 8]) -> bool
 
 // "Each line end keeps its last 2d sent values"
 fn slots_of(step: u64, row: [i64; 8]) -> usize
-    requires { ⌜ (kind row < 8) × ((1 ≤ step) × (Faults.valueFault step row ≡ false)) ⌝ }
-    ensures { λ r. ⌜ r ≡ Faults.slots step row ⌝ }
+    requires { ⌜ (kind row < 8) × ((1 ≤ step) × (Faults.valueFault (headOf step) row ≡ false)) ⌝ }
+    ensures { λ r. ⌜ r ≡ Faults.slots (headOf step) row ⌝ }
 {
     if kind_of(row) == 4 {
         return 2 * (field(row, 4) / step) as usize;
@@ -150,7 +150,7 @@ fn slots_of(step: u64, row: [i64; 8]) -> usize
 
 // 6 FULL: "65th branch, 17th source, or 2d summed over lines past 4,096"
 fn full_fault(seen: Seen, row: [i64; 8]) -> bool
-    requires { ⌜ (kind row < 8) × (Held seen × (Faults.valueFault (seen .step) row ≡ false)) ⌝ }
+    requires { ⌜ (kind row < 8) × (Held seen × (Faults.valueFault (headOf (seen .step)) row ≡ false)) ⌝ }
     ensures { λ r. ⌜ r ≡ seenFull seen row ⌝ }
 {
     let k = kind_of(row);

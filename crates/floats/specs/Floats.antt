@@ -17,7 +17,7 @@ use Rattle.paper.specs.Areas.{Net, fixed, nodesOf, freeOf}
 use Rattle.paper.specs.Records.{wellFormed}
 use Rattle.paper.specs.Legs.{Heard, heard}
 use Rattle.paper.specs.Floating.{reached, floating}
-use Rattle.paper.specs.Solve.{stop, solve}
+use Rattle.paper.specs.Solve.{stop, solve, settling}
 use Rattle.paper.specs.Advance.{Memory, Advanced, advanced, fits, takeStep, ready, onNext, onNet, advanceOf}
 use Rattle.facts.specs.Nets.{NetSound, netIn, net-sound}
 use Rattle.local.specs.Nodes.{NodeOf, free-of, of-free}
@@ -27,11 +27,11 @@ use Rattle.floats.specs.Legs.{legsIn}
 use Rattle.floats.specs.Search.{sound, complete}
 
 -- "14: a free node has no path"; "carry the lowest such node"
-pub record Floats (N : Net) (a k n : ℕ) : Type 0 where
+pub record Floats (N : Net) (a k : ℕ) (recs : Words) (n : ℕ) : Type 0 where
   pub node : NodeOf N a n
   pub free : fixed N n ≡ false
-  pub none : HasPath N k n → ⊥
-  pub lowest : (m : ℕ) → NodeOf N a m → fixed N m ≡ false → m < n → HasPath N k m
+  pub none : HasPath N recs k n → ⊥
+  pub lowest : (m : ℕ) → NodeOf N a m → fixed N m ≡ false → m < n → HasPath N recs k m
 
 free-rising : (N : Net) (a : ℕ) → Rising 0 (freeOf N a)
 unfolding freeOf nodesOf
@@ -41,13 +41,13 @@ module _ (N : Net) (s : NetSound N) (a k : ℕ) (recs : Words) (ears : List Hear
   abbrev unmarked : ℕ → Bool
   unmarked n = not (eqb (mark (reached (fixed N) (N .nodes) (legsIn N a k recs ears)) n) 0)
 
-  marked-path : (n : ℕ) → unmarked n ≡ false → HasPath N k n
+  marked-path : (n : ℕ) → unmarked n ≡ false → HasPath N recs k n
   marked-path n e = sound N s a k recs ears n (eqb-true _ 0 (not-false _ e))
 
-  path-marked : (n : ℕ) → NodeOf N a n → HasPath N k n → unmarked n ≡ false
+  path-marked : (n : ℕ) → NodeOf N a n → HasPath N recs k n → unmarked n ≡ false
   path-marked n h p = ap not (eq-eqb _ 0 (complete N s a k recs ears n (h .area) (h .high) p))
 
-  pub search-floats : (n : ℕ) → floating (fixed N) (N .nodes) (freeOf N a) (legsIn N a k recs ears) ≡ suc n → Floats N a k (suc n)
+  pub search-floats : (n : ℕ) → floating (fixed N) (N .nodes) (freeOf N a) (legsIn N a k recs ears) ≡ suc n → Floats N a k recs (suc n)
   unfolding floating
   search-floats n e = record {
     node = free-of N a (w .among) .0;
@@ -59,7 +59,7 @@ module _ (N : Net) (s : NetSound N) (a k : ℕ) (recs : Words) (ears : List Hear
       w : Lowest unmarked (freeOf N a) (suc n)
       w = first-lowest unmarked 0 (freeOf N a) (free-rising N a) e
 
-  pub floats-search : (n : ℕ) → Floats N a k n → floating (fixed N) (N .nodes) (freeOf N a) (legsIn N a k recs ears) ≡ n
+  pub floats-search : (n : ℕ) → Floats N a k recs n → floating (fixed N) (N .nodes) (freeOf N a) (legsIn N a k recs ears) ≡ n
   unfolding floating
   floats-search n f = lowest-first unmarked 0 (freeOf N a) (free-rising N a) (record {
     among = of-free N a n (f .node) (f .free);
@@ -104,33 +104,33 @@ module _ (net : Words) (a : ℕ) (m : Memory) where
 
   -- the answer of a call that comes to its step is that of its search, where that finds a node
   stepped : Steps net a m → (n : ℕ) → lone N a (stepOf N a m) (legsNow N a m) ≡ suc n → advanceOf net a m .answer ≡ Floating (suc n)
-  unfolding onNet onNext ready takeStep solve
+  unfolding onNet onNext ready takeStep solve settling
   stepped s n e = ap (λ (r : Advanced). r .answer) (called (s .lengths) (s .network)) ∙ rw (s .formed, s .area, s .undone, s .sent, e)
 
   abbrev k : ℕ
   k = stepOf N a m
 
   -- a step that stops at a floating node
-  found : isNetwork net ≡ true → (n : ℕ) → solve N a k (legsNow N a m) ≡ stop (Floating n) → Floats N a k n
+  found : isNetwork net ≡ true → (n : ℕ) → solve N a k (legsNow N a m) ≡ stop (Floating n) → Floats N a k (m .records) n
   found q n e = go (solving N a k (legsNow N a m))
     where
-      go : Solving N a k (legsNow N a m) → Floats N a k n
+      go : Solving N a k (legsNow N a m) → Floats N a k (m .records) n
       go (floats i p f) =
           let same : suc i ≡ n = cc in
-          subst (Floats N a k) same (search-floats N (net-sound net q) a k (m .records) (heard N a k (m .froms) (m .tos)) i p)
+          subst (Floats N a k (m .records)) same (search-floats N (net-sound net q) a k (m .records) (heard N a k (m .froms) (m .tos)) i p)
       go (leaves i p o f) = let z : _≡_ {A = ℕ} 0 1 = cc in absurd (omega arith)
       go (tips i p o h f) = let z : _≡_ {A = ℕ} 0 1 = cc in absurd (omega arith)
       go (exceeds i p o h b f) = let z : _≡_ {A = ℕ} 0 1 = cc in absurd (omega arith)
       go (solves p o h b f) = let z : _≡_ {A = ℕ} 0 1 = cc in absurd (omega arith)
 
-  forth : (n : ℕ) → advanceOf net a m .answer ≡ Floating n → Steps net a m × Floats N a k n
+  forth : (n : ℕ) → advanceOf net a m .answer ≡ Floating n → Steps net a m × Floats N a k (m .records) n
   forth n e = by-fits (fits net m) (isNetwork net) refl refl
     where
       -- another answer it is not
       other : (x : Advance) → advanceOf net a m ≡ advanced x m → x ≡ Floating n
       other x q = ap (λ (r : Advanced). r .answer) (sym q) ∙ e
 
-      by-outcome : fits net m ≡ true → isNetwork net ≡ true → wellFormed N (m .records) (m .froms) (m .tos) ≡ true → Outcome N a m → Steps net a m × Floats N a k n
+      by-outcome : fits net m ≡ true → isNetwork net ≡ true → wellFormed N (m .records) (m .froms) (m .tos) ≡ true → Outcome N a m → Steps net a m × Floats N a k (m .records) n
       by-outcome p q w (no-area x r) = let y = other Area (called p q ∙ r) in let z : _≡_ {A = ℕ} 0 1 = cc in absurd (omega arith)
       by-outcome p q w (done x d r) = let y = other Done (called p q ∙ r) in let z : _≡_ {A = ℕ} 0 1 = cc in absurd (omega arith)
       by-outcome p q w (waits b x d l r) = let y = other (Wait _) (called p q ∙ r) in let z : _≡_ {A = ℕ} 0 1 = cc in absurd (omega arith)
@@ -141,20 +141,20 @@ module _ (net : Words) (a : ℕ) (m : Memory) where
           let z : _≡_ {A = ℕ} 0 1 = cc in
           absurd (omega arith)
 
-      by-formed : (t : Bool) → wellFormed N (m .records) (m .froms) (m .tos) ≡ t → fits net m ≡ true → isNetwork net ≡ true → Steps net a m × Floats N a k n
+      by-formed : (t : Bool) → wellFormed N (m .records) (m .froms) (m .tos) ≡ t → fits net m ≡ true → isNetwork net ≡ true → Steps net a m × Floats N a k (m .records) n
       by-formed true w p q = by-outcome p q w (outcome N a m w)
       by-formed false w p q = let y = other State (called p q ∙ unformed w) in let z : _≡_ {A = ℕ} 0 1 = cc in absurd (omega arith)
 
-      by-fits : (x y : Bool) → fits net m ≡ x → isNetwork net ≡ y → Steps net a m × Floats N a k n
+      by-fits : (x y : Bool) → fits net m ≡ x → isNetwork net ≡ y → Steps net a m × Floats N a k (m .records) n
       by-fits true true p q = by-formed (wellFormed N (m .records) (m .froms) (m .tos)) refl p q
       by-fits true false p q = let y = other Network (unread p q) in let z : _≡_ {A = ℕ} 0 1 = cc in absurd (omega arith)
       by-fits false t p q = let y = other Store (unfit p) in let z : _≡_ {A = ℕ} 0 1 = cc in absurd (omega arith)
 
-  hither : (n : ℕ) → Steps net a m × Floats N a k n → advanceOf net a m .answer ≡ Floating n
+  hither : (n : ℕ) → Steps net a m × Floats N a k (m .records) n → advanceOf net a m .answer ≡ Floating n
   hither zero f = absurd (omega (arith, f .1 .node .low))
   hither (suc n) f =
       stepped (f .0) n (floats-search N (net-sound net (f .0 .network)) a k (m .records) (heard N a k (m .froms) (m .tos)) (suc n) (f .1))
 
   -- T-floats
-  pub floats-exactly : (n : ℕ) → (advanceOf net a m .answer ≡ Floating n) ↔ (Steps net a m × Floats N a k n)
+  pub floats-exactly : (n : ℕ) → (advanceOf net a m .answer ≡ Floating n) ↔ (Steps net a m × Floats N a k (m .records) n)
   floats-exactly n = (forth n, hither n)

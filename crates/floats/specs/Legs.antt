@@ -56,9 +56,9 @@ among-legs (c ∷ bs) {b} i = go (List·Memᴰ·cases-cons i) (λ j. among-legs 
 
 -- ---- the rows' legs
 
-pub data Of-row (N : Net) (k : ℕ) (l : Leg) : Type 0 where
-  of-line : (i : ℕ) → i < length (N .rows) → isLine (rowAt N i) ≡ true → (from (rowAt N i) ≡ l .near) ⊎ (to (rowAt N i) ≡ l .near) → l .far ≡ 0 → Of-row N k l
-  of-branch : (i : ℕ) → i < length (N .rows) → Conducts k (rowAt N i) → Between (rowAt N i) (l .near) (l .far) → Of-row N k l
+pub data Of-row (N : Net) (recs : Words) (k : ℕ) (l : Leg) : Type 0 where
+  of-line : (i : ℕ) → i < length (N .rows) → isLine (rowAt N i) ≡ true → (from (rowAt N i) ≡ l .near) ⊎ (to (rowAt N i) ≡ l .near) → l .far ≡ 0 → Of-row N recs k l
+  of-branch : (i : ℕ) → i < length (N .rows) → Conducts N recs k i → Between (rowAt N i) (l .near) (l .far) → Of-row N recs k l
 
 module _ (N : Net) (a k : ℕ) (recs : Words) (ears : List Heard) where
   abbrev pub legsIn : List Leg
@@ -72,14 +72,14 @@ module _ (N : Net) (a k : ℕ) (recs : Words) (ears : List Heard) where
     ear = getD ears i (record { atFrom = z; atTo = z })
 
     abbrev byKind : Bool → Bool → Branch
-    byKind x y = cond x (lineLegs N a k r ear) (cond y (plainLegs N k r (word recs (historyAt i))) (branch r otherEnd otherEnd))
+    byKind x y = cond x (lineLegs N a k r ear) (cond y (plainLegs r (conducts N recs k i) (word recs (historyAt i))) (branch r otherEnd otherEnd))
 
     -- an end that conducts is here
-    end-of : (n g : ℕ) (e : ℤ) → isLine r ≡ true → (from r ≡ n) ⊎ (to r ≡ n) → conducting (lineEnd (here N a n) n g e .wire) ≡ true → Of-row N k (lineEnd (here N a n) n g e .wire)
+    end-of : (n g : ℕ) (e : ℤ) → isLine r ≡ true → (from r ≡ n) ⊎ (to r ≡ n) → conducting (lineEnd (here N a n) n g e .wire) ≡ true → Of-row N recs k (lineEnd (here N a n) n g e .wire)
     unfolding lineEnd
     end-of n g e q x = go (here N a n)
       where
-        go : (o : Bool) → conducting (cond o (ownEnd (leg n 0 g e)) otherEnd .wire) ≡ true → Of-row N k (cond o (ownEnd (leg n 0 g e)) otherEnd .wire)
+        go : (o : Bool) → conducting (cond o (ownEnd (leg n 0 g e)) otherEnd .wire) ≡ true → Of-row N recs k (cond o (ownEnd (leg n 0 g e)) otherEnd .wire)
         go true c = of-line i h q x refl
         go false c = absurd (true≢false (sym c))
 
@@ -87,24 +87,24 @@ module _ (N : Net) (a k : ℕ) (recs : Words) (ears : List Heard) where
     shut-of true g c = absurd (true≢false (sym c))
     shut-of false g c = refl
 
-    branch-of : isLine r ≡ false → isBranch r && eqb (rowArea N r) a ≡ true → not (eqb (conducts (step N) k r) 0) ≡ true → Conducts k r
+    branch-of : isLine r ≡ false → isBranch r && eqb (rowArea N r) a ≡ true → not (eqb (conducts N recs k i) 0) ≡ true → Conducts N recs k i
     unfolding conducts
-    branch-of q b c = record { branch = and-left (isBranch r) (eqb (rowArea N r) a) b; plain = q; shut = shut-of (isOpen k r) (conductance (step N) r) c }
+    branch-of q b c = record { branch = and-left (isBranch r) (eqb (rowArea N r) a) b; plain = q; shut = shut-of (isOpen N recs k i) (conductance (step N) r) c }
 
-    from-leg : conducting (legsBy N a k recs ears i .fromEnd .wire) ≡ true → Of-row N k (legsBy N a k recs ears i .fromEnd .wire)
+    from-leg : conducting (legsBy N a k recs ears i .fromEnd .wire) ≡ true → Of-row N recs k (legsBy N a k recs ears i .fromEnd .wire)
     unfolding legsBy lineLegs plainLegs
     from-leg = go (isLine r) (isBranch r && eqb (rowArea N r) a) refl refl
       where
-        go : (x y : Bool) → isLine r ≡ x → isBranch r && eqb (rowArea N r) a ≡ y → conducting (byKind x y .fromEnd .wire) ≡ true → Of-row N k (byKind x y .fromEnd .wire)
+        go : (x y : Bool) → isLine r ≡ x → isBranch r && eqb (rowArea N r) a ≡ y → conducting (byKind x y .fromEnd .wire) ≡ true → Of-row N recs k (byKind x y .fromEnd .wire)
         go true y p q c = end-of (from r) _ _ p (inl refl) c
         go false true p q c = of-branch i h (branch-of p q c) (inl (refl, refl))
         go false false p q c = absurd (true≢false (sym c))
 
-    to-leg : conducting (legsBy N a k recs ears i .toEnd .wire) ≡ true → Of-row N k (legsBy N a k recs ears i .toEnd .wire)
+    to-leg : conducting (legsBy N a k recs ears i .toEnd .wire) ≡ true → Of-row N recs k (legsBy N a k recs ears i .toEnd .wire)
     unfolding legsBy lineLegs plainLegs
     to-leg = go (isLine r) (isBranch r && eqb (rowArea N r) a) refl refl
       where
-        go : (x y : Bool) → isLine r ≡ x → isBranch r && eqb (rowArea N r) a ≡ y → conducting (byKind x y .toEnd .wire) ≡ true → Of-row N k (byKind x y .toEnd .wire)
+        go : (x y : Bool) → isLine r ≡ x → isBranch r && eqb (rowArea N r) a ≡ y → conducting (byKind x y .toEnd .wire) ≡ true → Of-row N recs k (byKind x y .toEnd .wire)
         go true y p q c = end-of (to r) _ _ p (inr refl) c
         go false true p q c = of-branch i h (branch-of p q c) (inr (refl, refl))
         go false false p q c = absurd (true≢false (sym c))
@@ -118,20 +118,20 @@ module _ (N : Net) (a k : ℕ) (recs : Words) (ears : List Heard) where
     unfolding legsBy lineLegs lineEnd
     line-to p q = rw (p, q)
 
-    pub plain-from : Conducts k r → rowArea N r ≡ a → legsBy N a k recs ears i .fromEnd .wire ≡ leg (from r) (to r) (conductance (step N) r) (word recs (historyAt i))
+    pub plain-from : Conducts N recs k i → rowArea N r ≡ a → legsBy N a k recs ears i .fromEnd .wire ≡ leg (from r) (to r) (conductance (step N) r) (word recs (historyAt i))
     unfolding legsBy plainLegs conducts
     plain-from c e = rw (c .plain, c .branch, eq-eqb (rowArea N r) a e, c .shut)
 
   -- every leg that conducts is of some row
-  pub leg-of : {l : Leg} → Among l legsIn → conducting l ≡ true → Of-row N k l
+  pub leg-of : {l : Leg} → Among l legsIn → conducting l ≡ true → Of-row N recs k l
   unfolding legsOf
   leg-of {l} j c = go (legs-among (legsOf N a k recs ears) j)
     where
-      by : (i : ℕ) → i < length (N .rows) → (l ≡ legsBy N a k recs ears i .fromEnd .wire) ⊎ (l ≡ legsBy N a k recs ears i .toEnd .wire) → Of-row N k l
-      by i h (inl e) = subst (Of-row N k) (sym e) (from-leg i h (rw e at c))
-      by i h (inr e) = subst (Of-row N k) (sym e) (to-leg i h (rw e at c))
+      by : (i : ℕ) → i < length (N .rows) → (l ≡ legsBy N a k recs ears i .fromEnd .wire) ⊎ (l ≡ legsBy N a k recs ears i .toEnd .wire) → Of-row N recs k l
+      by i h (inl e) = subst (Of-row N recs k) (sym e) (from-leg i h (rw e at c))
+      by i h (inr e) = subst (Of-row N recs k) (sym e) (to-leg i h (rw e at c))
 
-      go : Either-leg (legsOf N a k recs ears) l → Of-row N k l
+      go : Either-leg (legsOf N a k recs ears) l → Of-row N recs k l
       go e =
           let m = map-among (legsBy N a k recs ears) (numbers 0 (length (N .rows))) (e .among) in
           let b = numbers-among 0 (length (N .rows)) (m .among) in

@@ -61,7 +61,7 @@ module _ (N : Net) (s : NetSound N) (a k : ℕ) (recs : Words) (ears : List Hear
 
   -- ---- what the search reaches has a path
 
-  hop-path : (n m : ℕ) → Beside (legJoins legs) n m → HasPath N k m → HasPath N k n
+  hop-path : (n m : ℕ) → Beside (legJoins legs) n m → HasPath N recs k m → HasPath N recs k n
   hop-path n m b p = go (leg-of N a k recs ears (o .among) (o .carries)) ends
     where
       o : Of-leg legs (b .join)
@@ -83,17 +83,17 @@ module _ (N : Net) (s : NetSound N) (a k : ℕ) (recs : Words) (ears : List Hear
       between i (inr x) (inl e) = inr (x .0 ∙ e .1, x .1 ∙ e .0)
       between i (inr x) (inr e) = inl (x .0 ∙ e .1, x .1 ∙ e .0)
 
-      go : Of-row N k l → ((l .near ≡ n) × (l .far ≡ m)) ⊎ ((l .near ≡ m) × (l .far ≡ n)) → HasPath N k n
+      go : Of-row N recs k l → ((l .near ≡ n) × (l .far ≡ m)) ⊎ ((l .near ≡ m) × (l .far ≡ n)) → HasPath N recs k n
       go (of-line i h q x f) (inl e) = at-line i h q (ended i x (e .0))
       go (of-line i h q x f) (inr e) = at-ground (sym (e .1) ∙ f)
       go (of-branch i h c x) e = along i h c (between i x e) p
 
-  path-of : (j n p : ℕ) → Path (legJoins legs) j n p → (p ≡ 0) ⊎ (fixed N p ≡ true) → HasPath N k n
+  path-of : (j n p : ℕ) → Path (legJoins legs) j n p → (p ≡ 0) ⊎ (fixed N p ≡ true) → HasPath N recs k n
   path-of j n p stay (inl e) = at-ground e
   path-of j n p stay (inr f) = at-fixed f
   path-of j n p (hop {k = i} {m = m} b w) g = hop-path n m b (path-of i m p w g)
 
-  pub sound : (n : ℕ) → mark (reached (fixed N) (N .nodes) legs) n ≡ 0 → HasPath N k n
+  pub sound : (n : ℕ) → mark (reached (fixed N) (N .nodes) legs) n ≡ 0 → HasPath N recs k n
   sound n e = let g = reached-sound (fixed N) (N .nodes) legs n e in path-of (g .way .joins) n (g .node) (g .way .path) (g .ground)
 
   -- ---- what has a path is reached
@@ -119,7 +119,7 @@ module _ (N : Net) (s : NetSound N) (a k : ℕ) (recs : Words) (ears : List Hear
       plain-in i h q (inl x) = let m = ends-most i h q in omega arith
       plain-in i h q (inr x) = let m = ends-most i h q in omega arith
 
-      go : Of-row N k l → (l .near < suc (N .nodes)) × (l .far < suc (N .nodes))
+      go : Of-row N recs k l → (l .near < suc (N .nodes)) × (l .far < suc (N .nodes))
       go (of-line i h q x f) = let m = line-in i h q x in omega arith
       go (of-branch i h c x) = plain-in i h (c .branch) x
 
@@ -166,7 +166,7 @@ module _ (N : Net) (s : NetSound N) (a k : ℕ) (recs : Words) (ears : List Hear
   abbrev Local : ℕ → Type 0
   Local n = (n ≡ 0) ⊎ (areaOf N n ≡ a)
 
-  module _ (i : ℕ) (h : i < length (N .rows)) (c : Conducts k (rowAt N i)) (n m : ℕ) (x : Between (rowAt N i) n m) where
+  module _ (i : ℕ) (h : i < length (N .rows)) (c : Conducts N recs k i) (n m : ℕ) (x : Between (rowAt N i) n m) where
     -- the area of a branch is that of each of its ends off ground
     end-area : (x : Between (rowAt N i) n m) → 1 ≤ n → rowArea N (rowAt N i) ≡ areaOf N n
     end-area (inl e) l = row-area-from N s i h (c .branch) (c .plain) (omega (arith, e .0)) ∙ ap (areaOf N) (e .0)
@@ -190,14 +190,14 @@ module _ (N : Net) (s : NetSound N) (a k : ℕ) (recs : Words) (ears : List Hear
   turned r n m (inr e) = inl e
 
   -- a branch of the area leads to ground or to a node of the area
-  still-local : (i n m : ℕ) → i < length (N .rows) → Conducts k (rowAt N i) → Between (rowAt N i) n m → rowArea N (rowAt N i) ≡ a → Local m
+  still-local : (i n m : ℕ) → i < length (N .rows) → Conducts N recs k i → Between (rowAt N i) n m → rowArea N (rowAt N i) ≡ a → Local m
   still-local i n m h c x e = go (ℕ-discrete m 0)
     where
       go : Dec (m ≡ 0) → Local m
       go (yes q) = inl q
       go (no q) = inr (sym (end-area i h c m n (turned (rowAt N i) n m x) (turned (rowAt N i) n m x) (omega arith)) ∙ e)
 
-  reaches : {n : ℕ} → HasPath N k n → Local n → n ≤ N .nodes → Reaches n
+  reaches : {n : ℕ} → HasPath N recs k n → Local n → n ≤ N .nodes → Reaches n
   reaches {n} (at-ground e) l h = stays n h (inl e)
   reaches {n} (at-fixed f) l h = stays n h (inr f)
   reaches {n} (at-line i g q x) (inl e) h = stays n h (inl e)
@@ -211,5 +211,5 @@ module _ (N : Net) (s : NetSound N) (a k : ℕ) (recs : Words) (ears : List Hear
           let area : rowArea N (rowAt N i) ≡ a = end-area i g c n m x x (omega arith) ∙ e in
           across i g c n m x area (more (still-local i n m g c x area) (ends-in i g c n m x x))
 
-  pub complete : (n : ℕ) → areaOf N n ≡ a → n ≤ N .nodes → HasPath N k n → mark (reached (fixed N) (N .nodes) legs) n ≡ 0
+  pub complete : (n : ℕ) → areaOf N n ≡ a → n ≤ N .nodes → HasPath N recs k n → mark (reached (fixed N) (N .nodes) legs) n ≡ 0
   complete n e h p = let r = reaches p (inr e) h in reached-complete (fixed N) (N .nodes) legs n legs-inside (s .nodeMost) (r .ground) (r .inside)

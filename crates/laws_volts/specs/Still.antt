@@ -41,7 +41,7 @@ module _ (N : Net) (s : NetSound N) (a k : ℕ) where
   -- ---- what a VS holds its node at
 
   abbrev volt : ℕ → ℤ
-  volt = held (N .rows) k
+  volt = held N k
 
   -- it is a node off ground, and the VS's peak is in range
   with-vs : (n : ℕ) → fixed N n ≡ true → (1 ≤ n) × (n ≤ N .nodes) × (natAbs (volt n) ≤ Limits.voltageEnd)
@@ -52,16 +52,16 @@ module _ (N : Net) (s : NetSound N) (a k : ℕ) where
       let v : isVS r ≡ true = and-left (isVS r) (eqb (at r) n) (o .passes) in
       let q : at r ≡ n = eqb-true (at r) n (and-right (isVS r) (eqb (at r) n) (o .passes)) in
       let t = s .row (o .place) (o .within) .source (vs-source r v) in
-      (omega (arith, q, t .atIn .least), omega (arith, q, t .atIn .most), rw (held-is N s k n (o .place) (o .within) (o .passes)) (le-trans (source-size k r) (t .voltMost v)))
+      (omega (arith, q, t .atIn .least), omega (arith, q, t .atIn .most), rw (held-is N s k n (o .place) (o .within) (o .passes)) (le-trans (source-size N k r) (t .voltMost v)))
 
   without-vs : (n : ℕ) → fixed N n ≡ false → volt n ≡ z
   unfolding fixed held
-  without-vs n e = total-none (fixes n) (source k) (N .rows) e
+  without-vs n e = total-none (fixes n) (source N k) (N .rows) e
 
   -- ---- node by node
 
   -- an area's node has what its VS holds, and 0 without one; any other node has 0
-  pub still-at : (n : ℕ) → n ≤ Limits.nodeEnd → word (stillOf N a k) n ≡ cond (eqb (areaOf N n) a) (held (N .rows) k n) z
+  pub still-at : (n : ℕ) → n ≤ Limits.nodeEnd → word (stillOf N a k) n ≡ cond (eqb (areaOf N n) a) (held N k n) z
   unfolding stillOf nodesOf
   still-at n h =
       fold-set (fixed N) volt (replicate (suc Limits.nodeEnd) z) (nodesOf N a) n z (rw (length-replicate (suc Limits.nodeEnd) z) (omega arith))

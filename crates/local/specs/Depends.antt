@@ -18,7 +18,7 @@ use Rattle.whole.specs.Places.{place}
 use Rattle.paper.specs.Rows.{Row, isLine, from, to}
 use Rattle.paper.specs.Areas.{Net, areaOf, areaCount, branchNumber}
 use Rattle.paper.specs.Records.{countAt, countOf, wellFormed}
-use Rattle.paper.specs.Legs.{Branch, Heard, here, sentTo, heardBy, heard, legsOf}
+use Rattle.paper.specs.Legs.{Branch, Heard, here, sentTo, sentAt, heardBy, heard, legsOf}
 use Rattle.paper.specs.Solve.{Step, stop, move, solve}
 use Rattle.paper.specs.Advance.{Memory, Advanced, advanced, written, finish, takeStep, ready, late, waitsFor, firstLate, onNext, onNet}
 use Rattle.facts.specs.Nets.{rowAt}
@@ -44,10 +44,10 @@ pub record SameLengths (m m′ : Memory) : Type 0 where
 refused-both : (x : Advance) (m m′ : Memory) → SameOut m m′ (advanced x m) (advanced x m′)
 refused-both x m m′ = record { answer = refl; records = λ j. inl (refl, refl); froms = λ j. inl (refl, refl); tos = λ j. inl (refl, refl) }
 
-finish-both : (N : Net) (a k : ℕ) (bs : List Branch) (m m′ : Memory) (s : Step) → SameLengths m m′ → SameOut m m′ (finish N a k bs m s) (finish N a k bs m′ s)
+finish-both : (N : Net) (a k : ℕ) (m m′ : Memory) (s : Step) → SameLengths m m′ → SameOut m m′ (finish N a k m s) (finish N a k m′ s)
 unfolding written
-finish-both N a k bs m m′ (stop x) l = refused-both x m m′
-finish-both N a k bs m m′ (move v) l = record {
+finish-both N a k m m′ (stop x) l = refused-both x m m′
+finish-both N a k m m′ (move bs v) l = record {
   answer = refl;
   records = λ j. records-touch N a k bs v (m .records) (m′ .records) j (l .records);
   froms = λ j. store-touch N k (λ b. b .fromEnd) bs v (m .froms) (m′ .froms) j (l .froms);
@@ -77,9 +77,9 @@ module _ (N : Net) (a : ℕ) (m m′ : Memory) (f : Sound N) (l : SameLengths m 
       by-late : (n : ℕ) → firstLate N a k (m′ .records) 0 (N .rows) ≡ n → isArea N a m ≡ true → isDone N a m ≡ false → SameOut m m′ (onNet N a m) (onNet N a m′)
       by-late zero e q r =
           rw (good, good′, q, r, ← same-count q, r, late q r, e)
-          (subst (λ (bs : List Branch). SameOut m m′ (finish N a k (legsNow N a m) m (solve N a k (legsNow N a m))) (finish N a k bs m′ (solve N a k bs)))
+          (subst (λ (bs : List Branch). SameOut m m′ (finish N a k m (solve N a k (legsNow N a m))) (finish N a k m′ (solve N a k bs)))
           (legs-same N a k (m .records) (m′ .records) _ f own ∙ ap (legsOf N a k (m′ .records)) (hears q r))
-          (finish-both N a k (legsNow N a m) m m′ (solve N a k (legsNow N a m)) l))
+          (finish-both N a k m m′ (solve N a k (legsNow N a m)) l))
       by-late (suc n) e q r = rw (good, good′, q, r, ← same-count q, r, late q r, e) (refused-both (Wait (branchNumber N (suc n))) m m′)
 
       by-done : (b : Bool) → isDone N a m ≡ b → isArea N a m ≡ true → SameOut m m′ (onNet N a m) (onNet N a m′)
@@ -111,12 +111,12 @@ module _ (N : Net) (a k : ℕ) where
   sent-same : (i : ℕ) (near : Row → ℕ) (st st′ : Words)
       → (isLine (rowAt N i) ≡ true → areaOf N (near (rowAt N i)) ≡ a → delayAt N i < k → word st (slotOf N i (k - delayAt N i)) ≡ word st′ (slotOf N i (k - delayAt N i)))
       → cond (lineHere i near) (sentTo N k i (rowAt N i) st) z ≡ cond (lineHere i near) (sentTo N k i (rowAt N i) st′) z
-  unfolding sentTo
-  sent-same i near st st′ h = go (isLine (rowAt N i)) (here N a (near (rowAt N i))) (ltb (delayAt N i) k) refl refl refl
+  unfolding sentTo sentAt
+  sent-same i near st st′ h = go (isLine (rowAt N i)) (here N a (near (rowAt N i))) (ltb 0 (k - delayAt N i)) refl refl refl
     where
-      go : (x y t : Bool) → isLine (rowAt N i) ≡ x → here N a (near (rowAt N i)) ≡ y → ltb (delayAt N i) k ≡ t
+      go : (x y t : Bool) → isLine (rowAt N i) ≡ x → here N a (near (rowAt N i)) ≡ y → ltb 0 (k - delayAt N i) ≡ t
           → cond (x && y) (cond t (word st (slotOf N i (k - delayAt N i))) z) z ≡ cond (x && y) (cond t (word st′ (slotOf N i (k - delayAt N i))) z) z
-      go true true true p q r = h p (eqb-true _ a q) (ltb-true _ k r)
+      go true true true p q r = let l : 0 < k - delayAt N i = ltb-true 0 _ r in h p (eqb-true _ a q) (omega arith)
       go true true false p q r = refl
       go true false t p q r = refl
       go false y t p q r = refl

@@ -17,7 +17,7 @@ use Rattle.paper.specs.Sources.{injected}
 use Rattle.paper.specs.Records.{countOf, wellFormed}
 use Rattle.paper.specs.Legs.{Branch, bothLegs, heard, legsOf}
 use Rattle.paper.specs.Floating.{floating}
-use Rattle.paper.specs.Solve.{stop, move, proposed, outOfRange, settled, unbalanced, firstBeyond, stillOf, solve, solvedStep, rangeStep, balanceStep, historyStep}
+use Rattle.paper.specs.Solve.{stop, move, proposed, outOfRange, settled, unbalanced, firstBeyond, stillOf, solve, settling, solvedStep, rangeStep, balanceStep, historyStep}
 use Rattle.paper.specs.Advance.{Memory, Advanced, advanced, written, takeStep, ready, firstLate, onNext, onNet}
 
 -- ---- the step: 14 to 17, in turn
@@ -28,7 +28,7 @@ module _ (N : Net) (a k : ℕ) (bs : List Branch) where
   lone = floating (fixed N) (N .nodes) (freeOf N a) (bothLegs bs)
 
   abbrev pub rounded : List Rounded
-  rounded = proposed (bothLegs bs) (freeOf N a) (stillOf N a k) (injected (N .rows) k)
+  rounded = proposed (bothLegs bs) (freeOf N a) (stillOf N a k) (injected N k)
 
   abbrev pub outside : ℕ
   outside = outOfRange (freeOf N a) rounded
@@ -37,7 +37,7 @@ module _ (N : Net) (a k : ℕ) (bs : List Branch) where
   voltsOf = settled (freeOf N a) rounded (stillOf N a k)
 
   abbrev pub heavy : ℕ
-  heavy = unbalanced (limit (N .head)) (bothLegs bs) (injected (N .rows) k) voltsOf (freeOf N a)
+  heavy = unbalanced (limit (N .head)) (bothLegs bs) (injected N k) voltsOf (freeOf N a)
 
   abbrev pub large : ℕ
   large = firstBeyond voltsOf 0 bs
@@ -47,10 +47,10 @@ module _ (N : Net) (a k : ℕ) (bs : List Branch) where
     leaves : (n : ℕ) → lone ≡ 0 → outside ≡ suc n → solve N a k bs ≡ stop (Range (suc n)) → Solving
     tips : (n : ℕ) → lone ≡ 0 → outside ≡ 0 → heavy ≡ suc n → solve N a k bs ≡ stop (Unbalanced (suc n)) → Solving
     exceeds : (r : ℕ) → lone ≡ 0 → outside ≡ 0 → heavy ≡ 0 → large ≡ suc r → solve N a k bs ≡ stop (History (branchNumber N (suc r))) → Solving
-    solves : lone ≡ 0 → outside ≡ 0 → heavy ≡ 0 → large ≡ 0 → solve N a k bs ≡ move voltsOf → Solving
+    solves : lone ≡ 0 → outside ≡ 0 → heavy ≡ 0 → large ≡ 0 → solve N a k bs ≡ move bs voltsOf → Solving
 
   pub solving : Solving
-  unfolding solve solvedStep rangeStep balanceStep historyStep
+  unfolding solve settling solvedStep rangeStep balanceStep historyStep
   solving = by-lone lone refl
     where
       by-large : (n : ℕ) → large ≡ n → lone ≡ 0 → outside ≡ 0 → heavy ≡ 0 → Solving
@@ -100,7 +100,7 @@ module _ (N : Net) (a : ℕ) (m : Memory) where
     done : isArea ≡ true → isDone ≡ true → onNet N a m ≡ advanced Done m → Outcome
     waits : (r : ℕ) → isArea ≡ true → isDone ≡ false → lateNow ≡ suc r → onNet N a m ≡ advanced (Wait (branchNumber N (suc r))) m → Outcome
     stops : (x : Advance) → StepRefusal x → isArea ≡ true → isDone ≡ false → lateNow ≡ 0 → solve N a stepOf legsNow ≡ stop x → onNet N a m ≡ advanced x m → Outcome
-    takes : isArea ≡ true → isDone ≡ false → lateNow ≡ 0 → solve N a stepOf legsNow ≡ move (voltsOf N a stepOf legsNow)
+    takes : isArea ≡ true → isDone ≡ false → lateNow ≡ 0 → solve N a stepOf legsNow ≡ move legsNow (voltsOf N a stepOf legsNow)
         → onNet N a m ≡ advanced (Took stepOf) (written N a stepOf legsNow (voltsOf N a stepOf legsNow) m) → Outcome
 
   module _ (good : wellFormed N (m .records) (m .froms) (m .tos) ≡ true) where
@@ -133,7 +133,7 @@ module _ (N : Net) (a : ℕ) (m : Memory) where
       pub most : a ≤ areaCount N
       pub undone : countOf (m .records) a < steps (N .head)
       pub free : lateNow ≡ 0
-      pub solved : solve N a stepOf legsNow ≡ move (voltsOf N a stepOf legsNow)
+      pub solved : solve N a stepOf legsNow ≡ move legsNow (voltsOf N a stepOf legsNow)
       pub is : onNet N a m ≡ advanced (Took stepOf) (written N a stepOf legsNow (voltsOf N a stepOf legsNow) m)
 
     refused-not : (x : Advance) → accepted x ≡ false → onNet N a m ≡ advanced x m → accepted (onNet N a m .answer) ≡ true → ⊥

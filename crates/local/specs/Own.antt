@@ -15,9 +15,9 @@ use Rattle.whole.specs.Folds.{and-right, length-numbers, getD-numbers, getD-map
 use Rattle.paper.specs.Rows.{Row, kind, isBranch, isLine, isL, isC, from, to}
 use Rattle.paper.specs.Areas.{Net, areaOf, rowArea}
 use Rattle.paper.specs.Records.{countAt, voltAt, currentAt, toCurrentAt, historyAt}
-use Rattle.paper.specs.Legs.{leg, ownEnd, otherEnd, Branch, branch, Heard, here, lineEnd, lineLegs, plainLegs, legsBy, legsOf}
+use Rattle.paper.specs.Legs.{leg, ownEnd, otherEnd, Branch, branch, Heard, here, conducts, lineEnd, lineLegs, plainLegs, legsBy, legsOf}
 use Rattle.paper.specs.Advance.{branchIn}
-use Rattle.facts.specs.Nets.{rowAt}
+use Rattle.facts.specs.Nets.{rowAt, conducts-same}
 use Rattle.local.specs.Sound.{Sound}
 
 -- ---- whose each word of the records is; 0 for the unused ones
@@ -79,7 +79,7 @@ module _ (N : Net) (a k : ℕ) (recs : Words) (ears : List Heard) (i : ℕ) wher
 
   -- a row's two legs, by its kind
   abbrev pub byKind : Bool → Bool → Branch
-  byKind x y = cond x (lineLegs N a k r (getD ears i deaf)) (cond y (plainLegs N k r (word recs (historyAt i))) (branch r otherEnd otherEnd))
+  byKind x y = cond x (lineLegs N a k r (getD ears i deaf)) (cond y (plainLegs r (conducts N recs k i) (word recs (historyAt i))) (branch r otherEnd otherEnd))
 
   pub row-is : legsBy N a k recs ears i .row ≡ r
   unfolding legsBy lineLegs plainLegs
@@ -135,7 +135,7 @@ legs-same-at N a k recs recs′ ears i u h = go (isLine (rowAt N i)) (isBranch (
   where
     go : (x y o : Bool) → eqb (rowArea N (rowAt N i)) a ≡ o → byKind N a k recs ears i x (y && o) ≡ byKind N a k recs′ ears i x (y && o)
     go true y o q = refl
-    go false true true q = ap (plainLegs N k (rowAt N i)) (h (historyAt i) (own-history N i u ∙ eqb-true (rowArea N (rowAt N i)) a q))
+    go false true true q = rw (conducts-same N recs recs′ k i, h (historyAt i) (own-history N i u ∙ eqb-true (rowArea N (rowAt N i)) a q))
     go false true false q = refl
     go false false o q = refl
 

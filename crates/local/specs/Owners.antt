@@ -29,24 +29,24 @@ use Rattle.local.specs.Outcome.{stepOf, legsNow, voltsOf, Outcome, no-ar
 unfoldable pub keeperIn : Net → (Row → ℕ) → ℕ → List Row → ℕ → ℕ
 keeperIn N end off [] j = 0
 keeperIn N end off (r ∷ rows) j =
-    let o = keeperIn N end (off + slots (step N) r) rows j in
-    cond (leb off j && ltb j (off + slots (step N) r)) (areaOf N (end r)) o
+    let o = keeperIn N end (off + slots (N .head) r) rows j in
+    cond (leb off j && ltb j (off + slots (N .head) r)) (areaOf N (end r)) o
 
 -- of the from-end store (`end` is `from`) or of the to-end store (`to`)
 unfoldable pub keeperOf : Net → (Row → ℕ) → ℕ → ℕ
 keeperOf N end j = keeperIn N end 0 (N .rows) j
 
-keeper-in : (N : Net) (end : Row → ℕ) (off : ℕ) (rows : List Row) (i s : ℕ) → i < length rows → s < slots (step N) (getD rows i [])
-    → keeperIn N end off rows (off + sum (slots (step N)) (take i rows) + s) ≡ areaOf N (end (getD rows i []))
+keeper-in : (N : Net) (end : Row → ℕ) (off : ℕ) (rows : List Row) (i s : ℕ) → i < length rows → s < slots (N .head) (getD rows i [])
+    → keeperIn N end off rows (off + sum (slots (N .head)) (take i rows) + s) ≡ areaOf N (end (getD rows i []))
 unfolding keeperIn sum
 keeper-in N end off [] i s h p = absurd (omega arith)
 keeper-in N end off (r ∷ rows) zero s h p =
     let e : off + 0 + s ≡ off + s = omega arith in
-    rw (e, le-leb off (off + s) (omega arith), lt-ltb (off + s) (off + slots (step N) r) (omega arith))
+    rw (e, le-leb off (off + s) (omega arith), lt-ltb (off + s) (off + slots (N .head) r) (omega arith))
 keeper-in N end off (r ∷ rows) (suc i) s h p =
-    let j = off + (slots (step N) r + sum (slots (step N)) (take i rows)) + s in
-    let e : j ≡ off + slots (step N) r + sum (slots (step N)) (take i rows) + s = omega arith in
-    rw (le-leb off j (omega arith), le-ltb j (off + slots (step N) r) (omega arith), e) (keeper-in N end (off + slots (step N) r) rows i s (omega arith) p)
+    let j = off + (slots (N .head) r + sum (slots (N .head)) (take i rows)) + s in
+    let e : j ≡ off + slots (N .head) r + sum (slots (N .head)) (take i rows) + s = omega arith in
+    rw (le-leb off j (omega arith), le-ltb j (off + slots (N .head) r) (omega arith), e) (keeper-in N end (off + slots (N .head) r) rows i s (omega arith) p)
 
 pub keeper-of : (N : Net) (end : Row → ℕ) (i s : ℕ) → i < length (N .rows) → s < slotsAt N i → keeperOf N end (offset N i + s) ≡ areaOf N (end (rowAt N i))
 unfolding keeperOf offset

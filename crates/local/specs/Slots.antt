@@ -24,12 +24,12 @@ use Rattle.local.specs.Own.{row-is, legs-length, branch-is}
 use Rattle.local.specs.Puts.{put-length, put-other, put-same, turns-length, turns-other, turns-put}
 
 abbrev pub slotsAt : Net → ℕ → ℕ
-slotsAt N i = slots (step N) (rowAt N i)
+slotsAt N i = slots (N .head) (rowAt N i)
 
 abbrev pub delayAt : Net → ℕ → ℕ
 delayAt N i = delay (step N) (rowAt N i)
 
-pub line-slots : (N : Net) (i : ℕ) → isLine (rowAt N i) ≡ true → slotsAt N i ≡ 2 * delayAt N i + depth
+pub line-slots : (N : Net) (i : ℕ) → isLine (rowAt N i) ≡ true → slotsAt N i ≡ 2 * delayAt N i + depth (N .head) (rowAt N i)
 unfolding slots
 line-slots N i e = rw e refl
 

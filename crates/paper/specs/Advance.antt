@@ -75,7 +75,7 @@ newRecords N a k bs v w = turns 0 (length bs) (putRow bs v) (putVolts v (nodesOf
 unfoldable pub putSent : Net → ℕ → (Branch → End) → List Branch → Words → ℕ → Words → Words
 putSent N k end bs v i w =
     let b = branchIn bs i in
-    putIf (isLine (b .row) && end b .own) w (offset N i + k % slots (step N) (b .row)) (passedOn v (b .row) (end b .wire))
+    putIf (isLine (b .row) && end b .own) w (offset N i + k % slots (N .head) (b .row)) (passedOn v (b .row) (end b .wire))
 
 unfoldable pub newStore : Net → ℕ → (Branch → End) → List Branch → Words → Words → Words
 newStore N k end bs v w = turns 0 (length bs) (putSent N k end bs v) w
@@ -86,13 +86,13 @@ written N a k bs v m =
 
 -- ---- the call
 
-abbrev pub finish : Net → ℕ → ℕ → List Branch → Memory → Step → Advanced
-finish N a k bs m (stop x) = advanced x m
-finish N a k bs m (move v) = advanced (Took k) (written N a k bs v m)
+abbrev pub finish : Net → ℕ → ℕ → Memory → Step → Advanced
+finish N a k m (stop x) = advanced x m
+finish N a k m (move bs v) = advanced (Took k) (written N a k bs v m)
 
 -- "An advance depends on nothing but the network, its own area's records, the far counts and the far values it reads."
 unfoldable pub takeStep : Net → ℕ → ℕ → Memory → List Branch → Advanced
-takeStep N a k m bs = finish N a k bs m (solve N a k bs)
+takeStep N a k m bs = finish N a k m (solve N a k bs)
 
 unfoldable pub ready : Net → ℕ → ℕ → Memory → Advanced
 ready N a k m = takeStep N a k m (legsOf N a k (m .records) (heard N a k (m .froms) (m .tos)))

@@ -1,5 +1,6 @@
 -- What E1 to E10 leave open, as a second table in their form, and two laws of a row's legs. Assumes nothing.
 use Prim.Native.Nat.{ℕ, _-_, _*_, _^_, _≤_}
+use native.Mathlib.Omega.{arith}
 use mathlib.Core.Path.{_≡_, refl}
 use mathlib.Core.List.{List, [], _∷_, map}
 use lib.IntN.{ℤ, pos, negsuc, negℤ, _+ℤ_, _-ℤ_, _*ℤ_}
@@ -11,7 +12,7 @@ use Rattle.whole.specs.Int.{ring-laws}
 use Rattle.paper.specs.Rows.{Row, from, to}
 use Rattle.paper.specs.Faults.{delay}
 use Rattle.paper.specs.Areas.{Net, step}
-use Rattle.paper.specs.Legs.{sentTo, conducts, plainLegs, through, current}
+use Rattle.paper.specs.Legs.{sentTo, sentAt, plainLegs, through, current}
 use Rattle.paper.specs.Computing.{computing}
 use Rattle.paper.specs.Examples.{Example, runs, call, volts, amps, siemens, lines, placeOf, looked, goes, played, replay, tabbed}
 
@@ -47,12 +48,12 @@ turned : (g a b h : ℤ) → g *ℤ (b -ℤ a) +ℤ negℤ h ≡ negℤ (g *ℤ 
 turned g a b h = simp ring-laws
 
 -- what leaves one end of an R, L, C or SW enters at the other
-pub opposite : (N : Net) (k : ℕ) (r : Row) (h : ℤ) (v : Words)
-    → current v (plainLegs N k r h .toEnd .wire) ≡ negℤ (current v (plainLegs N k r h .fromEnd .wire))
+pub opposite : (r : Row) (g : ℕ) (h : ℤ) (v : Words)
+    → current v (plainLegs r g h .toEnd .wire) ≡ negℤ (current v (plainLegs r g h .fromEnd .wire))
 unfolding plainLegs current through
-opposite N k r h v = turned (pos (conducts (step N) k r)) (word v (from r)) (word v (to r)) h
+opposite r g h v = turned (pos g) (word v (from r)) (word v (to r)) h
 
 -- "or 0 where k - d < 1", whatever stands in the slot
 pub early : (N : Net) (k i : ℕ) (r : Row) (store : Words) → k ≤ delay (step N) r → sentTo N k i r store ≡ z
-unfolding sentTo
-early N k i r store h = rw (le-ltb (delay (step N) r) k h)
+unfolding sentTo sentAt
+early N k i r store h = rw (le-ltb 0 (k - delay (step N) r) (omega arith))

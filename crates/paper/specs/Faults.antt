@@ -1,5 +1,5 @@
 -- What may be wrong with a row whose spelling is right: refusals 2 to 6, by the rows before it. One definition, for the reader's lines and
--- for the rows of a lent network record. Assumes nothing.
+-- for the rows of a lent network record; `head` is the study's row. Assumes nothing.
 use Prim.Native.Nat.{ℕ, zero, suc, _+_, _*_, _/_, _%_}
 use mathlib.Core.Bool.{Bool, true, false, cond, not, _&&_, _||_}
 use mathlib.Core.List.{List, [], _∷_, tail}
@@ -27,15 +27,15 @@ nodeFault r =
     || (isLine r && (eqb (from r) 0 || eqb (to r) 0))
 
 -- 3 VALUE: "a field, or its conductance, out of range"; SW: "1 ≤ close < open"
-unfoldable pub valueFault : ℕ → Row → Bool
-valueFault step r =
+unfoldable pub valueFault : Row → Row → Bool
+valueFault head r =
     outside false (fieldsOf (kind r)) (tail r)
     || (isSwitch r && leb (opens r) (closes r))
-    || (isBranch r && not (leb 1 (conductance step r) && leb (conductance step r) Limits.conductanceEnd))
+    || (isBranch r && not (leb 1 (conductance (stepLength head) r) && leb (conductance (stepLength head) r) Limits.conductanceEnd))
 
 -- 4 TRAVEL: "travel not a multiple of the step"
-unfoldable pub travelFault : ℕ → Row → Bool
-travelFault step r = isLine r && not (eqb (travel r % step) 0)
+unfoldable pub travelFault : Row → Row → Bool
+travelFault head r = isLine r && not (eqb (travel r % stepLength head) 0)
 
 -- "A node with a VS is fixed"
 unfoldable pub fixes : ℕ → Row → Bool
@@ -50,29 +50,29 @@ abbrev pub delay : ℕ → Row → ℕ
 delay step r = travel r / step
 
 -- how many values older than that of step k - d an end reads: none
-abbrev pub depth : ℕ
-depth = 0
+abbrev pub depth : Row → Row → ℕ
+depth head r = 0
 
 -- the places of one end's ring: d for what is on its way, d for a lead of the far area, and the older ones
-unfoldable pub slots : ℕ → Row → ℕ
-slots step r = cond (isLine r) (2 * delay step r + depth) 0
+unfoldable pub slots : Row → Row → ℕ
+slots head r = cond (isLine r) (2 * delay (stepLength head) r + depth head r) 0
 
 -- 6 FULL: "65th branch, 17th source, or 2d summed over lines past 4,096"
-unfoldable pub fullFault : ℕ → List Row → Row → Bool
-fullFault step before r =
+unfoldable pub fullFault : Row → List Row → Row → Bool
+fullFault head before r =
     (isBranch r && leb Limits.branchEnd (count isBranch before))
     || (isSource r && leb Limits.sourceEnd (count isSource before))
-    || ltb Limits.slotEnd (sum (slots step) before + slots step r)
+    || ltb Limits.slotEnd (sum (slots head) before + slots head r)
 
 -- "in it 1 to 6 in turn": the number of the first fault, or 0
-unfoldable pub lineFault : ℕ → List Row → Row → ℕ
-lineFault step before r =
+unfoldable pub lineFault : Row → List Row → Row → ℕ
+lineFault head before r =
     cond (nodeFault r) 2
-    (cond (valueFault step r) 3
-    (cond (travelFault step r) 4
+    (cond (valueFault head r) 3
+    (cond (travelFault head r) 4
     (cond (doubleFault before r) 5
-    (cond (fullFault step before r) 6 0))))
+    (cond (fullFault head before r) 6 0))))
 
 -- the same after the rows seen so far, of which the first is the study's
 unfoldable pub rowFault : List Row → Row → ℕ
-rowFault seen r = lineFault (stepLength (getD seen 0 [])) (tail seen) r
+rowFault seen r = lineFault (getD seen 0 []) (tail seen) r

@@ -61,9 +61,9 @@ reset-refused net m = reset-kept net m .unset
 record Still (m : Memory) (r : Advanced) : Type 0 where
   still : accepted (r .answer) ≡ false → r .after ≡ m
 
-still-finish : (N : Net) (a k : ℕ) (bs : List Branch) (m : Memory) (s : Step) → Still m (finish N a k bs m s)
-still-finish N a k bs m (stop x) = record { still = λ h. refl }
-still-finish N a k bs m (move v) = record { still = λ h. absurd (true≢false h) }
+still-finish : (N : Net) (a k : ℕ) (m : Memory) (s : Step) → Still m (finish N a k m s)
+still-finish N a k m (stop x) = record { still = λ h. refl }
+still-finish N a k m (move bs v) = record { still = λ h. absurd (true≢false h) }
 
 still-wait : (N : Net) (m : Memory) (next : Advanced) (r : ℕ) → Still m next → Still m (orWait N m next r)
 still-wait N m next zero p = p
@@ -71,7 +71,7 @@ still-wait N m next (suc r) p = record { still = λ h. refl }
 
 still-step : (N : Net) (a k : ℕ) (m : Memory) (bs : List Branch) → Still m (takeStep N a k m bs)
 unfolding takeStep
-still-step N a k m bs = still-finish N a k bs m (solve N a k bs)
+still-step N a k m bs = still-finish N a k m (solve N a k bs)
 
 still-ready : (N : Net) (a k : ℕ) (m : Memory) → Still m (ready N a k m)
 unfolding ready

@@ -48,11 +48,13 @@ branch r f t = record { row = r; fromEnd = f; toEnd = t }
 
 -- ---- what a line's ends receive
 
--- "h is what the far end sent at step k - d, or 0 where k - d < 1"; "step s in place s mod 2d"
+-- what an end sent at step s, "step s in place s mod 2d", or 0 where s < 1
+unfoldable pub sentAt : Net → ℕ → ℕ → Row → Words → ℤ
+sentAt N s i r store = cond (ltb 0 s) (word store (offset N i + s % slots (N .head) r)) z
+
+-- "h is what the far end sent at step k - d, or 0 where k - d < 1"
 unfoldable pub sentTo : Net → ℕ → ℕ → Row → Words → ℤ
-sentTo N k i r store =
-    let d = delay (step N) r in
-    cond (ltb d k) (word store (offset N i + (k - d) % slots (step N) r)) z
+sentTo N k i r store = sentAt N (k - delay (step N) r) i r store
 
 pub record Heard : Type 0 where
   pub atFrom : ℤ
@@ -75,13 +77,13 @@ heard N a k froms tos = map (heardBy N a k froms tos) (numbers 0 (length (N .row
 
 -- ---- the legs
 
--- "Closed at steps close to open - 1."
-unfoldable pub isOpen : ℕ → Row → Bool
-isOpen k r = isSwitch r && not (leb (closes r) k && ltb k (opens r))
+-- whether the row in place i is open at step k: "Closed at steps close to open - 1."
+unfoldable pub isOpen : Net → Words → ℕ → ℕ → Bool
+isOpen N recs k i = let r = getD (N .rows) i [] in isSwitch r && not (leb (closes r) k && ltb k (opens r))
 
--- "Open SW: i = 0 and no conductance."
-unfoldable pub conducts : ℕ → ℕ → Row → ℕ
-conducts step k r = cond (isOpen k r) 0 (conductance step r)
+-- its conductance then: "Open SW: i = 0 and no conductance."
+unfoldable pub conducts : Net → Words → ℕ → ℕ → ℕ
+conducts N recs k i = cond (isOpen N recs k i) 0 (conductance (step N) (getD (N .rows) i []))
 
 unfoldable pub lineEnd : Bool → ℕ → ℕ → ℤ → End
 lineEnd own n g h = cond own (ownEnd (leg n 0 g h)) otherEnd
@@ -91,9 +93,8 @@ lineLegs N a k r e =
     let g = conductance (step N) r in
     branch r (lineEnd (here N a (from r)) (from r) g (e .atFrom)) (lineEnd (here N a (to r)) (to r) g (e .atTo))
 
-unfoldable pub plainLegs : Net → ℕ → Row → ℤ → Branch
-plainLegs N k r h =
-    let g = conducts (step N) k r in
+unfoldable pub plainLegs : Row → ℕ → ℤ → Branch
+plainLegs r g h =
     branch r (ownEnd (leg (from r) (to r) g h)) (ownEnd (leg (to r) (from r) g (negℤ h)))
 
 -- the row in place i at step k of area a; a row of another area, and a source, is idle
@@ -101,7 +102,7 @@ unfoldable pub legsBy : Net → ℕ → ℕ → Words → List Heard → ℕ →
 legsBy N a k recs ears i =
     let r = getD (N .rows) i [] in
     cond (isLine r) (lineLegs N a k r (getD ears i (record { atFrom = z; atTo = z })))
-    (cond (isBranch r && eqb (rowArea N r) a) (plainLegs N k r (word recs (historyAt i)))
+    (cond (isBranch r && eqb (rowArea N r) a) (plainLegs r (conducts N recs k i) (word recs (historyAt i)))
     (branch r otherEnd otherEnd))
 
 unfoldable pub legsOf : Net → ℕ → ℕ → Words → List Heard → List Branch

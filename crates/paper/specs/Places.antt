@@ -21,10 +21,10 @@ use Rattle.paper.specs.Rows.{Row, kind, limit, isBranch, isLine, steps}
 use Rattle.paper.specs.Network.{isNetwork, tableOf}
 use Rattle.paper.specs.Areas.{Net, netOf, areaCount, rowArea, nodesOf, freeOf, fixed, branchNumber}
 use Rattle.paper.specs.Records.{countOf, historyAt, wellFormed}
-use Rattle.paper.specs.Legs.{Leg, Branch, branch, otherEnd, Heard, heard, legsOf, legsBy, lineLegs, plainLegs, bothLegs, passedOn}
+use Rattle.paper.specs.Legs.{Leg, Branch, branch, otherEnd, Heard, heard, legsOf, legsBy, conducts, lineLegs, plainLegs, bothLegs, passedOn}
 use Rattle.paper.specs.Sources.{injected}
 use Rattle.paper.specs.Floating.{floating}
-use Rattle.paper.specs.Solve.{Step, stop, move, solve, solvedStep, rangeStep, balanceStep, historyStep, andFloating, andRange, andBalance, andHistory, settled, stillOf, outOfRange, unbalanced, beyond, firstBeyond}
+use Rattle.paper.specs.Solve.{Step, stop, move, solve, settling, passing, solvedStep, rangeStep, balanceStep, historyStep, andFloating, andRange, andBalance, andHistory, settled, stillOf, outOfRange, unbalanced, beyond, firstBeyond}
 use Rattle.paper.specs.Advance.{Memory, Advanced, finish, takeStep, ready, orWait, waitsFor, firstLate, onNext, onNet, fits, advanceOf}
 use Rattle.paper.specs.Kept.{either}
 
@@ -145,7 +145,7 @@ row-of N a k recs ears i = go (isLine r) (isBranch r && eqb (rowArea N r) a)
     r : Row
     r = getD (N .rows) i []
 
-    go : (s t : Bool) → cond s (lineLegs N a k r (getD ears i (record { atFrom = z; atTo = z }))) (cond t (plainLegs N k r (word recs (historyAt i))) (branch r otherEnd otherEnd)) .row ≡ r
+    go : (s t : Bool) → cond s (lineLegs N a k r (getD ears i (record { atFrom = z; atTo = z }))) (cond t (plainLegs r (conducts N recs k i) (word recs (historyAt i))) (branch r otherEnd otherEnd)) .row ≡ r
     go true t = refl
     go false true = refl
     go false false = refl
@@ -172,35 +172,36 @@ legs-rows N a k recs ears = record { many = long; each = at }
         let e : getD (numbers 0 n) i 0 ≡ i = getD-numbers 0 n i 0 (omega (arith, h, long)) ∙ zero-add i in
         ap (λ (b : Branch). b .row) (getD-map (legsBy N a k recs ears) (numbers 0 n) i 0 d l ∙ ap (legsBy N a k recs ears) e) ∙ row-of N a k recs ears i
 
--- what a step stops with
+-- what a step stops with, and the legs of one that does not
 Stopped : Net → Step → Type 0
 Stopped N (stop x) = PlaceIn N x
-Stopped N (move v) = Unit {0}
+Stopped N (move bs v) = Rows-of N bs
+
+passing-in : (N : Net) (s : Step) → Stopped N s → Stopped N (passing N s)
+unfolding historyStep Stopped
+passing-in N (stop x) p = p
+passing-in N (move bs v) rows = go (firstBeyond v 0 bs) refl
+  where
+    d : Branch
+    d = branch [] otherEnd otherEnd
+
+    by : (r : ℕ) → Stands (beyond v) d 0 r bs → BranchIn N (branchNumber N (suc r))
+    by r s =
+        let q : r ≡ s .at = omega (arith, s .is) in
+        let e : isBranch (getD (N .rows) (s .at) []) ≡ true = rw (rows .each (s .at) d (s .inside)) at (beyond-branch v (getD bs (s .at) d) (s .holds)) in
+        rw q (row-number N (s .at) (omega (arith, s .inside, rows .many)) e)
+
+    go : (r : ℕ) → firstBeyond v 0 bs ≡ r → Stopped N (andHistory N bs v r)
+    go zero e = rows
+    go (suc r) e = by r (beyond-stands v d 0 bs e)
 
 module _ (N : Net) (a k : ℕ) (bs : List Branch) (rows : Rows-of N bs) where
-  history-in : (v : Words) → Stopped N (historyStep N bs v)
-  unfolding historyStep Stopped
-  history-in v = go (firstBeyond v 0 bs) refl
-    where
-      d : Branch
-      d = branch [] otherEnd otherEnd
-
-      by : (r : ℕ) → Stands (beyond v) d 0 r bs → BranchIn N (branchNumber N (suc r))
-      by r s =
-          let q : r ≡ s .at = omega (arith, s .is) in
-          let e : isBranch (getD (N .rows) (s .at) []) ≡ true = rw (rows .each (s .at) d (s .inside)) at (beyond-branch v (getD bs (s .at) d) (s .holds)) in
-          rw q (row-number N (s .at) (omega (arith, s .inside, rows .many)) e)
-
-      go : (r : ℕ) → firstBeyond v 0 bs ≡ r → Stopped N (andHistory N bs v r)
-      go zero e = tt
-      go (suc r) e = by r (beyond-stands v d 0 bs e)
-
   balance-in : (v : Words) → Stopped N (balanceStep N a k bs v)
   unfolding balanceStep Stopped unbalanced
-  balance-in v = go (unbalanced (limit (N .head)) (bothLegs bs) (injected (N .rows) k) v (freeOf N a)) refl
+  balance-in v = go (unbalanced (limit (N .head)) (bothLegs bs) (injected N k) v (freeOf N a)) refl
     where
-      go : (n : ℕ) → unbalanced (limit (N .head)) (bothLegs bs) (injected (N .rows) k) v (freeOf N a) ≡ n → Stopped N (andBalance (historyStep N bs v) n)
-      go zero e = history-in v
+      go : (n : ℕ) → unbalanced (limit (N .head)) (bothLegs bs) (injected N k) v (freeOf N a) ≡ n → Stopped N (andBalance (move bs v) n)
+      go zero e = rows
       go (suc n) e = free-in N a (first-among _ (freeOf N a) e .0)
 
   range-in : (still : Words) (xs : List Rounded) → Stopped N (rangeStep N a k bs still xs)
@@ -211,30 +212,34 @@ module _ (N : Net) (a k : ℕ) (bs : List Branch) (rows : Rows-of N bs) where
       go zero e = balance-in (settled (freeOf N a) xs still)
       go (suc n) e = free-in N a (range-among (freeOf N a) xs e)
 
-  solve-in : Stopped N (solve N a k bs)
-  unfolding solve Stopped floating solvedStep
-  solve-in = go (floating (fixed N) (N .nodes) (freeOf N a) (bothLegs bs)) refl
+  settling-in : Stopped N (settling N a k bs)
+  unfolding settling Stopped floating solvedStep
+  settling-in = go (floating (fixed N) (N .nodes) (freeOf N a) (bothLegs bs)) refl
     where
       go : (n : ℕ) → floating (fixed N) (N .nodes) (freeOf N a) (bothLegs bs) ≡ n → Stopped N (andFloating (solvedStep N a k bs (stillOf N a k)) n)
       go zero e = range-in (stillOf N a k) _
       go (suc n) e = free-in N a (first-among _ (freeOf N a) e .0)
+
+  solve-in : Stopped N (solve N a k bs)
+  unfolding solve
+  solve-in = passing-in N (settling N a k bs) settling-in
 
 -- ---- the call
 
 abbrev Placed : Net → Advanced → Type 0
 Placed N r = PlaceIn N (r .answer)
 
-finish-in : (N : Net) (a k : ℕ) (bs : List Branch) (m : Memory) (s : Step) → Stopped N s → Placed N (finish N a k bs m s)
+finish-in : (N : Net) (a k : ℕ) (m : Memory) (s : Step) → Stopped N s → Placed N (finish N a k m s)
 unfolding Stopped
-finish-in N a k bs m (stop x) p = p
-finish-in N a k bs m (move v) p = tt
+finish-in N a k m (stop x) p = p
+finish-in N a k m (move bs v) p = tt
 
 ready-in : (N : Net) (a k : ℕ) (m : Memory) → Placed N (ready N a k m)
 unfolding ready takeStep
 ready-in N a k m =
     let ears = heard N a k (m .froms) (m .tos) in
     let bs = legsOf N a k (m .records) ears in
-    finish-in N a k bs m (solve N a k bs) (solve-in N a k bs (legs-rows N a k (m .records) ears))
+    finish-in N a k m (solve N a k bs) (solve-in N a k bs (legs-rows N a k (m .records) ears))
 
 next-in : (N : Net) (a k : ℕ) (m : Memory) → Placed N (onNext N a k m)
 unfolding onNext

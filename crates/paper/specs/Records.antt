@@ -34,10 +34,10 @@ countOf recs a = nat (word recs (countAt a))
 
 -- "slots stand in table order": where the row in place r, from 0, has its slots in either store
 unfoldable pub offset : Net → ℕ → ℕ
-offset N r = sum (slots (step N)) (take r (N .rows))
+offset N r = sum (slots (N .head)) (take r (N .rows))
 
 unfoldable pub slotCount : Net → ℕ
-slotCount N = sum (slots (step N)) (N .rows)
+slotCount N = sum (slots (N .head)) (N .rows)
 
 -- ---- 10 STATE: "Records are well formed when"
 

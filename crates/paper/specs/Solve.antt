@@ -102,20 +102,14 @@ firstBeyond v i (b ∷ bs) = let r = firstBeyond v (suc i) bs in cond (beyond v 
 
 -- ---- the step
 
+-- a refusal, or the voltages by node and the legs that they were found from
 pub data Step : Type 0 where
   stop : Advance → Step
-  move : Words → Step
+  move : List Branch → Words → Step
 
 -- the voltages by node before solving: sources at the area's fixed nodes, 0 elsewhere
 unfoldable pub stillOf : Net → ℕ → ℕ → Words
-stillOf N a k = fold (λ v n. cond (fixed N n) (set v n (held (N .rows) k n)) v) (replicate (suc Limits.nodeEnd) z) (nodesOf N a)
-
-abbrev pub andHistory : Net → List Branch → Words → ℕ → Step
-andHistory N bs v zero = move v
-andHistory N bs v (suc r) = stop (History (branchNumber N (suc r)))
-
-unfoldable pub historyStep : Net → List Branch → Words → Step
-historyStep N bs v = andHistory N bs v (firstBeyond v 0 bs)
+stillOf N a k = fold (λ v n. cond (fixed N n) (set v n (held N k n)) v) (replicate (suc Limits.nodeEnd) z) (nodesOf N a)
 
 abbrev pub andBalance : Step → ℕ → Step
 andBalance next zero = next
@@ -123,7 +117,7 @@ andBalance next (suc n) = stop (Unbalanced (suc n))
 
 unfoldable pub balanceStep : Net → ℕ → ℕ → List Branch → Words → Step
 balanceStep N a k bs v =
-    andBalance (historyStep N bs v) (unbalanced (limit (N .head)) (bothLegs bs) (injected (N .rows) k) v (freeOf N a))
+    andBalance (move bs v) (unbalanced (limit (N .head)) (bothLegs bs) (injected N k) v (freeOf N a))
 
 abbrev pub andRange : Step → ℕ → Step
 andRange next zero = next
@@ -133,13 +127,29 @@ unfoldable pub rangeStep : Net → ℕ → ℕ → List Branch → Words → Lis
 rangeStep N a k bs still xs = andRange (balanceStep N a k bs (settled (freeOf N a) xs still)) (outOfRange (freeOf N a) xs)
 
 unfoldable pub solvedStep : Net → ℕ → ℕ → List Branch → Words → Step
-solvedStep N a k bs still = rangeStep N a k bs still (proposed (bothLegs bs) (freeOf N a) still (injected (N .rows) k))
+solvedStep N a k bs still = rangeStep N a k bs still (proposed (bothLegs bs) (freeOf N a) still (injected N k))
 
 abbrev pub andFloating : Step → ℕ → Step
 andFloating next zero = next
 andFloating next (suc n) = stop (Floating (suc n))
 
+-- 14 to 16, in turn
+unfoldable pub settling : Net → ℕ → ℕ → List Branch → Step
+settling N a k bs =
+    andFloating (solvedStep N a k bs (stillOf N a k)) (floating (fixed N) (N .nodes) (freeOf N a) (bothLegs bs))
+
+abbrev pub andHistory : Net → List Branch → Words → ℕ → Step
+andHistory N bs v zero = move bs v
+andHistory N bs v (suc r) = stop (History (branchNumber N (suc r)))
+
+unfoldable pub historyStep : Net → List Branch → Words → Step
+historyStep N bs v = andHistory N bs v (firstBeyond v 0 bs)
+
+-- 17, after these
+abbrev pub passing : Net → Step → Step
+passing N (stop x) = stop x
+passing N (move bs v) = historyStep N bs v
+
 -- "14 to 17", in turn
 unfoldable pub solve : Net → ℕ → ℕ → List Branch → Step
-solve N a k bs =
-    andFloating (solvedStep N a k bs (stillOf N a k)) (floating (fixed N) (N .nodes) (freeOf N a) (bothLegs bs))
+solve N a k bs = passing N (settling N a k bs)

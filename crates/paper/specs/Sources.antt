@@ -9,18 +9,23 @@ use lib.Signed.{quotZ}
 use Rattle.whole.specs.Lists.{z, total}
 use Rattle.paper.specs.Rows.{Row, isIS, at, peak, start, rise}
 use Rattle.paper.specs.Faults.{fixes}
+use Rattle.paper.specs.Areas.{Net}
 
 -- n steps since the start
 unfoldable pub risen : Row → ℕ → ℤ
 risen r n = cond (ltb n (rise r)) (quotZ (peak r *ℤ pos n) (pos (rise r))) (peak r)
 
-unfoldable pub source : ℕ → Row → ℤ
-source k r = cond (ltb k (start r)) z (risen r (k - start r))
+unfoldable pub ramp : ℕ → Row → ℤ
+ramp k r = cond (ltb k (start r)) z (risen r (k - start r))
+
+-- a source's value at step k: of VS and IS alike
+unfoldable pub source : Net → ℕ → Row → ℤ
+source N k r = ramp k r
 
 -- a fixed node's voltage
-unfoldable pub held : List Row → ℕ → ℕ → ℤ
-held rows k n = total (λ r. cond (fixes n r) (source k r) z) rows
+unfoldable pub held : Net → ℕ → ℕ → ℤ
+held N k n = total (λ r. cond (fixes n r) (source N k r) z) (N .rows)
 
 -- "An IS injects into its node."
-unfoldable pub injected : List Row → ℕ → ℕ → ℤ
-injected rows k n = total (λ r. cond (isIS r && eqb (at r) n) (source k r) z) rows
+unfoldable pub injected : Net → ℕ → ℕ → ℤ
+injected N k n = total (λ r. cond (isIS r && eqb (at r) n) (source N k r) z) (N .rows)

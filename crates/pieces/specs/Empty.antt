@@ -38,7 +38,7 @@ module _ (N : Net) (s : NetSound N) (e : areaCount N ≡ 0) where
   no-row : (i : ℕ) → i < length (N .rows) → ⊥
   no-row i h = go (decLt (kind (rowAt N i)) 6)
     where
-      f : RowSound (step N) (N .nodes) (rowAt N i)
+      f : RowSound (N .head) (N .nodes) (rowAt N i)
       f = s .row i h
 
       go : Dec (kind (rowAt N i) < 6) → ⊥

@@ -39,7 +39,7 @@ sources-are N a =
     ∙ map-map sourceLine (rowAt N) (keep (λ i. ownSource N a (rowAt N i)) (numbers 0 (length (N .rows)))))
 
 -- a source's first five words are its line
-pub source-line : {step nodes : ℕ} (r : Row) → RowSound step nodes r → isSource r ≡ true → word r 0 ∷ word r 1 ∷ word r 2 ∷ word r 3 ∷ word r 4 ∷ [] ≡ sourceLine r
+pub source-line : {head : Row} {nodes : ℕ} (r : Row) → RowSound head nodes r → isSource r ≡ true → word r 0 ∷ word r 1 ∷ word r 2 ∷ word r 3 ∷ word r 4 ∷ [] ≡ sourceLine r
 unfolding sourceLine
 source-line r s e =
     let p = s .source e in

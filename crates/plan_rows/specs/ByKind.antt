@@ -4,12 +4,13 @@ use mathlib.Core.Path.{_≡_, refl}
 use mathlib.Core.Bool.{Bool, true, false, cond, _||_}
 use mathlib.Core.List.{List, [], _∷_}
 use native.Mathlib.Omega.{arith}
+use native.Mathlib.Nat.{add-zero}
 use borrow.Author.Tests.{ne-eqb, le-leb, lt-leb}
 use lib.Dec.{eqb}
 use lib.IntN.{pos}
 use lib.ListN.{getD}
-use Rattle.paper.specs.Rows.{Row, kind, isBranch, isSource, isLine}
-use Rattle.paper.specs.Faults.{delay, depth, slots}
+use Rattle.paper.specs.Rows.{Row, kind, isBranch, isSource, isLine, stepLength}
+use Rattle.paper.specs.Faults.{delay, slots}
 use Rattle.facts.specs.Sound.{RowSound, one-sort}
 
 abbrev pub branchKind : ℕ → Bool
@@ -37,7 +38,7 @@ branch-kinds (suc (suc (suc (suc (suc (suc n)))))) = past (suc (suc (suc (suc (s
         rw (off 1 (omega arith), off 2 (omega arith), off 3 (omega arith), off 4 (omega arith), off 5 (omega arith), le-leb 1 k (omega arith), lt-leb k 5 h)
 
 -- what is no branch is a source
-pub source-else : (r : Row) {step nodes : ℕ} → RowSound step nodes r → isBranch r ≡ false → isSource r ≡ true
+pub source-else : (r : Row) {head : Row} {nodes : ℕ} → RowSound head nodes r → isBranch r ≡ false → isSource r ≡ true
 source-else r s b = go (isSource r) (rw b at (one-sort (kind r) (s .kindLeast) (s .kindMost)))
   where
     go : (t : Bool) → 0 + cond t 1 0 ≡ 1 → t ≡ true
@@ -47,11 +48,11 @@ source-else r s b = go (isSource r) (rw b at (one-sort (kind r) (s .kindLeast) (
 -- ---- slots
 
 unfoldable pub slotsBy : ℕ → ℕ → ℕ
-slotsBy k d = cond (lineKind k) (2 * d + depth) 0
+slotsBy k d = cond (lineKind k) (2 * d) 0
 
-pub slots-by : (step : ℕ) (r : Row) → slotsBy (kind r) (delay step r) ≡ slots step r
+pub slots-by : (head r : Row) → slotsBy (kind r) (delay (stepLength head) r) ≡ slots head r
 unfolding slotsBy slots
-slots-by step r = refl
+slots-by head r = rw add-zero
 
 -- ---- areas, by node, of an end from one node to another
 

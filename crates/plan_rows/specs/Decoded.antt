@@ -34,7 +34,7 @@ conductance-is step k r e = rw e
 
 -- ---- one row of a network
 module _ {N : Net} (s : NetSound N) (i : ℕ) (h : i < length (N .rows)) where
-  abbrev row : RowSound (step N) (N .nodes) (rowAt N i)
+  abbrev row : RowSound (N .head) (N .nodes) (rowAt N i)
   row = s .row i h
 
   pub no-branch : isBranch (rowAt N i) ≡ false → (toAt N i ≡ 0) × (conductanceAt N i ≡ 0)
@@ -77,7 +77,7 @@ module _ {N : Net} (s : NetSound N) (i : ℕ) (h : i < length (N .rows)) where
       let p = row .branch b in
       record { long = s .study .stepIn .least; short = s .study .stepIn .most; some = p .sizeIn .least; most = p .sizeIn .most; farads = p .farads }
 
-  pub slots-end : offset N i + slots (step N) (rowAt N i) ≤ Limits.slotEnd
+  pub slots-end : offset N i + slots (N .head) (rowAt N i) ≤ Limits.slotEnd
   slots-end = omega (arith, slots-within N i h, s .slotMost)
 
   -- whose its two ends are

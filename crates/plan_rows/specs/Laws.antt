@@ -35,13 +35,13 @@ pub offset-first : (N : Net) → 0 ≡ offset N 0
 unfolding offset sum
 offset-first N = refl
 
-pub offset-next : (N : Net) (i : ℕ) → i < length (N .rows) → offset N (i + 1) ≡ offset N i + slots (step N) (rowAt N i)
+pub offset-next : (N : Net) (i : ℕ) → i < length (N .rows) → offset N (i + 1) ≡ offset N i + slots (N .head) (rowAt N i)
 unfolding offset
-offset-next N i h = sum-next (slots (step N)) (N .rows) i [] h
+offset-next N i h = sum-next (slots (N .head)) (N .rows) i [] h
 
 pub offset-last : (N : Net) → offset N (length (N .rows)) ≡ slotCount N
 unfolding offset slotCount
-offset-last N = ap (sum (slots (step N))) (take-length (N .rows))
+offset-last N = ap (sum (slots (N .head))) (take-length (N .rows))
 
 pub number-next : (N : Net) (i : ℕ) → i < length (N .rows) → branchNumber N (suc i) ≡ branchNumber N i + cond (isBranch (rowAt N i)) 1 0
 unfolding branchNumber

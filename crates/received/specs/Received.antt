@@ -15,7 +15,7 @@ use Rattle.paper.specs.Rows.{Row}
 use Rattle.paper.specs.Faults.{slots, delay}
 use Rattle.paper.specs.Areas.{Net, step}
 use Rattle.paper.specs.Records.{offset}
-use Rattle.paper.specs.Legs.{sentTo}
+use Rattle.paper.specs.Legs.{sentTo, sentAt}
 use Rattle.received.specs.declared.Side.{Side}
 use Rattle.received.specs.declared.Side.the-variants.{From, To}
 
@@ -30,16 +30,16 @@ farPart side froms tos start end = take (end - start) (drop start (farStore side
 
 -- of a ring whose slots begin at a place of the store
 unfoldable pub heardFrom : Words → ℕ → ℕ → ℕ → ℕ → ℤ
-heardFrom store start slots k d = cond (ltb d k) (word store (start + (k - d) % slots)) z
+heardFrom store start slots k d = cond (ltb 0 (k - d)) (word store (start + (k - d) % slots)) z
 
 -- ---- its two cases
 pub heard-before : (store : Words) (start slots k d : ℕ) → k ≤ d → z ≡ heardFrom store start slots k d
 unfolding heardFrom
-heard-before store start slots k d h = rw (le-ltb d k h)
+heard-before store start slots k d h = rw (le-ltb 0 (k - d) (omega arith))
 
 pub heard-after : (store : Words) (start slots k d : ℕ) → d < k → word store (start + (k - d) % slots) ≡ heardFrom store start slots k d
 unfolding heardFrom
-heard-after store start slots k d h = rw (lt-ltb d k h)
+heard-after store start slots k d h = rw (lt-ltb 0 (k - d) (omega arith))
 
 -- ---- a part of a store is read as the store is
 module _ (side : Side) (froms tos : Words) (start slots : ℕ) (f : start + slots ≤ length froms) (t : start + slots ≤ length tos) where
@@ -52,7 +52,7 @@ module _ (side : Side) (froms tos : Words) (start slots : ℕ) (f : start + slot
 
   pub part-heard : (k d : ℕ) → 0 < slots → heardFrom (farPart side froms tos start (start + slots)) 0 slots k d ≡ heardFrom (farStore side froms tos) start slots k d
   unfolding heardFrom
-  part-heard k d h = ap (λ (x : ℤ). cond (ltb d k) x z) (at-slot ((k - d) % slots) (mod-lt (k - d) h))
+  part-heard k d h = ap (λ (x : ℤ). cond (ltb 0 (k - d)) x z) (at-slot ((k - d) % slots) (mod-lt (k - d) h))
     where
       at-slot : (s : ℕ) → s < slots → word (farPart side froms tos start (start + slots)) (0 + s) ≡ word (farStore side froms tos) (start + s)
       at-slot s l =
@@ -61,6 +61,6 @@ module _ (side : Side) (froms tos : Words) (start slots : ℕ) (f : start + slot
           rw (e, g, getD-take slots (drop start (farStore side froms tos)) s z l, getD-drop)
 
 -- of a line's own ring: the paper's
-pub heard-is : (N : Net) (k i : ℕ) (r : Row) (store : Words) → heardFrom store (offset N i) (slots (step N) r) k (delay (step N) r) ≡ sentTo N k i r store
-unfolding heardFrom sentTo
+pub heard-is : (N : Net) (k i : ℕ) (r : Row) (store : Words) → heardFrom store (offset N i) (slots (N .head) r) k (delay (step N) r) ≡ sentTo N k i r store
+unfolding heardFrom sentTo sentAt
 heard-is N k i r store = refl

@@ -18,7 +18,7 @@ use Rattle.paper.specs.Rows.{isLine}
 use Rattle.paper.specs.Faults.{depth}
 use Rattle.paper.specs.Areas.{Net}
 use Rattle.paper.specs.Records.{countOf, offset}
-use Rattle.paper.specs.Legs.{sentTo}
+use Rattle.paper.specs.Legs.{sentTo, sentAt}
 use Rattle.paper.specs.Advance.{Memory, Advanced, advanceOf}
 use Rattle.facts.specs.Nets.{netIn, rowAt, net-sound}
 use Rattle.order.specs.Calls.{put}
@@ -92,15 +92,15 @@ module _ (net : Words) (lent : Memory) (ok : Lent net lent) where
         let own : k ≡ suc (count a w) = step-is a w k e in
         let near : count (areaAt N (far s) i) w ≤ count a w + d = rw o at (within s) in
         let h = slots-hold net lent ok (far s) i there line w in
-        let h′ : Holds (storeOf (far s) (at w)) (offset N i) (places d depth) (count (areaAt N (far s) i) w) (Sent net from0 w (far s) i) = rw (line-slots N i line) at h in
+        let h′ : Holds (storeOf (far s) (at w)) (offset N i) (places d (depth (N .head) (rowAt N i))) (count (areaAt N (far s) i) w) (Sent net from0 w (far s) i) = rw (line-slots N i line) at h in
         rw (line-slots N i line)
-        (holds-read (storeOf (far s) (at w)) (offset N i) d depth (count (areaAt N (far s) i) w) (count a w) (Sent net from0 w (far s) i) (f .travels i line) h′
+        (holds-read (storeOf (far s) (at w)) (offset N i) d (depth (N .head) (rowAt N i)) (count (areaAt N (far s) i) w) (count a w) (Sent net from0 w (far s) i) (f .travels i line) h′
         (omega (arith, ahead s o)) near (k - d) (omega arith) (omega arith) (omega arith))
 
     -- T-received
     pub received : (s : Side) → areaAt N s i ≡ a → Receives net from0 w k s i
-    unfolding sentTo
-    received s o = record { early = λ l. rw (le-ltb d k l); later = λ l. rw (lt-ltb d k l) (heard s o l) }
+    unfolding sentTo sentAt
+    received s o = record { early = λ l. rw (le-ltb 0 (k - d) (omega arith)); later = λ l. rw (lt-ltb 0 (k - d) (omega arith)) (heard s o l) }
 
   -- ---- there is one accepted step x of an area in a run
 

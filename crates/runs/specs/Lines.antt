@@ -1,6 +1,7 @@
 -- T-received in voltages and currents alone: at an accepted step k of a run, the current of a line's end is g·v, less what the far end's g·v and
 -- current came to at its own accepted step k - d of that run. No store is spoken of. Assumes nothing.
 use Prim.Native.Nat.{ℕ, _-_, _≤_, _<_}
+use native.Mathlib.Omega.{arith}
 use mathlib.Core.Path.{_≡_, refl, sym, ap, _∙_}
 use mathlib.Core.Bool.{true}
 use mathlib.Core.List.{List}
@@ -11,7 +12,7 @@ use Rattle.paper.specs.declared.Advance.the-variants.{Took}
 use Rattle.whole.specs.Lists.{Words, word}
 use Rattle.paper.specs.Rows.{isLine}
 use Rattle.paper.specs.Areas.{Net}
-use Rattle.paper.specs.Legs.{sentTo}
+use Rattle.paper.specs.Legs.{sentTo, sentAt}
 use Rattle.paper.specs.Advance.{Memory, advanceOf}
 use Rattle.facts.specs.Nets.{netIn, rowAt}
 use Rattle.local.specs.Slots.{delayAt, slotOf}
@@ -64,9 +65,9 @@ module _ (net : Words) (lent : Memory) (ok : Lent net lent) (a : ℕ) (w : List 
   end-law before b x q toSide i h l o = step net b before x q .to-end i h l o
 
   heard-is : (s : Side) (i : ℕ) → delayAt N i < k → hears N m k s i ≡ sentBy N m (far s) i (k - delayAt N i)
-  unfolding sentTo sentBy
-  heard-is fromSide i h = rw (lt-ltb (delayAt N i) k h)
-  heard-is toSide i h = rw (lt-ltb (delayAt N i) k h)
+  unfolding sentTo sentAt sentBy
+  heard-is fromSide i h = rw (lt-ltb 0 (k - delayAt N i) (omega arith))
+  heard-is toSide i h = rw (lt-ltb 0 (k - delayAt N i) (omega arith))
 
   store-is : (p : Memory) (s : Side) (i x : ℕ) (y : ℤ) → y ≡ word (storeOf s p) (slotOf N i x) → y ≡ sentBy N p s i x
   unfolding sentBy

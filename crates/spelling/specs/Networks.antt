@@ -160,16 +160,16 @@ module _ (net : Words) (e : isNetwork net ≡ true) where
   head-few = rw (study-fields, length-take) (omega arith)
 
   said : Sayables true (head ∷ rows)
-  said = (sayable true 0 [] head t head-few, beq-same true (isStudy head) (t .study), rows-said rows (λ i h. let u = row-taken head rows i pass h in (sayable false _ _ _ u (rows-few _ (drop 8 net) i h), u .study)))
+  said = (sayable true [] [] head t head-few, beq-same true (isStudy head) (t .study), rows-said rows (λ i h. let u = row-taken head rows i pass h in (sayable false _ _ _ u (rows-few _ (drop 8 net) i h), u .study)))
     where
-      t : Taken true 0 [] head
+      t : Taken true [] [] head
       t = head-taken head rows pass
 
   short : every fits121 (map spellLine (head ∷ rows) ++ ([] ∷ [])) ≡ true
   unfolding every
   short =
       every-append fits121 (map spellLine (head ∷ rows)) ([] ∷ [])
-      ∙ both (both (line-short true 0 [] head (head-taken head rows pass) head-few) (rows-short rows (λ i h. line-short false _ _ _ (row-taken head rows i pass h) (rows-few _ (drop 8 net) i h)))) last-short
+      ∙ both (both (line-short true [] [] head (head-taken head rows pass) head-few) (rows-short rows (λ i h. line-short false _ _ _ (row-taken head rows i pass h) (rows-few _ (drop 8 net) i h)))) last-short
 
   -- 82 pieces of fewer than 121 bytes
   text-fits : length (spellText (head ∷ rows)) ≤ Limits.textEnd

@@ -13,7 +13,7 @@ use Rattle.whole.specs.Folds.{both, fold-keeps}
 use Rattle.paper.specs.declared.Reading.{Reading}
 use Rattle.paper.specs.declared.Reading.the-variants.{Double, Full}
 use Rattle.paper.specs.Limits as Limits
-use Rattle.paper.specs.Rows.{Row, isStudy, stepLength}
+use Rattle.paper.specs.Rows.{Row, isStudy}
 use Rattle.paper.specs.Faults.{nodeFault, valueFault, travelFault, doubleFault, fullFault, lineFault, rowFault}
 use Rattle.paper.specs.Text.{LF, split, formed, rowOf}
 use Rattle.paper.specs.Network.{Table}
@@ -150,8 +150,8 @@ row-no-form : (seen : Table) (r : Row) → rowFault seen r ≢ 1
 unfolding rowFault lineFault
 row-no-form seen r =
     let before = tail seen in
-    let step = stepLength (getD seen 0 []) in
-    fault-number (nodeFault r) (valueFault step r) (travelFault step r) (doubleFault before r) (fullFault step before r)
+    let head = getD seen 0 [] in
+    fault-number (nodeFault r) (valueFault head r) (travelFault head r) (doubleFault before r) (fullFault head before r)
 
 OtherThanForm : Lines → Type 0
 OtherThanForm (good t) = Unit {0}

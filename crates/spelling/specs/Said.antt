@@ -77,9 +77,9 @@ tail-most : (r : Row) (n : ℕ) → length r ≤ suc n → length (tail r) ≤ n
 tail-most [] n h = omega arith
 tail-most (x ∷ r) n h = omega arith
 
-module _ (first : Bool) (step : ℕ) (before : List Row) (r : Row) (t : Taken first step before r) (few : length r ≤ suc (length (fieldsOf (kind r)))) where
+module _ (first : Bool) (head : Row) (before : List Row) (r : Row) (t : Taken first head before r) (few : length r ≤ suc (length (fieldsOf (kind r)))) where
   range : InRange r
-  range = in-range step r (t .clean .node) (t .clean .value)
+  range = in-range head r (t .clean .node) (t .clean .value)
 
   long : length (tail r) ≡ length (fieldsOf (kind r))
   long = omega (arith, range .there, tail-most r (length (fieldsOf (kind r))) few)
@@ -151,14 +151,14 @@ word-short (suc (suc (suc (suc (suc (suc zero)))))) = refl
 word-short (suc (suc (suc (suc (suc (suc (suc zero))))))) = refl
 word-short (suc (suc (suc (suc (suc (suc (suc (suc k)))))))) = refl
 
-module _ (first : Bool) (step : ℕ) (before : List Row) (r : Row) (t : Taken first step before r) (few : length r ≤ suc (length (fieldsOf (kind r)))) where
+module _ (first : Bool) (head : Row) (before : List Row) (r : Row) (t : Taken first head before r) (few : length r ≤ suc (length (fieldsOf (kind r)))) where
   pub line-short : ltb (length (spellLine r)) 121 ≡ true
   unfolding spellLine every
   line-short =
       let n : length (map spell (tail r)) ≡ length (tail r) = length-map (tail r) spell in
-      let w = long first step before r t few in
+      let w = long first head before r t few in
       let p : every short (wordOf (kind r) ∷ map spell (tail r)) ≡ true =
-      both (word-short (kind r)) (numbers-short (fieldsOf (kind r)) (tail r) w (fields-small (kind r)) (held first step before r t few)) in
+      both (word-short (kind r)) (numbers-short (fieldsOf (kind r)) (tail r) w (fields-small (kind r)) (held first head before r t few)) in
       let l = join-length TAB 20 (wordOf (kind r) ∷ map spell (tail r)) p in
       let a = arity-most (kind r) in
       lt-ltb (length (join TAB (wordOf (kind r) ∷ map spell (tail r)))) 121 (omega arith)

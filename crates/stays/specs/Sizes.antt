@@ -18,7 +18,7 @@ use Rattle.paper.specs.Rows.{Row, isBranch, isLine, isL, isC, from, to}
 use Rattle.paper.specs.Conductance.{conductance}
 use Rattle.paper.specs.Areas.{Net, rowArea, step}
 use Rattle.paper.specs.Records.{historyAt, slotCount}
-use Rattle.paper.specs.Legs.{Leg, idle, otherEnd, Branch, branch, Heard, here, sentTo, heardBy, heard, isOpen, conducts, lineEnd, lineLegs, plainLegs, legsBy, legsOf, through, current, passedOn}
+use Rattle.paper.specs.Legs.{Leg, idle, otherEnd, Branch, branch, Heard, here, sentTo, sentAt, heardBy, heard, isOpen, conducts, lineEnd, lineLegs, plainLegs, legsBy, legsOf, through, current, passedOn}
 use Rattle.paper.specs.Solve.{beyond, firstBeyond}
 use Rattle.paper.specs.Advance.{Memory}
 use Rattle.facts.specs.Nets.{NetSound, rowAt}
@@ -59,8 +59,8 @@ cond-size false x m h = omega arith
 
 module _ (N : Net) (m : Memory) (f : Formed N m) (s : NetSound N) (a k : ℕ) where
   sent-size : (i : ℕ) (st : Words) → ((j : ℕ) → natAbs (word st j) ≤ slotEnd N j) → natAbs (sentTo N k i (rowAt N i) st) ≤ Limits.historyEnd
-  unfolding sentTo
-  sent-size i st h = let j = slotOf N i (k - delayAt N i) in cond-size (ltb (delayAt N i) k) (word st j) Limits.historyEnd (omega (arith, h j, slot-most N j))
+  unfolding sentTo sentAt
+  sent-size i st h = let j = slotOf N i (k - delayAt N i) in cond-size (ltb 0 (k - delayAt N i)) (word st j) Limits.historyEnd (omega (arith, h j, slot-most N j))
 
   pub record HeardRanged (e : Heard) : Type 0 where
     pub atFrom : natAbs (e .atFrom) ≤ Limits.historyEnd
@@ -100,9 +100,9 @@ module _ (N : Net) (m : Memory) (f : Formed N m) (s : NetSound N) (a k : ℕ) wh
   end-ranged true n g h p q = record { g = p; h = q }
   end-ranged false n g h p q = idle-ranged
 
-  open-most : (i : ℕ) → isBranch (rowAt N i) ≡ true → conducts (step N) k (rowAt N i) ≤ Limits.conductanceEnd
+  open-most : (i : ℕ) → isBranch (rowAt N i) ≡ true → conducts N (m .records) k i ≤ Limits.conductanceEnd
   unfolding conducts
-  open-most i e = go (isOpen k (rowAt N i))
+  open-most i e = go (isOpen N (m .records) k i)
     where
       go : (b : Bool) → cond b 0 (conductance (step N) (rowAt N i)) ≤ Limits.conductanceEnd
       go true = omega arith

@@ -15,7 +15,7 @@ use Rattle.paper.specs.Answers.{accepted}
 use Rattle.paper.specs.Rows.{from, to, steps}
 use Rattle.paper.specs.Areas.{Net, areaOf, areaCount}
 use Rattle.paper.specs.Records.{countAt, countOf, wellFormed}
-use Rattle.paper.specs.Legs.{Heard, heard, legsBy}
+use Rattle.paper.specs.Legs.{Branch, Heard, heard, legsBy}
 use Rattle.paper.specs.Solve.{stop, move, solve}
 use Rattle.paper.specs.Advance.{Memory, written, onNet}
 use Rattle.paper.specs.Resetting.{fresh}
@@ -88,7 +88,7 @@ module _ (N : Net) (f : Sound N) (m : Memory) (long : Long m) (a k : ℕ) (one :
 
 -- ---- the step
 
-pub stop-move : {x : Advance} {v : Words} → stop x ≡ move v → ⊥
+pub stop-move : {x : Advance} {bs : List Branch} {v : Words} → stop x ≡ move bs v → ⊥
 stop-move e = let z : _≡_ {A = ℕ} 0 1 = cc in omega arith
 
 module _ (N : Net) (s : NetSound N) (a : ℕ) (m : Memory) (long : Long m) (good : wellFormed N (m .records) (m .froms) (m .tos) ≡ true) where
@@ -156,7 +156,7 @@ module _ (N : Net) (s : NetSound N) (a : ℕ) (m : Memory) (long : Long m) (good
               (record { count = n; volts = λ i q e. omega (arith, q .low); froms = λ i l o e. omega arith; tos = λ i l o e. omega arith; histories = λ i l o e. omega arith }))
               (f .signs j h (rw (long .records) (omega arith)))
 
-  solved-small : Solving N a k (legsNow N a m) → solve N a k (legsNow N a m) ≡ move v → large N a k (legsNow N a m) ≡ 0
+  solved-small : Solving N a k (legsNow N a m) → solve N a k (legsNow N a m) ≡ move (legsNow N a m) v → large N a k (legsNow N a m) ≡ 0
   solved-small (floats n p e) q = absurd (stop-move (sym e ∙ q))
   solved-small (leaves n p o e) q = absurd (stop-move (sym e ∙ q))
   solved-small (tips n p o h e) q = absurd (stop-move (sym e ∙ q))

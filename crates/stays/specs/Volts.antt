@@ -54,4 +54,4 @@ proposed-volts legs free still inject = mapped-volts (take (length free) (voltag
 
 pub step-volts : (N : Net) → NetSound N → (a k : ℕ) (bs : List Branch) → AllVolts (voltsOf N a k bs)
 step-volts N s a k bs =
-    settled-volts (freeOf N a) (rounded N a k bs) (stillOf N a k) (proposed-volts (bothLegs bs) (freeOf N a) (stillOf N a k) (injected (N .rows) k)) (still-end N s a k)
+    settled-volts (freeOf N a) (rounded N a k bs) (stillOf N a k) (proposed-volts (bothLegs bs) (freeOf N a) (stillOf N a k) (injected N k)) (still-end N s a k)

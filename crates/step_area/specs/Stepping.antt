@@ -16,7 +16,7 @@ use Rattle.paper.specs.Answers.{accepted}
 use Rattle.paper.specs.Areas.{Net, areaCount, fixed, freeOf}
 use Rattle.paper.specs.Legs.{Leg, leg, Branch, legsOf, heard, bothLegs}
 use Rattle.paper.specs.Floating as Paper
-use Rattle.paper.specs.Solve.{Step, stop, move, solve, solvedStep, stillOf, andFloating}
+use Rattle.paper.specs.Solve.{Step, stop, move, passing, solve, settling, solvedStep, stillOf, andFloating}
 use Rattle.paper.specs.Advance.{Memory, memory, Advanced, advanced, written, finish, takeStep, ready}
 use Rattle.facts.specs.Nets.{NetSound}
 use Rattle.local.specs.Outcome.{Solving, floats, leaves, tips, exceeds, solves, solving, voltsOf}
@@ -98,50 +98,50 @@ floats-paper N a k recs froms tos one =
     ∙ ap (Paper.floating (fixed N) (N .nodes) (freeOf N a)) (bares-of N k recs froms tos (ownEnds N a))
 
 pub floating-step : (N : Net) (a k : ℕ) (m : Memory) (node : ℕ) → 1 ≤ a → node ≡ Serving.floats N a k → (node ≡ 0 → ⊥) → advanced (Floating node) m ≡ ready N a k m
-unfolding ready takeStep solve
+unfolding ready takeStep solve settling
 floating-step N a k m node one e n = by node (e ∙ sym (floats-paper N a k (m .records) (m .froms) (m .tos) one)) n
   where
     by : (i : ℕ) → i ≡ Paper.floating (fixed N) (N .nodes) (freeOf N a) (bothLegs (branches N a k (m .records) (m .froms) (m .tos))) → (i ≡ 0 → ⊥)
-        → advanced (Floating i) m ≡ finish N a k (branches N a k (m .records) (m .froms) (m .tos)) m
-        (andFloating (solvedStep N a k (branches N a k (m .records) (m .froms) (m .tos)) (stillOf N a k)) (Paper.floating (fixed N) (N .nodes) (freeOf N a) (bothLegs (branches N a k (m .records) (m .froms) (m .tos)))))
+        → advanced (Floating i) m ≡ finish N a k m
+        (passing N (andFloating (solvedStep N a k (branches N a k (m .records) (m .froms) (m .tos)) (stillOf N a k)) (Paper.floating (fixed N) (N .nodes) (freeOf N a) (bothLegs (branches N a k (m .records) (m .froms) (m .tos))))))
     by zero q z = absurd (z refl)
     by (suc i) q z = rw (← q)
 
 -- ---- a step that is not taken
-refused-by : (N : Net) (a k : ℕ) (bs : List Branch) (m : Memory) (s : Step) → accepted (answered k s) ≡ false → advanced (answered k s) m ≡ finish N a k bs m s
-refused-by N a k bs m (stop x) e = refl
-refused-by N a k bs m (move v) e = let z : _≡_ {A = ℕ} 0 1 = cc in absurd (omega arith)
+refused-by : (N : Net) (a k : ℕ) (m : Memory) (s : Step) → accepted (answered k s) ≡ false → advanced (answered k s) m ≡ finish N a k m s
+refused-by N a k m (stop x) e = refl
+refused-by N a k m (move bs v) e = let z : _≡_ {A = ℕ} 0 1 = cc in absurd (omega arith)
 
 pub not-taken : (N : Net) (a k : ℕ) (m : Memory) (r : Advance) (v : Words) → Tried k (solve N a k (branches N a k (m .records) (m .froms) (m .tos))) v r
     → accepted r ≡ false → advanced r m ≡ ready N a k m
 unfolding ready takeStep
 not-taken N a k m r v t e =
     let bs = branches N a k (m .records) (m .froms) (m .tos) in
-    rw (t .answer) (refused-by N a k bs m (solve N a k bs) (rw (t .answer) at e))
+    rw (t .answer) (refused-by N a k m (solve N a k bs) (rw (t .answer) at e))
 
 -- ---- a step that is taken
-pub record Taken (k : ℕ) (r : Advance) (v : Words) (s : Step) : Type 0 where
+pub record Taken (k : ℕ) (r : Advance) (bs : List Branch) (v : Words) (s : Step) : Type 0 where
   pub answer : r ≡ Took k
-  pub solved : s ≡ move v
+  pub solved : s ≡ move bs v
 
 module _ (N : Net) (a k : ℕ) (bs : List Branch) (r : Advance) (v : Words) (t : Tried k (solve N a k bs) v r) (e : accepted r ≡ true) where
-  refusal : (x : Advance) → solve N a k bs ≡ stop x → accepted x ≡ false → Taken k r v (solve N a k bs)
+  refusal : (x : Advance) → solve N a k bs ≡ stop x → accepted x ≡ false → Taken k r bs v (solve N a k bs)
   refusal x q f =
       let d : r ≡ x = t .answer ∙ ap (answered k) q in
       let z : _≡_ {A = Bool} true false = sym e ∙ ap accepted d ∙ f in
       absurd (true≢false z)
 
-  pub taken : Taken k r v (solve N a k bs)
+  pub taken : Taken k r bs v (solve N a k bs)
   taken = go (solving N a k bs)
     where
-      go : Solving N a k bs → Taken k r v (solve N a k bs)
+      go : Solving N a k bs → Taken k r bs v (solve N a k bs)
       go (floats n p q) = refusal (Floating (suc n)) q refl
       go (leaves n p o q) = refusal (Range (suc n)) q refl
       go (tips n p o h q) = refusal (Unbalanced (suc n)) q refl
       go (exceeds n p o h b q) = refusal (History _) q refl
-      go (solves p o h b q) = record { answer = t .answer ∙ ap (answered k) q; solved = q ∙ ap move (sym (t .volts (voltsOf N a k bs) q)) }
+      go (solves p o h b q) = record { answer = t .answer ∙ ap (answered k) q; solved = q ∙ ap (move bs) (sym (t .volts bs (voltsOf N a k bs) q)) }
 
-pub taken-step : (N : Net) (a k : ℕ) (m m′ : Memory) (r : Advance) (v : Words) → Taken k r v (solve N a k (branches N a k (m .records) (m .froms) (m .tos)))
+pub taken-step : (N : Net) (a k : ℕ) (m m′ : Memory) (r : Advance) (v : Words) → Taken k r (branches N a k (m .records) (m .froms) (m .tos)) v (solve N a k (branches N a k (m .records) (m .froms) (m .tos)))
     → m′ ≡ written N a k (branches N a k (m .records) (m .froms) (m .tos)) v m → advanced r m′ ≡ ready N a k m
 unfolding ready takeStep
 taken-step N a k m m′ r v t e = rw (t .answer, t .solved, e)
@@ -210,7 +210,7 @@ module _ {N : Net} {low high : ℕ} {plan owns : List (List ℕ)} {legs : List W
     abbrev bs : List Branch
     bs = branches N (turn .area) (turn .k) (m .records) (m .froms) (m .tos)
 
-    took-it : Taken (turn .k) (r .answer) (r .volts) (solve N (turn .area) (turn .k) bs)
+    took-it : Taken (turn .k) (r .answer) bs (r .volts) (solve N (turn .area) (turn .k) bs)
     took-it = taken N a (turn .k) bs (r .answer) (r .volts) (t .tried) e
 
     flows : Flowing N (turn .area) (turn .k) (m .records) (m .froms) (m .tos) (r .volts) lines

@@ -30,7 +30,7 @@ module _ {N : Net} {plan : List (List ℕ)} (p : Planned N plan) (i : ℕ) (h : 
   unfolding rowOf
   place-is = ap (λ (r : Row). r .place) (p .row i h)
 
-  pub slots-is : rowIn plan i .slots ≡ slots (step N) (rowAt N i)
+  pub slots-is : rowIn plan i .slots ≡ slots (N .head) (rowAt N i)
   unfolding rowOf
   slots-is = ap (λ (r : Row). r .slots) (p .row i h)
 

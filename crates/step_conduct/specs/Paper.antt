@@ -14,18 +14,19 @@ use Rattle.paper.specs.Rows.{isBranch, isSwitch}
 use Rattle.paper.specs.Conductance.{conductance}
 use Rattle.paper.specs.Areas.{Net, step}
 use Rattle.paper.specs.Legs.{isOpen, conducts}
-use Rattle.facts.specs.Nets.{NetSound}
+use Rattle.facts.specs.Nets.{NetSound, rowAt}
 use Rattle.plan_ends.specs.Own.{rowOfEnd, ownEnd, endAt, FrameOf, Framed}
 use Rattle.plan_rows.specs.declared.Row.{Row}
 use Rattle.plan_rows.specs.Planned.{rowIn, rowOf, conductanceAt, Planned}
 use Rattle.step_factors.specs.Positions.{stays}
+use Rattle.step_own.specs.Ends.{gAt}
 use Rattle.step_own.specs.EndSizes as Sizes
 use Rattle.step_own.specs.Laid.{Conducting, end-own}
 use Rattle.step_conduct.specs.Conducted.{openOf, conductsOf, rowOfLine, conducted, Stays, Rated, Conducted}
 
-pub never-open : (k : ℕ) (r : Rows.Row) → isSwitch r ≡ false → isOpen k r ≡ false
+pub never-open : (N : Net) (recs : Words) (k i : ℕ) → isSwitch (rowAt N i) ≡ false → isOpen N recs k i ≡ false
 unfolding isOpen
-never-open k r e = rw e
+never-open N recs k i e = rw e
 
 -- a line's frame does not hold its conductance
 frame-stays : {N : Net} {e : ℕ} {l : Words} (x : ℤ) → FrameOf N e l → FrameOf N e (set l 5 x)
@@ -57,20 +58,20 @@ module _ {N : Net} {a : ℕ} {plan : List (List ℕ)} {legs : List Words} (s : N
     unfolding rowOf conductanceAt
     g-is = rw branch
 
-    conducts-is : (k : ℕ) → conductsOf k (rowOf N (endAt N a j / 2)) ≡ conducts (step N) k (rowOfEnd N (endAt N a j))
+    conducts-is : (k : ℕ) → conductsOf k (rowOf N (endAt N a j / 2)) ≡ gAt N k (endAt N a j)
     unfolding conductsOf conducts openOf isOpen rowOf conductanceAt
     conducts-is k = rw branch
 
     -- up to its next change
-    conducts-stays : (k i u : ℕ) → Stays k (rowOf N (endAt N a j / 2)) u u → k ≤ i → i < u → conducts (step N) k (rowOfEnd N (endAt N a j)) ≡ conducts (step N) i (rowOfEnd N (endAt N a j))
+    conducts-stays : (k i u : ℕ) → Stays k (rowOf N (endAt N a j / 2)) u u → k ≤ i → i < u → gAt N k (endAt N a j) ≡ gAt N i (endAt N a j)
     unfolding conducts rowOf
     conducts-stays k i u t l m = by (isSwitch (rowOfEnd N (endAt N a j))) refl
       where
-        by : (b : Bool) → isSwitch (rowOfEnd N (endAt N a j)) ≡ b → conducts (step N) k (rowOfEnd N (endAt N a j)) ≡ conducts (step N) i (rowOfEnd N (endAt N a j))
+        by : (b : Bool) → isSwitch (rowOfEnd N (endAt N a j)) ≡ b → gAt N k (endAt N a j) ≡ gAt N i (endAt N a j)
         by true q =
             let w = eqb-true (Rows.kind (rowOfEnd N (endAt N a j))) 5 q in
-            rw (stays k i (rowOfEnd N (endAt N a j)) l (λ c. omega (arith, t .closes w c)) (λ o. omega (arith, t .opens w o)))
-        by false q = rw (never-open k (rowOfEnd N (endAt N a j)) q, never-open i (rowOfEnd N (endAt N a j)) q)
+            rw (stays N [] k i (endAt N a j / 2) l (λ c. omega (arith, t .closes w c)) (λ o. omega (arith, t .opens w o)))
+        by false q = rw (never-open N [] k (endAt N a j / 2) q, never-open N [] i (endAt N a j / 2) q)
 
   pub rated : Rated plan legs
   rated = record {

@@ -66,18 +66,18 @@ module _ (N : Net) (a k k′ : ℕ) (recs recs′ : Words) (ears ears′ : List 
   bare-line r e e′ =
       rw (bare-end (here N a (from r)) (from r) (conductance (step N) r) (e .atFrom) (e′ .atFrom), bare-end (here N a (to r)) (to r) (conductance (step N) r) (e .atTo) (e′ .atTo))
 
-  bare-plain : (r : Row) (h h′ : ℤ) → isOpen k r ≡ isOpen k′ r → bares (plainLegs N k r h) ≡ bares (plainLegs N k′ r h′)
-  unfolding bares plainLegs conducts
-  bare-plain r h h′ e = rw e
+  bare-plain : (r : Row) (g g′ : ℕ) (h h′ : ℤ) → g ≡ g′ → bares (plainLegs r g h) ≡ bares (plainLegs r g′ h′)
+  unfolding bares plainLegs
+  bare-plain r g g′ h h′ e = rw e
 
-  bare-row : (i : ℕ) → (eqb (rowArea N (getD (N .rows) i [])) a ≡ true → isOpen k (getD (N .rows) i []) ≡ isOpen k′ (getD (N .rows) i []))
+  bare-row : (i : ℕ) → (eqb (rowArea N (getD (N .rows) i [])) a ≡ true → conducts N recs k i ≡ conducts N recs′ k′ i)
       → bares (legsBy N a k recs ears i) ≡ bares (legsBy N a k′ recs′ ears′ i)
   unfolding legsBy
   bare-row i same =
       let r = getD (N .rows) i [] in
-      by-test (isLine r) _ _ _ _ (λ _. bare-line r _ _) (by-test (isBranch r && eqb (rowArea N r) a) _ _ _ _ (λ e. bare-plain r _ _ (same (and-right (isBranch r) _ e))) refl)
+      by-test (isLine r) _ _ _ _ (λ _. bare-line r _ _) (by-test (isBranch r && eqb (rowArea N r) a) _ _ _ _ (λ e. bare-plain r _ _ _ _ (same (and-right (isBranch r) _ e))) refl)
 
-  pub bare-legs : ((i : ℕ) → eqb (rowArea N (getD (N .rows) i [])) a ≡ true → isOpen k (getD (N .rows) i []) ≡ isOpen k′ (getD (N .rows) i []))
+  pub bare-legs : ((i : ℕ) → eqb (rowArea N (getD (N .rows) i [])) a ≡ true → conducts N recs k i ≡ conducts N recs′ k′ i)
       → map bare (bothLegs (legsOf N a k recs ears)) ≡ map bare (bothLegs (legsOf N a k′ recs′ ears′))
   unfolding bares legsOf bothLegs
   bare-legs same = go (numbers 0 (length (N .rows)))
@@ -89,10 +89,13 @@ module _ (N : Net) (a k k′ : ℕ) (recs recs′ : Words) (ears ears′ : List 
           ∙ ap (λ (l : List Leg). bares (legsBy N a k′ recs′ ears′ i) ++ l) (go is)
 
 -- ---- a switch stays where it is up to its next change
-pub stays : (k k′ : ℕ) (r : Row) → k ≤ k′ → (k < closes r → k′ < closes r) → (k < opens r → k′ < opens r) → isOpen k r ≡ isOpen k′ r
+pub stays : (N : Net) (recs : Words) (k k′ i : ℕ) → let r = getD (N .rows) i [] in k ≤ k′ → (k < closes r → k′ < closes r) → (k < opens r → k′ < opens r) → isOpen N recs k i ≡ isOpen N recs k′ i
 unfolding isOpen
-stays k k′ r l c o = rw (closed (decLt k (closes r)), opened (decLt k (opens r)))
+stays N recs k k′ i l c o = rw (closed (decLt k (closes r)), opened (decLt k (opens r)))
   where
+    r : Row
+    r = getD (N .rows) i []
+
     closed : Dec (k < closes r) → leb (closes r) k ≡ leb (closes r) k′
     closed (yes h) = lt-leb (closes r) k h ∙ sym (lt-leb (closes r) k′ (c h))
     closed (no h) = let m : closes r ≤ k = omega arith in le-leb (closes r) k m ∙ sym (le-leb (closes r) k′ (omega arith))

@@ -32,7 +32,7 @@ module _ {N : Net} {plan : List (List ℕ)} (p : Planned N plan) (i : ℕ) (h : 
   unfolding rowOf
   place-is = ap (λ (r : Row). r .place) (p .row i h)
 
-  slots-are : rowIn plan i .slots ≡ slots (step N) (rowAt N i)
+  slots-are : rowIn plan i .slots ≡ slots (N .head) (rowAt N i)
   unfolding rowOf
   slots-are = ap (λ (r : Row). r .slots) (p .row i h)
 

@@ -2,7 +2,7 @@
 use Prim.Native.Nat.{ℕ, _+_, _-_, _*_, _/_, _%_, _≤_, _<_}
 use mathlib.Core.Path.{_≡_, refl, sym, ap, _∙_}
 use mathlib.Core.Bool.{Bool, true, false, cond, _&&_}
-use mathlib.Core.List.{List}
+use mathlib.Core.List.{List, []}
 use native.Mathlib.Omega.{arith}
 use borrow.Author.Tests.{ne-eqb}
 use lib.Dec.{eqb}
@@ -15,7 +15,7 @@ use Rattle.paper.specs.Conductance.{conductance}
 use Rattle.paper.specs.Areas.{Net, rowArea, step}
 use Rattle.paper.specs.Records as Records
 use Rattle.paper.specs.Legs.{Leg, leg, idle, End, otherEnd, Branch, branch, Heard, lineEnd, lineLegs, plainLegs, legsBy, heard, heardBy, here, sentTo, conducts}
-use Rattle.facts.specs.Nets.{rowAt}
+use Rattle.facts.specs.Nets.{rowAt, conducts-same}
 use Rattle.plan_ends.specs.Own.{ownerOf, ownEnd, nearOf, farOf}
 use Rattle.step_own.specs.Ends.{facing, farStore, hAt, endLeg, line-conducts}
 
@@ -58,22 +58,22 @@ module _ (N : Net) (a k : ℕ) (recs froms tos : Words) (i : ℕ) (l : i < lengt
   abbrev atSide : ℕ → Leg
   atSide side =
       cond (eqb (ownerOf N r side) a)
-      (leg (nat (word r side)) (cond (isLine r) 0 (nat (word r (3 - side)))) (conducts (step N) k r) (cond (isLine r) (sentTo N k i r (farStore side froms tos)) (facing side (word recs (Records.historyAt i)))))
+      (leg (nat (word r side)) (cond (isLine r) 0 (nat (word r (3 - side)))) (conducts N [] k i) (cond (isLine r) (sentTo N k i r (farStore side froms tos)) (facing side (word recs (Records.historyAt i)))))
       idle
 
   -- an end of an R, L, C or SW, or of a source
   module _ (end : Branch → End) (side : ℕ)
-      (p : leg (nat (word r side)) (nat (word r (3 - side))) (conducts (step N) k r) (facing side (word recs (Records.historyAt i))) ≡ end (plainLegs N k r (word recs (Records.historyAt i))) .wire)
+      (p : leg (nat (word r side)) (nat (word r (3 - side))) (conducts N [] k i) (facing side (word recs (Records.historyAt i))) ≡ end (plainLegs r (conducts N recs k i) (word recs (Records.historyAt i))) .wire)
       (q : idle ≡ end (branch r otherEnd otherEnd) .wire) where
     abbrev plain : Leg
-    plain = leg (nat (word r side)) (nat (word r (3 - side))) (conducts (step N) k r) (facing side (word recs (Records.historyAt i)))
+    plain = leg (nat (word r side)) (nat (word r (3 - side))) (conducts N [] k i) (facing side (word recs (Records.historyAt i)))
 
-    by-own : (b : Bool) → cond b plain idle ≡ end (cond b (plainLegs N k r (word recs (Records.historyAt i))) (branch r otherEnd otherEnd)) .wire
+    by-own : (b : Bool) → cond b plain idle ≡ end (cond b (plainLegs r (conducts N recs k i) (word recs (Records.historyAt i))) (branch r otherEnd otherEnd)) .wire
     by-own true = p
     by-own false = q
 
     by-branch : (b : Bool)
-        → cond (eqb (cond b (rowArea N r) 0) a) plain idle ≡ end (cond (b && eqb (rowArea N r) a) (plainLegs N k r (word recs (Records.historyAt i))) (branch r otherEnd otherEnd)) .wire
+        → cond (eqb (cond b (rowArea N r) 0) a) plain idle ≡ end (cond (b && eqb (rowArea N r) a) (plainLegs r (conducts N recs k i) (word recs (Records.historyAt i))) (branch r otherEnd otherEnd)) .wire
     by-branch true = by-own (eqb (rowArea N r) a)
     by-branch false = rw nobody q
 
@@ -86,16 +86,16 @@ module _ (N : Net) (a k : ℕ) (recs froms tos : Words) (i : ℕ) (l : i < lengt
   from-side = by-line (isLine r) refl
     where
       by-line : (b : Bool) → isLine r ≡ b → atSide 1 ≡ legsBy N a k recs ears i .fromEnd .wire
-      by-line true e = rw e (line-end (here N a (from r)) (from r) _ (conductance (step N) r) (sentTo N k i r tos) (getD ears i deaf .atFrom) (line-conducts (step N) k r e) (from-heard e))
-      by-line false e = plain-end (λ b. b .fromEnd) 1 refl refl e
+      by-line true e = rw e (line-end (here N a (from r)) (from r) _ (conductance (step N) r) (sentTo N k i r tos) (getD ears i deaf .atFrom) (line-conducts N [] k i e) (from-heard e))
+      by-line false e = plain-end (λ b. b .fromEnd) 1 (rw (conducts-same N recs [] k i)) refl e
 
   to-side : atSide 2 ≡ legsBy N a k recs ears i .toEnd .wire
   unfolding ownerOf legsBy lineLegs plainLegs facing farStore
   to-side = by-line (isLine r) refl
     where
       by-line : (b : Bool) → isLine r ≡ b → atSide 2 ≡ legsBy N a k recs ears i .toEnd .wire
-      by-line true e = rw e (line-end (here N a (to r)) (to r) _ (conductance (step N) r) (sentTo N k i r froms) (getD ears i deaf .atTo) (line-conducts (step N) k r e) (to-heard e))
-      by-line false e = plain-end (λ b. b .toEnd) 2 refl refl e
+      by-line true e = rw e (line-end (here N a (to r)) (to r) _ (conductance (step N) r) (sentTo N k i r froms) (getD ears i deaf .atTo) (line-conducts N [] k i e) (to-heard e))
+      by-line false e = plain-end (λ b. b .toEnd) 2 (rw (conducts-same N recs [] k i)) refl e
 
   pub from-leg : endLeg N a k recs froms tos (2 * i) ≡ legsBy N a k recs ears i .fromEnd .wire
   unfolding endLeg ownEnd nearOf farOf hAt

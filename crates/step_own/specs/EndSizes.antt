@@ -5,6 +5,7 @@ use native.Mathlib.Omega.{arith}
 use native.Mathlib.Decide.{decLt}
 use mathlib.Core.Path.{_≡_, refl, sym, ap, _∙_}
 use mathlib.Core.Bool.{Bool, true, false, cond, _&&_}
+use mathlib.Core.List.{[]}
 use borrow.Author.Tests.{eqb-true}
 use lib.Dec.{eqb, leb, ltb}
 use lib.ListN.{length}
@@ -17,7 +18,7 @@ use Rattle.paper.specs.Conductance.{conductance}
 use Rattle.paper.specs.Faults.{delay, slots}
 use Rattle.paper.specs.Areas.{Net, areaOf, rowArea, step}
 use Rattle.paper.specs.Records as Records
-use Rattle.paper.specs.Legs.{isOpen, conducts, sentTo}
+use Rattle.paper.specs.Legs.{isOpen, conducts, sentTo, sentAt}
 use Rattle.facts.specs.Fields.{Within}
 use Rattle.facts.specs.Sound.{BranchSound}
 use Rattle.facts.specs.Nets.{NetSound, rowAt, row-area-from, row-area-to}
@@ -77,15 +78,15 @@ module _ (N : Net) (s : NetSound N) (a : ℕ) (one : 1 ≤ a) (e : ℕ) (l : e <
 
   pub g-most : (k : ℕ) → gAt N k e ≤ Limits.conductanceEnd
   unfolding conducts
-  g-most k = by (isOpen k r)
+  g-most k = by (isOpen N [] k (e / 2))
     where
       by : (b : Bool) → cond b 0 (conductance (step N) r) ≤ Limits.conductanceEnd
       by true = omega arith
       by false = own-sound .gMost
 
   pub h-most : {recs froms tos : Words} → Kept recs froms tos → (k : ℕ) → natAbs (hAt N k recs froms tos e) ≤ Limits.historyEnd
-  unfolding hAt sentTo facing farStore
-  h-most {recs} {froms} {tos} kept k = by (isLine r) (eqb (sideOfEnd e) 1) (ltb (delay (step N) r) k) (Records.offset N (e / 2) + (k - delay (step N) r) % slots (step N) r)
+  unfolding hAt sentTo sentAt facing farStore
+  h-most {recs} {froms} {tos} kept k = by (isLine r) (eqb (sideOfEnd e) 1) (ltb 0 (k - delay (step N) r)) (Records.offset N (e / 2) + (k - delay (step N) r) % slots (N .head) r)
     where
       by : (b f t : Bool) (j : ℕ) → natAbs (cond b (cond t (word (cond f tos froms) j) z) (cond f (word recs (Records.historyAt (e / 2))) (negℤ (word recs (Records.historyAt (e / 2)))))) ≤ Limits.historyEnd
       by true true true j = kept .to-sent j

@@ -2,17 +2,19 @@
 use Prim.Native.Nat.{ℕ, _/_, _%_, _≤_, _<_}
 use mathlib.Core.Path.{_≡_}
 use mathlib.Core.Bool.{Bool, true, false, cond}
+use mathlib.Core.List.{[]}
 use borrow.Author.Tests.{eqb-true}
 use lib.Dec.{eqb}
 use lib.ListN.{length}
 use lib.IntN.{ℤ, pos, negℤ, natAbs}
 use Rattle.whole.specs.Lists.{Words, z, word}
 use Rattle.paper.specs.Limits as Limits
-use Rattle.paper.specs.Rows.{Row, kind, isLine}
+use Rattle.paper.specs.Rows.{kind, isLine}
 use Rattle.paper.specs.Conductance.{conductance}
 use Rattle.paper.specs.Areas.{Net, step}
 use Rattle.paper.specs.Records as Records
 use Rattle.paper.specs.Legs.{Leg, leg, idle, isOpen, conducts, sentTo}
+use Rattle.facts.specs.Nets.{rowAt}
 use Rattle.plan_ends.specs.Own.{rowOfEnd, sideOfEnd, ownEnd, nearOf, farOf}
 use Rattle.step_legs.specs.declared.Wire.{Wire}
 
@@ -24,8 +26,9 @@ facing side h = cond (eqb side 1) h (negℤ h)
 unfoldable pub farStore : ℕ → Words → Words → Words
 farStore side froms tos = cond (eqb side 1) tos froms
 
+-- whatever the records hold (`conducts-same`)
 abbrev pub gAt : Net → ℕ → ℕ → ℕ
-gAt N k e = conducts (step N) k (rowOfEnd N e)
+gAt N k e = conducts N [] k (e / 2)
 
 unfoldable pub hAt : Net → ℕ → Words → Words → Words → ℕ → ℤ
 hAt N k recs froms tos e =
@@ -49,9 +52,9 @@ unfoldable pub endLeg : Net → ℕ → ℕ → Words → Words → Words → �
 endLeg N a k recs froms tos e = cond (ownEnd N a e) (legOfEnd N k recs froms tos e) idle
 
 -- a line is no switch
-pub line-conducts : (step k : ℕ) (r : Row) → isLine r ≡ true → conducts step k r ≡ conductance step r
+pub line-conducts : (N : Net) (recs : Words) (k i : ℕ) → isLine (rowAt N i) ≡ true → conducts N recs k i ≡ conductance (step N) (rowAt N i)
 unfolding conducts isOpen
-line-conducts step k r e = rw (eqb-true (kind r) 4 e)
+line-conducts N recs k i e = rw (eqb-true (kind (rowAt N i)) 4 e)
 
 -- ---- what is known where legs are laid: the lent memory has its lengths, and histories and sent values their range
 pub record Kept (records froms tos : Words) : Type 0 where

@@ -17,7 +17,7 @@ use Rattle.paper.specs.Limits as Limits
 use Rattle.paper.specs.Rows.{Row, isVS, isIS, isSource, at}
 use Rattle.paper.specs.Faults.{fixes}
 use Rattle.paper.specs.Areas.{Net, areaOf}
-use Rattle.paper.specs.Sources.{source, risen, held, injected}
+use Rattle.paper.specs.Sources.{ramp, risen, source, held, injected}
 use Rattle.paper.specs.Solve.{stillOf}
 use Rattle.facts.specs.Fields.{wider}
 use Rattle.facts.specs.Sound.{SourceSound}
@@ -70,7 +70,7 @@ own-sources N s a =
 -- those that pass by their kind
 module _ (N : Net) (a k : ℕ) (p : Row → Bool) (lined : (r : Row) → p (sourceLine r) ≡ p r) (some : (r : Row) → p r ≡ true → isSource r ≡ true) where
   by-row : (n : ℕ) (r : Row) → cond (ownSource N a r) (share p k n (sourceLine r)) z ≡ cond (eqb (areaOf N n) a) (share p k n r) z
-  unfolding ownSource sourceLine source risen
+  unfolding ownSource sourceLine ramp risen
   by-row n r = rw (lined r) (by (p r && eqb (at r) n) refl)
     where
       never : (b : Bool) → cond b z z ≡ z
@@ -78,7 +78,7 @@ module _ (N : Net) (a k : ℕ) (p : Row → Bool) (lined : (r : Row) → p (sour
       never false = refl
 
       by : (b : Bool) → (p r && eqb (at r) n) ≡ b
-          → cond (isSource r && eqb (areaOf N (at r)) a) (cond b (source k r) z) z ≡ cond (eqb (areaOf N n) a) (cond b (source k r) z) z
+          → cond (isSource r && eqb (areaOf N (at r)) a) (cond b (ramp k r) z) z ≡ cond (eqb (areaOf N n) a) (cond b (ramp k r) z) z
       by true e = rw (some r (and-left (p r) (eqb (at r) n) e), eqb-true (at r) n (and-right (p r) (eqb (at r) n) e))
       by false e = never (isSource r && eqb (areaOf N (at r)) a) ∙ sym (never (eqb (areaOf N n) a))
 
@@ -92,12 +92,12 @@ module _ (N : Net) (a k : ℕ) (p : Row → Bool) (lined : (r : Row) → p (sour
       ∙ total-if (eqb (areaOf N n) a) (share p k n) (N .rows)
 
 module _ (N : Net) (s : NetSound N) (a k : ℕ) (one : 1 ≤ a) where
-  pub own-injected : (n : ℕ) → areaOf N n ≡ a → word (given isIS k (sourceLines N a)) n ≡ injected (N .rows) k n
-  unfolding injected sourceLine
+  pub own-injected : (n : ℕ) → areaOf N n ≡ a → word (given isIS k (sourceLines N a)) n ≡ injected N k n
+  unfolding source injected sourceLine
   own-injected n e = own-at N a k isIS (λ r. refl) is-source n (le-trans (area-node N s a one n e .1) (s .nodeMost)) ∙ rw (eq-eqb (areaOf N n) a e)
 
   pub own-still : given isVS k (sourceLines N a) ≡ stillOf N a k
-  unfolding held fixes sourceLine
+  unfolding source held fixes sourceLine
   own-still =
       let long = given-length isVS k (sourceLines N a) in
       ext-getD z (given isVS k (sourceLines N a)) (stillOf N a k) (long ∙ sym (still-length N s a k))

@@ -8,7 +8,7 @@ use lib.IntN.{ℤ, pos, natAbs, _+ℤ_}
 use Rattle.whole.specs.Lists.{Words, z, word, nat, fold}
 use Rattle.paper.specs.Limits as Limits
 use Rattle.paper.specs.Rows.{Row, kind, at, peak, start, rise}
-use Rattle.paper.specs.Sources.{source}
+use Rattle.paper.specs.Sources.{ramp}
 use Rattle.facts.specs.Sound.{SourceSound}
 use Rattle.step_sources.specs.declared.Source.{Source}
 
@@ -26,7 +26,7 @@ pub record Sources (sources : List Words) : Type 0 where
 
 -- the value goes by peak, start and rise alone
 abbrev pub valueOf : ℤ → ℕ → ℕ → ℕ → ℤ
-valueOf peak start rise k = source k (z ∷ z ∷ peak ∷ pos start ∷ pos rise ∷ [])
+valueOf peak start rise k = ramp k (z ∷ z ∷ peak ∷ pos start ∷ pos rise ∷ [])
 
 -- ---- by node
 
@@ -35,7 +35,7 @@ none = replicate (suc Limits.nodeEnd) z
 
 -- a source that passes gives its value to its node
 unfoldable pub give : (Row → Bool) → ℕ → Words → Row → Words
-give p k w r = cond (p r) (set w (at r) (word w (at r) +ℤ source k r)) w
+give p k w r = cond (p r) (set w (at r) (word w (at r) +ℤ ramp k r)) w
 
 unfoldable pub given : (Row → Bool) → ℕ → List Row → Words
 given p k rows = fold (give p k) none rows

@@ -11,24 +11,24 @@ use Rattle.whole.specs.Lists.{z}
 use Rattle.whole.specs.Size.{∣_∣≤_, mul, fits}
 use Rattle.paper.specs.Limits as Limits
 use Rattle.paper.specs.Rows.{Row, peak, start, rise}
-use Rattle.paper.specs.Sources.{source, risen}
+use Rattle.paper.specs.Sources.{ramp, risen}
 use Rattle.step_sources.specs.Table.{valueOf}
 
 module _ (p : ℤ) (s d k : ℕ) where
   pub is-before : k < s → z ≡ valueOf p s d k
-  unfolding source
+  unfolding ramp
   is-before h = rw (lt-ltb k s h)
 
   pub is-during : s ≤ k → k - s < d → quotZ (p *ℤ pos (k - s)) (pos d) ≡ valueOf p s d k
-  unfolding source risen
+  unfolding ramp risen
   is-during h l = rw (le-ltb k s h, lt-ltb (k - s) d l)
 
   pub is-after : s ≤ k → d ≤ k - s → p ≡ valueOf p s d k
-  unfolding source risen
+  unfolding ramp risen
   is-after h l = rw (le-ltb k s h, le-ltb (k - s) d l)
 
-pub row-value : (k : ℕ) (r : Row) → valueOf (peak r) (start r) (rise r) k ≡ source k r
-unfolding source risen
+pub row-value : (k : ℕ) (r : Row) → valueOf (peak r) (start r) (rise r) k ≡ ramp k r
+unfolding ramp risen
 row-value k r = refl
 
 -- the product, on the way up: 2·10^15 · 1,000

@@ -188,22 +188,22 @@ module _ {N : Net} {a : ℕ} {plan : List (List ℕ)} {sources : List Words} {fr
       ∙ ap (floating (fixed N) (N .nodes) (freeOf N a)) (bares-are (l .conducting))
       ∙ t .serving .grounded)
 
-  module _ (inject : Words) (same : (n : ℕ) → areaOf N n ≡ a → word inject n ≡ injected (N .rows) (at .k) n) where
-    at-free : (i : ℕ) → i < length (freeOf N a) → word inject (getD (freeOf N a) i 0) ≡ injected (N .rows) k (getD (freeOf N a) i 0)
+  module _ (inject : Words) (same : (n : ℕ) → areaOf N n ≡ a → word inject n ≡ injected N (at .k) n) where
+    at-free : (i : ℕ) → i < length (freeOf N a) → word inject (getD (freeOf N a) i 0) ≡ injected N k (getD (freeOf N a) i 0)
     at-free i h = same (getD (freeOf N a) i 0) (free-node N (t .sound) a i h .1)
 
-    proposed-is : (still : Words) → proposed (legsIn lines) free still (λ p. word inject p) ≡ proposed (bothLegs bs) (freeOf N a) still (injected (N .rows) k)
-    proposed-is still = rw (legs-are l, t .free-are) (Own.own-proposed N a k recs froms tos (t .one) (freeOf N a) (λ p. word inject p) (injected (N .rows) k) at-free still)
+    proposed-is : (still : Words) → proposed (legsIn lines) free still (λ p. word inject p) ≡ proposed (bothLegs bs) (freeOf N a) still (injected N k)
+    proposed-is still = rw (legs-are l, t .free-are) (Own.own-proposed N a k recs froms tos (t .one) (freeOf N a) (λ p. word inject p) (injected N k) at-free still)
 
-    unbalanced-is : (v : Words) → unbalanced (nat (at .limit)) (legsIn lines) (λ p. word inject p) v free ≡ unbalanced (Rows.limit (N .head)) (bothLegs bs) (injected (N .rows) k) v (freeOf N a)
+    unbalanced-is : (v : Words) → unbalanced (nat (at .limit)) (legsIn lines) (λ p. word inject p) v free ≡ unbalanced (Rows.limit (N .head)) (bothLegs bs) (injected N k) v (freeOf N a)
     unbalanced-is v =
-        rw (t .limit, legs-are l, t .free-are) (Own.own-unbalanced N a k recs froms tos (t .one) (freeOf N a) (λ p. word inject p) (injected (N .rows) k) at-free (Rows.limit (N .head)) v)
+        rw (t .limit, legs-are l, t .free-are) (Own.own-unbalanced N a k recs froms tos (t .one) (freeOf N a) (λ p. word inject p) (injected N k) at-free (Rows.limit (N .head)) v)
 
     beyond-is : (v : Words) → firstBy v (wiresIn lines) ≡ firstBeyond v 0 bs
     beyond-is v = rw (wires-are l) (first-is N a k recs froms tos (t .one) v)
 
     abbrev range : ℕ
-    range = outOfRange (freeOf N a) (proposed (bothLegs bs) (freeOf N a) (stillOf N a k) (injected (N .rows) k))
+    range = outOfRange (freeOf N a) (proposed (bothLegs bs) (freeOf N a) (stillOf N a k) (injected N k))
 
     module _ {still v : Words} {node : ℕ} (e : still ≡ stillOf N a (at .k)) (s : Solved free (proposed (legsIn lines) free still (λ p. word inject p)) still v node) where
       range-is : node ≡ range
@@ -211,7 +211,7 @@ module _ {N : Net} {a : ℕ} {plan : List (List ℕ)} {sources : List Words} {fr
 
       -- 15
       pub tries-range : {w : Words} → (node ≡ 0 → ⊥) → Tried k (solve N a k bs) w (Range node)
-      tries-range n = tried-stop k (solve-turns N a k bs grounded ∙ rw (sym range-is) (on-range N (found N a k bs) node (unbalanced (Rows.limit (N .head)) (bothLegs bs) (injected (N .rows) k) (found N a k bs) (freeOf N a)) (firstBeyond (found N a k bs) 0 bs) n))
+      tries-range n = tried-stop k (solve-turns N a k bs grounded ∙ rw (sym range-is) (on-range N bs (found N a k bs) node (unbalanced (Rows.limit (N .head)) (bothLegs bs) (injected N k) (found N a k bs) (freeOf N a)) n))
 
       volts-are : node ≡ 0 → v ≡ found N a k bs
       volts-are z = s .volts z ∙ rw (proposed-is still, t .free-are, e)
@@ -227,7 +227,7 @@ module _ {N : Net} {a : ℕ} {plan : List (List ℕ)} {sources : List Words} {fr
           none : range ≡ 0
           none = sym range-is ∙ z
 
-          turns : solve N a k bs ≡ inTurn N (found N a k bs) range (unbalanced (Rows.limit (N .head)) (bothLegs bs) (injected (N .rows) k) (found N a k bs) (freeOf N a)) (firstBeyond (found N a k bs) 0 bs)
+          turns : solve N a k bs ≡ inTurn N bs (found N a k bs) range (unbalanced (Rows.limit (N .head)) (bothLegs bs) (injected N k) (found N a k bs) (freeOf N a))
           turns = solve-turns N a k bs grounded
 
           number : (h : ℕ) → suc h ≤ 0 + length bs → rowIn plan (suc h - 1) .number ≡ branchNumber N (suc h)
@@ -235,13 +235,13 @@ module _ {N : Net} {a : ℕ} {plan : List (List ℕ)} {sources : List Words} {fr
               let o : suc h - 1 ≡ h = omega arith in
               rw o (ap (λ (x : Row). x .number) (t .planned .row h (omega (arith, legs-length N a k recs (heard N a k froms tos)))))
 
-          go : (b h : ℕ) → b ≡ unbalanced (Rows.limit (N .head)) (bothLegs bs) (injected (N .rows) k) (found N a k bs) (freeOf N a) → h ≡ firstBeyond (found N a k bs) 0 bs
+          go : (b h : ℕ) → b ≡ unbalanced (Rows.limit (N .head)) (bothLegs bs) (injected N k) (found N a k bs) (freeOf N a) → h ≡ firstBeyond (found N a k bs) 0 bs
               → r ≡ inFlow k b h (rowIn plan (h - 1) .number) → Tried k (solve N a k bs) v r
-          go (suc b) h x y w = rw w (tried-stop k (turns ∙ rw (sym x) (on-balance N (found N a k bs) (suc b) (firstBeyond (found N a k bs) 0 bs) none (λ o. omega arith))))
+          go (suc b) h x y w = rw w (tried-stop k (turns ∙ rw (sym x) (on-balance N bs (found N a k bs) (suc b) none (λ o. omega arith))))
           go zero (suc h) x y w =
               let m : suc h ≤ 0 + length bs = omega (arith, y, beyond-most (found N a k bs) 0 bs) in
-              rw w (tried-stop k (turns ∙ rw (sym x, sym y) (on-history N (found N a k bs) {b = 0} (suc h) none refl (λ o. omega arith) ∙ ap (λ (n : ℕ). stop (History n)) (sym (number h m)))))
-          go zero zero x y w = rw w (tried-move k (turns ∙ rw (sym x, sym y) (on-none N (found N a k bs) {b = 0} {h = 0} none refl refl)) (volts-are z))
+              rw w (tried-stop k (turns ∙ rw (sym x) (on-history N bs (found N a k bs) {b = 0} (suc h) none refl y (λ o. omega arith) ∙ ap (λ (n : ℕ). stop (History n)) (sym (number h m)))))
+          go zero zero x y w = rw w (tried-move k (turns ∙ rw (sym x) (on-none N bs (found N a k bs) {b = 0} none refl (sym y))) (volts-are z))
 
 -- ---- what its parts leave
 module _ {N : Net} {a : ℕ} {plan : List (List ℕ)} {sources : List Words} {free : List ℕ} {legs : List Words} {f : List (List Float)} {recs froms tos : Words} {at : At}
@@ -252,7 +252,7 @@ module _ {N : Net} {a : ℕ} {plan : List (List ℕ)} {sources : List Words} {fr
   pub still-from : {v : Words} → v ≡ given isVS (at .k) sources → v ≡ stillOf N a (at .k)
   still-from e = e ∙ ap (given isVS (at .k)) (t .sources-are) ∙ own-still N (t .sound) a (at .k) (t .one)
 
-  pub inject-from : {inject : Words} → inject ≡ given isIS (at .k) sources → (n : ℕ) → areaOf N n ≡ a → word inject n ≡ injected (N .rows) (at .k) n
+  pub inject-from : {inject : Words} → inject ≡ given isIS (at .k) sources → (n : ℕ) → areaOf N n ≡ a → word inject n ≡ injected N (at .k) n
   inject-from e n q = rw (e, t .sources-are) (own-injected N (t .sound) a (at .k) (t .one) n q)
 
   pub drives : Sources sources

@@ -141,17 +141,17 @@ node-out : (w : Words) → outside true (fieldsOf (kind w)) (tail w) ≡ true �
 unfolding nodeFault
 node-out w e = rw e
 
-value-out : (step : ℕ) (w : Words) → outside false (fieldsOf (kind w)) (tail w) ≡ true → valueFault step w ≡ true
+value-out : (head : Row) (w : Words) → outside false (fieldsOf (kind w)) (tail w) ≡ true → valueFault head w ≡ true
 unfolding valueFault
-value-out step w e = rw e
+value-out head w e = rw e
 
 node-in : (w : Words) → nodeFault w ≡ false → outside true (fieldsOf (kind w)) (tail w) ≡ false
 unfolding nodeFault
 node-in w f = or-left _ _ (or-left _ _ (or-left _ _ f))
 
-value-in : (step : ℕ) (w : Words) → valueFault step w ≡ false → outside false (fieldsOf (kind w)) (tail w) ≡ false
+value-in : (head : Row) (w : Words) → valueFault head w ≡ false → outside false (fieldsOf (kind w)) (tail w) ≡ false
 unfolding valueFault
-value-in step w f = or-left _ _ (or-left _ _ f)
+value-in head w f = or-left _ _ (or-left _ _ f)
 
 module _ (w : Words) (few : 6 ≤ length w) (known : kind w < 8) where
   -- a field that passes is held as it is
@@ -198,20 +198,20 @@ module _ (w : Words) (few : 6 ≤ length w) (known : kind w < 8) where
         at zero h = held-first w
         at (suc j) h = one j (ltb j (namesOf (kind w))) refl
 
-    pub held-fault : (step : ℕ) (before : List Row) → lineFault step before (heldRow w) ≡ lineFault step before w
+    pub held-fault : (head : Row) (before : List Row) → lineFault head before (heldRow w) ≡ lineFault head before w
     unfolding lineFault
-    held-fault step before = by-test (outsideFrom (kind w) 0 (namesOf (kind w)) w) refl (outsideFrom (kind w) (namesOf (kind w)) (length (fieldsOf (kind w))) w) refl
+    held-fault head before = by-test (outsideFrom (kind w) 0 (namesOf (kind w)) w) refl (outsideFrom (kind w) (namesOf (kind w)) (length (fieldsOf (kind w))) w) refl
       where
         by-test : (a : Bool) → outsideFrom (kind w) 0 (namesOf (kind w)) w ≡ a → (b : Bool) → outsideFrom (kind w) (namesOf (kind w)) (length (fieldsOf (kind w))) w ≡ b
-            → lineFault step before (heldRow w) ≡ lineFault step before w
+            → lineFault head before (heldRow w) ≡ lineFault head before w
         by-test true p b q = rw (node-out (heldRow w) (names-out ∙ p), node-out w (sym (outside-names w few (kind w) known) ∙ p))
-        by-test false p true q = rw (node-held p, value-out step (heldRow w) (values-out ∙ q), value-out step w (sym (outside-values w few (kind w) known) ∙ q))
+        by-test false p true q = rw (node-held p, value-out head (heldRow w) (values-out ∙ q), value-out head w (sym (outside-values w few (kind w) known) ∙ q))
         by-test false p false q = rw (all-same p q)
 
     -- a row without fault is held as it is
-    pub held-same : (step : ℕ) (before : List Row) → lineFault step before w ≡ 0 → heldRow w ≡ w
+    pub held-same : (head : Row) (before : List Row) → lineFault head before w ≡ 0 → heldRow w ≡ w
     unfolding lineFault
-    held-same step before e =
+    held-same head before e =
         let n = none-first (nodeFault w) 1 _ e in
-        let v = none-first (valueFault step w) 2 _ (n .1) in
-        all-same (outside-names w few (kind w) known ∙ node-in w (n .0)) (outside-values w few (kind w) known ∙ value-in step w (v .0))
+        let v = none-first (valueFault head w) 2 _ (n .1) in
+        all-same (outside-names w few (kind w) known ∙ node-in w (n .0)) (outside-values w few (kind w) known ∙ value-in head w (v .0))

@@ -12,7 +12,7 @@ use lib.Seq.{take-at}
 use Rattle.whole.specs.Lists.{Words, z, word, empty, filled}
 use Rattle.whole.specs.Folds.{and-left, and-right}
 use Rattle.whole.specs.Filled.{length-filled, getD-filled}
-use Rattle.paper.specs.Rows.{Row, Field, kind, fieldsOf, noKind, isStudy, stepLength}
+use Rattle.paper.specs.Rows.{Row, Field, kind, fieldsOf, noKind, isStudy}
 use Rattle.paper.specs.Faults.{lineFault, rowFault}
 use Rattle.paper.specs.Text.{LF, TAB, split, allSpelt, spelt, numberOf, numbersOf, lineKind, rowOf}
 use Rattle.paper.specs.Network.{Table, rowOfWords}
@@ -127,12 +127,12 @@ module _ (line : List ℕ) (ok : spelled line ≡ true) where
   pub known-held : kind (heldRow trueWords) < 8
   known-held = rw kind-held known
 
-  chain : (step : ℕ) (before : List Row) → lineFault step before (rowOfWords (heldRow trueWords)) ≡ lineFault step before (rowOf line)
-  chain step before =
-      row-line-fault (heldRow trueWords) few-held known-held step before
-      ∙ held-fault trueWords few-true known-true none step before
-      ∙ sym (row-line-fault trueWords few-true known-true step before)
-      ∙ ap (lineFault step before) row-back
+  chain : (head : Row) (before : List Row) → lineFault head before (rowOfWords (heldRow trueWords)) ≡ lineFault head before (rowOf line)
+  chain head before =
+      row-line-fault (heldRow trueWords) few-held known-held head before
+      ∙ held-fault trueWords few-true known-true none head before
+      ∙ sym (row-line-fault trueWords few-true known-true head before)
+      ∙ ap (lineFault head before) row-back
 
   module _ (s : Seen) (t : Table) (h : Stands s t) (place : Bool·beq (empty t) (eqb (lineKind line) 0) ≡ true) where
     first : empty t ≡ isStudy (heldRow trueWords)
@@ -141,15 +141,15 @@ module _ (line : List ℕ) (ok : spelled line ≡ true) where
     -- the fault that is found is the line's
     pub found : seenFault s (heldRow trueWords) ≡ rowFault t (rowOf line)
     unfolding rowFault
-    found = fault-is s (heldRow trueWords) few-held known-held t h first ∙ chain (stepLength (getD t 0 [])) (tail t)
+    found = fault-is s (heldRow trueWords) few-held known-held t h first ∙ chain (getD t 0 []) (tail t)
 
     module _ (right : seenFault s (heldRow trueWords) ≡ 0) where
       -- and without one the row is read as it is
       pub as-it-is : heldRow trueWords ≡ trueWords
       unfolding rowFault
       as-it-is =
-          held-same trueWords few-true known-true none (stepLength (getD t 0 [])) (tail t)
-          (sym (row-line-fault trueWords few-true known-true (stepLength (getD t 0 [])) (tail t)) ∙ ap (lineFault (stepLength (getD t 0 [])) (tail t)) row-back ∙ sym found ∙ right)
+          held-same trueWords few-true known-true none (getD t 0 []) (tail t)
+          (sym (row-line-fault trueWords few-true known-true (getD t 0 []) (tail t)) ∙ ap (lineFault (getD t 0 []) (tail t)) row-back ∙ sym found ∙ right)
 
       pub still-stands : Stands (seenAfter s (heldRow trueWords)) (t ++ (rowOf line ∷ []))
       still-stands =

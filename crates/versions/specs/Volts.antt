@@ -2,7 +2,7 @@
 -- values. Assumes nothing.
 use Prim.Native.Nat.{ℕ, zero, suc, _+_, _-_, _≤_, _<_}
 use native.Mathlib.Omega.{arith}
-use native.Mathlib.Decide.{decLt, decLe}
+use native.Mathlib.Decide.{decLt}
 use mathlib.Core.Path.{_≡_, refl, sym, ap, _∙_}
 use mathlib.Core.Logic.{_≢_, _⊎_, inl, inr}
 use mathlib.Core.Bool.{Bool, true, false, _||_, true≢false}
@@ -15,9 +15,10 @@ use Rattle.paper.specs.declared.Rounded.the-variants.{Whole}
 use Rattle.whole.specs.Folds.{and-left, and-right, none-if}
 use Rattle.whole.specs.Members.{Among}
 use Rattle.whole.specs.Places.{place, place-none, place-least}
-use Rattle.paper.specs.Rows.{Row, kind, isBranch, isL, isC, isLine, isSwitch, isVS, from, to, at, closes, opens}
+use Rattle.paper.specs.Rows.{Row, kind, isBranch, isL, isC, isLine, isSwitch, isVS, from, to, at}
 use Rattle.paper.specs.Faults.{fixes}
 use Rattle.paper.specs.Areas.{Net, rowArea, fixed, freeOf}
+use Rattle.paper.specs.Legs.{isOpen}
 use Rattle.paper.specs.Advance.{Memory}
 use Rattle.facts.specs.Nets.{NetSound, rowAt, row-area-from, row-area-to}
 use Rattle.local.specs.Nodes.{NodeOf, of-free}
@@ -84,12 +85,11 @@ module _ (N : Net) (s : NetSound N) (a k : ℕ) (m n n′ : Memory) (S : Stepped
     O′ = S′ .plain i there b l mine
 
     switch-one : isSwitch r ≡ true → fromCurrent n i ≡ fromCurrent n′ i
-    switch-one e = go (decLe (closes r) k) (decLt k (opens r))
+    switch-one e = go (isOpen N (m .records) k i) refl
       where
-        go : Dec (closes r ≤ k) → Dec (k < opens r) → fromCurrent n i ≡ fromCurrent n′ i
-        go (yes c) (yes o) = O .closed e c o ∙ gu-one ∙ sym (O′ .closed e c o)
-        go (yes c) (no o) = O .opened e (inr (omega arith)) ∙ sym (O′ .opened e (inr (omega arith)))
-        go (no c) o = O .opened e (inl (omega arith)) ∙ sym (O′ .opened e (inl (omega arith)))
+        go : (t : Bool) → isOpen N (m .records) k i ≡ t → fromCurrent n i ≡ fromCurrent n′ i
+        go true o = O .opened e o ∙ sym (O′ .opened e o)
+        go false o = O .closed e o ∙ gu-one ∙ sym (O′ .closed e o)
 
     by-kind : (j : ℕ) → kind r ≡ j → 1 ≤ j → j ≤ 5 → j ≢ 4 → fromCurrent n i ≡ fromCurrent n′ i
     by-kind zero e x y w = absurd (omega arith)

@@ -15,7 +15,7 @@ use Rattle.areas.proofs.join_row.Tie as tie
 abbrev row : tie.Start → Row
 row s = rowAt (netIn (s .args .net .now)) (s .args .i)
 
-sound : (s : tie.Start) → RowSound (step (netIn (s .args .net .now))) (netIn (s .args .net .now) .nodes) (row s)
+sound : (s : tie.Start) → RowSound (netIn (s .args .net .now) .head) (netIn (s .args .net .now) .nodes) (row s)
 sound s = net-sound (s .args .net .now) (s .pre .0) .row (s .args .i) (s .pre .1 .0)
 
 branch : (c : tie.Else2) → isBranch (row (c .before .before .before)) ≡ true

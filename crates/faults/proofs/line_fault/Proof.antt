@@ -3,7 +3,7 @@ use native.Mathlib.Omega.{arith}
 use mathlib.Core.Path.{_≡_, sym, _∙_}
 use mathlib.Core.Bool.{true, false}
 use Rattle.paper.specs.Faults.{nodeFault, valueFault, travelFault}
-use Rattle.faults.specs.Seen.{seenFault, seenDouble, seenFull}
+use Rattle.faults.specs.Seen.{headOf, seenFault, seenDouble, seenFull}
 use Rattle.faults.proofs.line_fault.Statement.{statement}
 use Rattle.faults.proofs.line_fault.Tie as tie
 
@@ -21,10 +21,10 @@ value-fault-requires c κs = let h = c .before .before .pre .1 in search needs
 no-node : (c : tie.Else1) → nodeFault (c .before .before .args .row) ≡ false
 no-node c = sym (c .before .node-fault .ensures) ∙ c .if1 .left
 
-no-value : (c : tie.Else2) → valueFault (c .before .before .before .before .args .seen .step) (c .before .before .before .before .args .row) ≡ false
+no-value : (c : tie.Else2) → valueFault (headOf (c .before .before .before .before .args .seen .step)) (c .before .before .before .before .args .row) ≡ false
 no-value c = sym (c .before .value-fault .ensures) ∙ c .if2 .left
 
-no-travel : (c : tie.Else3) → travelFault (c .before .before .before .before .before .before .args .seen .step) (c .before .before .before .before .before .before .args .row) ≡ false
+no-travel : (c : tie.Else3) → travelFault (headOf (c .before .before .before .before .before .before .args .seen .step)) (c .before .before .before .before .before .before .args .row) ≡ false
 no-travel c = sym (c .before .travel-fault .ensures) ∙ c .if3 .left
 
 no-double : (c : tie.Else4) → seenDouble (c .before .before .before .before .before .before .before .before .args .seen) (c .before .before .before .before .before .before .before .before .args .row) ≡ false

@@ -32,10 +32,10 @@ div-delay c = let s = c .before .before .before .before in omega (arith, s .pre 
 
 -- the row's slots
 slots : (c : tie.After-number2) → let s = c .before .before .before .before in
-    slotsBy (c .before .before .before .kind .result) (c .number2 .result / s .args .step) ≡ Faults.slots (step (netIn (s .args .net .now))) (rowAt (netIn (s .args .net .now)) (s .args .i))
+    slotsBy (c .before .before .before .kind .result) (c .number2 .result / s .args .step) ≡ Faults.slots (netIn (s .args .net .now) .head) (rowAt (netIn (s .args .net .now)) (s .args .i))
 slots c =
     let s = c .before .before .before .before in
-    rw (c .before .before .before .kind .ensures, c .number2 .ensures, s .pre .1 .0 .1) (slots-by (step (netIn (s .args .net .now))) (rowAt (netIn (s .args .net .now)) (s .args .i)))
+    rw (c .before .before .before .kind .ensures, c .number2 .ensures, s .pre .1 .0 .1) (slots-by (netIn (s .args .net .now) .head) (rowAt (netIn (s .args .net .now)) (s .args .i)))
 
 slots-requires : tie.Need-slots-of-requires
 slots-requires c κs =

@@ -9,7 +9,7 @@ use lib.ListN.{length, getD, drop}
 use Rattle.whole.specs.Lists.{Words, fold}
 use Rattle.whole.specs.Folds.{fold-next, fold-end}
 use Rattle.paper.specs.Rows.{Row, isVS, isIS}
-use Rattle.laws_volts.specs.Sources.{source-size}
+use Rattle.laws_volts.specs.Sources.{ramp-size}
 use Rattle.step_sources.specs.Table.{Sources, Room, give, given}
 use Rattle.step_sources.specs.Given.{none-room, room-next}
 use Rattle.step_sources.proofs.drive.Statement.{statement}
@@ -31,7 +31,7 @@ module _ (p : Row → Bool) (k : ℕ) (sources : List Row) (s : Sources sources)
   more : After p k sources j w → w′ ≡ give p k w (getD sources j []) → After p k sources (j + 1) w′
   more a e = record {
     left = fold-next (give p k) sources j [] w w′ _ l e (a .left);
-    room = rw e (room-next p k w (getD sources j []) j (a .room) (le-trans (source-size k (getD sources j [])) (s .sound j l .peakMost)));
+    room = rw e (room-next p k w (getD sources j []) j (a .room) (le-trans (ramp-size k (getD sources j [])) (s .sound j l .peakMost)));
   }
 
 loop-holds : tie.Need-loop-holds Inv-loop μ-loop

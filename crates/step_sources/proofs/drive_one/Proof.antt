@@ -17,9 +17,9 @@ use Rattle.whole.specs.Lists.{Words, word, nat}
 use Rattle.whole.specs.Int.{read64, fits64}
 use Rattle.paper.specs.Limits as Limits
 use Rattle.paper.specs.Rows.{Row, kind, isVS, isIS, at, peak}
-use Rattle.paper.specs.Sources.{source}
+use Rattle.paper.specs.Sources.{ramp}
 use Rattle.facts.specs.Sound.{SourceSound}
-use Rattle.laws_volts.specs.Sources.{source-size}
+use Rattle.laws_volts.specs.Sources.{ramp-size}
 use Rattle.step_sources.specs.declared.Source.{Source}
 use Rattle.step_sources.specs.Table.{Room, give}
 use Rattle.step_sources.specs.Values.{row-value}
@@ -55,11 +55,11 @@ module _ (c : tie.After-source-value) where
   abbrev x : ℤ
   x = toZ w64 (ofZ w64 (c .source-value .result))
 
-  value-is : x ≡ source k (line s)
+  value-is : x ≡ ramp k (line s)
   value-is = read64 (c .source-value .result) (c .source-value .ok) ∙ simp (c .before .before .source-at .ensures, toZ-ofZ, peak-fits s) at (c .source-value .ensures) ∙ row-value k (line s)
 
   value-end : natAbs x ≤ Limits.injectionEnd
-  value-end = rw value-is (le-trans (source-size k (line s)) (sound s .peakMost))
+  value-end = rw value-is (le-trans (ramp-size k (line s)) (sound s .peakMost))
 
   node-is : this .node ≡ at (line s)
   node-is = ap (λ (r : Source). r .node) (c .before .before .source-at .ensures)
