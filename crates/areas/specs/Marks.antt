@@ -1,24 +1,19 @@
 -- The rounds of `Spread` as code goes about them: row by row, on an array of 33 marks of which those past the last node are 0. Assumes nothing.
-use Prim.Native.Nat.{ℕ, zero, suc, _+_, _-_, _≤_, _<_, min}
-use mathlib.Core.Path.{_≡_, refl, sym, ap, _∙_}
-use mathlib.Core.Bool.{Bool, true, false, cond, not, _||_}
-use mathlib.Core.List.{List, [], _∷_, _++_, map}
-use native.Mathlib.Omega.{arith}
-use lib.ListN.{length, getD, set, drop, length-set, List·getD-eq-default}
-use lib.Seq.{set-getD, ext-getD}
-use lib.Dec.{eqb, leb}
-use borrow.Author.Tests.{eqb-true, not-false, leb-true, leb-false}
-use Rattle.whole.specs.Lists.{fold, keep, filled, numbers}
+use Rattle.whole.specs.Plain.{ℕ, zero, suc, _+_, _-_, _≤_, _<_, min, _≡_, refl, sym, ap, _∙_, Bool, true, false, cond}
+use Rattle.whole.specs.Plain.{not, _||_, List, [], _∷_, eqb, leb, length, getD, set, drop, length-set}
+use Rattle.whole.specs.Plain.{List·getD-eq-default, set-getD, ext-getD, eqb-true, not-false, le-leb, lt-leb, decLe}
+use Rattle.whole.specs.Plain.{arith, fold, keep, filled, numbers}
 use Rattle.whole.specs.Turns.{run, turns, turns-next, turns-done}
 use Rattle.whole.specs.Folds.{or-left, or-right, fold-next, fold-keeps, fold-map, length-numbers, getD-numbers}
 use Rattle.whole.specs.Filled.{length-filled, getD-filled, getD-filled-in, set-filled}
 use Rattle.whole.specs.Upto.{Upto, any-default}
 use Rattle.paper.specs.Limits as Limits
-use Rattle.paper.specs.Rows.{Row, from, to}
+use Rattle.paper.specs.Kept.{either}
+use Rattle.paper.specs.Rows.{Row}
 use Rattle.paper.specs.Network.{passes}
 use Rattle.paper.specs.Spread.{Join, mark, lower, joined, round, spread}
 use Rattle.paper.specs.Areas.{joins, joinOf, lowest, nodeCount}
-use Rattle.paths.specs.Paths.{In, top, below}
+use Rattle.paths.specs.Paths.{top, below}
 use Rattle.paths.specs.Rounds.{Inside, length-joined, fold-length}
 use Rattle.paths.specs.Meaning.{areaJoins}
 use Rattle.facts.specs.Joins.{joins-inside}
@@ -74,11 +69,7 @@ busy-row m m′ r b e w = record { is = w .is ∙ rw e; still = w .still }
 
 row-length : (m : List ℕ) (r : Row) → length (joinRow m r) ≡ length m
 unfolding joinRow
-row-length m r = go (joins r)
-  where
-    go : (t : Bool) → length (cond t (joined m (joinOf r)) m) ≡ length m
-    go true = length-joined m (joinOf r)
-    go false = refl
+row-length m r = either (λ (l : List ℕ). length l ≡ length m) (joins r) _ _ (length-joined m (joinOf r)) refl
 
 pub length-row : (m m′ : List ℕ) (r : Row) (b : Bool) → Moved m m′ (joinRow m r) b → length m′ ≡ length m
 length-row m m′ r b w = ap length (w .is) ∙ row-length m r
@@ -116,12 +107,9 @@ round-next rows i n m m′ z false h w e =
 keep-fold : {A B : Type 0} (p : A → Bool) (f : B → A → B) (b : B) (l : List A) → fold f b (keep p l) ≡ fold (λ b a. cond (p a) (f b a) b) b l
 unfolding fold keep
 keep-fold p f b [] = refl
-keep-fold {B = B} p f b (a ∷ l) = go (p a) (λ c. keep-fold p f c l)
-  where
-    go : (t : Bool) → ((c : B) → fold f c (keep p l) ≡ fold (λ b a. cond (p a) (f b a) b) c l)
-        → fold f b (cond t (a ∷ keep p l) (keep p l)) ≡ fold (λ b a. cond (p a) (f b a) b) (cond t (f b a) b) l
-    go true next = next (f b a)
-    go false next = next b
+keep-fold p f b (a ∷ l) =
+    elim (p a) as (λ t. fold f b (cond t (a ∷ keep p l) (keep p l)) ≡ fold (λ b a. cond (p a) (f b a) b) (cond t (f b a) b) l)
+    [ true ↦ keep-fold p f (f b a) l | false ↦ keep-fold p f b l ]
 
 pub round-rows : (rows : List Row) (i : ℕ) (m : List ℕ) → round (areaJoins rows) i m ≡ roundOf rows i m
 unfolding round roundOf joinRow
@@ -133,11 +121,12 @@ abbrev pub ownMark : ℕ → ℕ → ℕ
 ownMark nodes n = cond (leb n nodes) n 0
 
 first-marks : (nodes k : ℕ) → getD (filled markWords 0 (numbers 0 (suc nodes))) k 0 ≡ ownMark nodes k
-first-marks nodes k = getD-filled markWords 0 (numbers 0 (suc nodes)) k ∙ go (leb k nodes) refl
-  where
-    go : (b : Bool) → leb k nodes ≡ b → getD (numbers 0 (suc nodes)) k 0 ≡ cond b k 0
-    go true e = let q = leb-true k nodes e in omega (arith, getD-numbers 0 (suc nodes) k 0 (omega arith))
-    go false e = let q = leb-false k nodes e in List·getD-eq-default (numbers 0 (suc nodes)) 0 (omega (arith, length-numbers 0 (suc nodes)))
+first-marks nodes k =
+    getD-filled markWords 0 (numbers 0 (suc nodes)) k
+    ∙ elim (decLe k nodes) [
+      | yes h ↦ rw (le-leb k nodes h) (omega (arith, getD-numbers 0 (suc nodes) k 0 (omega arith)))
+      | no h ↦ rw (lt-leb k nodes (omega arith)) (List·getD-eq-default (numbers 0 (suc nodes)) 0 (omega (arith, length-numbers 0 (suc nodes))))
+    ]
 
 pub own-marks : (nodes : ℕ) (m : List ℕ) → nodes < markWords → length m ≡ markWords → Upto 0 (ownMark nodes) markWords m → m ≡ filled markWords 0 (numbers 0 (suc nodes))
 own-marks nodes m h l u =
@@ -159,21 +148,13 @@ fold-filled [] m h = refl
 fold-filled (j ∷ js) m h =
     fold-filled js (joined m j) (λ i p. rw (length-joined m j) (h i (below p))) ∙ ap (λ (x : List ℕ). fold joined x js) (joined-filled m j (h j top .0) (h j top .1))
 
-round-filled : (rows : List Row) (i : ℕ) (m : List ℕ) → Inside (areaJoins rows) (length m) → filled markWords 0 (round (areaJoins rows) i m) ≡ roundOf rows i (filled markWords 0 m)
-unfolding round
-round-filled rows i m h = fold-filled (areaJoins rows) m h ∙ round-rows rows i (filled markWords 0 m)
-
-round-inside : (js : List Join) (i : ℕ) (m : List ℕ) → Inside js (length m) → Inside js (length (round js i m))
-unfolding round
-round-inside js i m h = rw (fold-length js m) h
-
 run-filled : (rows : List Row) (k i : ℕ) (m : List ℕ) → Inside (areaJoins rows) (length m)
     → filled markWords 0 (run k i (round (areaJoins rows)) m) ≡ run k i (roundOf rows) (filled markWords 0 m)
-unfolding run
+unfolding run round
 run-filled rows zero i m h = refl
 run-filled rows (suc k) i m h =
-    run-filled rows k (suc i) (round (areaJoins rows) i m) (round-inside (areaJoins rows) i m h)
-    ∙ ap (run k (suc i) (roundOf rows)) (round-filled rows i m h)
+    run-filled rows k (suc i) (round (areaJoins rows) i m) (rw (fold-length (areaJoins rows) m) h)
+    ∙ ap (run k (suc i) (roundOf rows)) (fold-filled (areaJoins rows) m h ∙ round-rows rows i (filled markWords 0 m))
 
 -- the code's rounds, from each node's own number, come to the lowest nodes
 pub spread-rows : (h : Row) (rows : List Row) → passes (h ∷ rows) ≡ true

@@ -1,17 +1,8 @@
 -- Numbering the areas in one pass over the marks: a node that leads takes the next number, any other takes its lowest node's. Assumes nothing.
-use Prim.Native.Nat.{ℕ, zero, suc, _+_, _-_, _≤_, _<_}
-use mathlib.Core.Path.{_≡_, refl, sym, ap, _∙_}
-use mathlib.Core.Logic.{_≢_}
-use mathlib.Core.Bool.{Bool, true, false, cond}
-use mathlib.Core.List.{List, [], _∷_}
-use native.Mathlib.Omega.{arith}
+use Rattle.whole.specs.Plain.{ℕ, suc, _+_, _-_, _≤_, _<_, _≡_, refl, sym, ap, _∙_, _≢_, true, cond, List, _∷_, eqb}
+use Rattle.whole.specs.Plain.{length, getD, set, length-set, List·getD-eq-default, getD-set-same, getD-set-other}
+use Rattle.whole.specs.Plain.{ext-getD, eq-eqb, ne-eqb, ℕ-discrete, decLe, arith, Words, filled, count, numbers}
 use native.Mathlib.Numerals.{add-one}
-use native.Mathlib.Decide.{ℕ-discrete, decLe}
-use lib.Dec.{eqb}
-use lib.ListN.{length, getD, set, length-set, List·getD-eq-default}
-use lib.Seq.{getD-set-same, getD-set-other, ext-getD}
-use borrow.Author.Tests.{eq-eqb, ne-eqb}
-use Rattle.whole.specs.Lists.{Words, filled, fold, count, numbers}
 use Rattle.whole.specs.Turns.{turns}
 use Rattle.whole.specs.Folds.{count-le, length-numbers}
 use Rattle.whole.specs.Filled.{length-filled, getD-filled}
@@ -19,7 +10,7 @@ use Rattle.whole.specs.Upto.{any-default}
 use Rattle.paper.specs.Rows.{Row}
 use Rattle.paper.specs.Network.{passes, tableOf, isNetwork}
 use Rattle.paper.specs.Spread.{mark}
-use Rattle.paper.specs.Areas.{nodeCount, lowest, leads, areaNumbers, Net, netOf, netOn, areaCount}
+use Rattle.paper.specs.Areas.{nodeCount, lowest, leads, areaNumbers, netOf, netOn, areaCount}
 use Rattle.facts.specs.Table.{node-most}
 use Rattle.facts.specs.Areas as Areas
 use Rattle.facts.specs.Areas.{leaders, up-last, up-same}
@@ -79,14 +70,13 @@ module _ (h : Row) (rows : List Row) (e : passes (h ∷ rows) ≡ true) where
     set-at v q c′ d =
         record {
           long = length-set m (suc n) v ∙ w .long;
-          done = λ k u. go k u (ℕ-discrete k (suc n));
+          done = λ k u. elim (ℕ-discrete k (suc n)) [
+            | yes p ↦ rw p (getD-set-same m (suc n) v 0 (omega (arith, w .long, node-most h rows e)) ∙ q)
+            | no p ↦ getD-set-other m (suc n) k v 0 p ∙ w .done k (omega arith)
+          ];
           left = λ k u. getD-set-other m (suc n) k v 0 (λ p. omega arith) ∙ w .left k (omega arith);
           led = d;
         }
-      where
-        go : (k : ℕ) → k ≤ suc n → Dec (k ≡ suc n) → getD (set m (suc n) v) k 0 ≡ number k
-        go k u (yes p) = rw p (getD-set-same m (suc n) v 0 (omega (arith, w .long, node-most h rows e)) ∙ q)
-        go k u (no p) = getD-set-other m (suc n) k v 0 p ∙ w .done k (omega arith)
 
     leads-next : mark low (suc n) ≡ suc n → Numbering low (set m (suc n) (c + 1)) (suc n) (c + 1)
     leads-next p =
@@ -101,26 +91,21 @@ module _ (h : Row) (rows : List Row) (e : passes (h ∷ rows) ≡ true) where
 
     pub numbering-next : Numbering low (numberAt m (suc n) c) (suc n) (countAt m (suc n) c)
     unfolding numberAt countAt
-    numbering-next = go (ℕ-discrete (mark low (suc n)) (suc n))
-      where
-        go : Dec (mark low (suc n) ≡ suc n) → Numbering low (numberAt m (suc n) c) (suc n) (countAt m (suc n) c)
-        go (yes p) = rw (eq-eqb (getD m (suc n) 0) (suc n) (mark-here ∙ p)) (leads-next p)
-        go (no p) = rw (ne-eqb (getD m (suc n) 0) (suc n) (λ q. p (sym mark-here ∙ q))) (follows-next p)
+    numbering-next =
+        elim (ℕ-discrete (mark low (suc n)) (suc n)) [
+          | yes p ↦ rw (eq-eqb (getD m (suc n) 0) (suc n) (mark-here ∙ p)) (leads-next p)
+          | no p ↦ rw (ne-eqb (getD m (suc n) 0) (suc n) (λ q. p (sym mark-here ∙ q))) (follows-next p)
+        ]
 
   -- after the last node: the areas, and how many there are
   pub numbered : (m : List ℕ) (c : ℕ) → Numbering low m (nodeCount rows) c → m ≡ filled markWords 0 (areaNumbers low)
   numbered m c w =
       ext-getD 0 m (filled markWords 0 (areaNumbers low))
       (w .long ∙ sym (length-filled markWords 0 (areaNumbers low) (omega (arith, Areas.length-areas h rows e, node-most h rows e))))
-      (λ k u. place k (decide k) ∙ sym (getD-filled markWords 0 (areaNumbers low) k))
-    where
-      decide : (k : ℕ) → Dec (k ≤ nodeCount rows)
-      decide k = decLe k (nodeCount rows)
-
-      place : (k : ℕ) → Dec (k ≤ nodeCount rows) → getD m k 0 ≡ getD (areaNumbers low) k 0
-      place k (yes q) = w .done k q ∙ sym (Areas.area-is h rows e k q)
-      place k (no q) =
-          w .left k (omega arith) ∙ List·getD-eq-default low 0 (omega (arith, low-long)) ∙ sym (List·getD-eq-default (areaNumbers low) 0 (omega (arith, Areas.length-areas h rows e)))
+      (λ k u. rw (getD-filled markWords 0 (areaNumbers low) k) (elim (decLe k (nodeCount rows)) [
+        | yes q ↦ w .done k q ∙ sym (Areas.area-is h rows e k q)
+        | no q ↦ w .left k (omega arith) ∙ List·getD-eq-default low 0 (omega (arith, low-long)) ∙ sym (List·getD-eq-default (areaNumbers low) 0 (omega (arith, Areas.length-areas h rows e)))
+      ]))
 
   pub numbered-count : (m : List ℕ) (c : ℕ) → Numbering low m (nodeCount rows) c → c ≡ areaCount (netOf (h ∷ rows))
   unfolding netOf netOn areaCount

@@ -1,17 +1,14 @@
 // "Areas.": which nodes R, L, C and SW join, by rounds over the rows, and the areas numbered from 1 by their lowest node.
-ghost use mathlib.Core.Path.{_≡_};
-ghost use mathlib.Core.Bool.{true, cond};
-ghost use Prim.Native.Nat.{suc, _≤_, _<_, _+_};
-ghost use lib.Dec.{leb};
-ghost use lib.ListN.{length, getD};
-ghost use Rattle.whole.specs.Lists.{filled, numbers};
+ghost use Rattle.whole.specs.Plain.{suc, _≤_, _<_, _+_, _≡_, true, cond, leb, length, getD, filled, numbers};
 ghost use Rattle.paper.specs.Spread.{joined};
 ghost use Rattle.whole.specs.Turns.{turns};
+ghost use Rattle.whole.specs.Loans.{was, is};
 ghost use Rattle.paper.specs.Network.{isNetwork};
 ghost use Rattle.paper.specs.Areas.{areaCount};
 ghost use Rattle.facts.specs.Nets.{netIn, rowAt};
 ghost use Rattle.areas.specs.Marks.{markWords, Moved, joinRow, roundOf};
 ghost use Rattle.areas.specs.Numbered.{countAt, numberAt, lowIn};
+use paper::kinds;
 
 // a node's first mark is its own number
 fn own_mark(n: usize, nodes: usize) -> usize
@@ -22,7 +19,7 @@ fn own_mark(n: usize, nodes: usize) -> usize
 
 fn start(area: &mut [usize; 33], nodes: usize)
     requires { ⌜ (length (now area) ≡ 33) × (nodes < 33) ⌝ }
-    ensures { λ _. ⌜ now (area .exit) ≡ filled markWords 0 (numbers 0 (suc nodes)) ⌝ }
+    ensures { λ _. ⌜ is area ≡ filled markWords 0 (numbers 0 (suc nodes)) ⌝ }
 {
     let mut n = 0;
     while n < 33 {
@@ -34,7 +31,7 @@ fn start(area: &mut [usize; 33], nodes: usize)
 // Both ends take the lower of their two marks; whether the two were different.
 fn join(area: &mut [usize; 33], one: usize, two: usize) -> bool
     requires { ⌜ (length (now area) ≡ 33) × ((one < 33) × (two < 33)) ⌝ }
-    ensures { λ r. ⌜ Moved (now (area .entry)) (now (area .exit)) (joined (now (area .entry)) (record { one = one; two = two })) r ⌝ }
+    ensures { λ r. ⌜ Moved (was area) (is area) (joined (was area) (record { one = one; two = two })) r ⌝ }
 {
     let a = area[one];
     let b = area[two];
@@ -48,13 +45,13 @@ fn join(area: &mut [usize; 33], one: usize, two: usize) -> bool
 fn join_row(net: &[i64], i: usize, area: &mut [usize; 33]) -> bool
     requires { ⌜ isNetwork (now net) ≡ true ⌝ }
     requires { ⌜ (i < length (netIn (now net) .rows)) × (length (now area) ≡ 33) ⌝ }
-    ensures { λ r. ⌜ Moved (now (area .entry)) (now (area .exit)) (joinRow (now (area .entry)) (rowAt (netIn (now (net .entry))) i)) r ⌝ }
+    ensures { λ r. ⌜ Moved (was area) (is area) (joinRow (was area) (rowAt (netIn (was net)) i)) r ⌝ }
 {
     let kind = rows::kind(net, i);
-    if kind == 4 {
+    if kind == kinds::LINE {
         return false;
     }
-    if 5 < kind {
+    if !kinds::is_branch(kind) {
         return false;
     }
     let one = rows::number(net, i, 1);
@@ -72,7 +69,7 @@ fn join_row(net: &[i64], i: usize, area: &mut [usize; 33]) -> bool
 fn round(net: &[i64], rows: usize, area: &mut [usize; 33]) -> bool
     requires { ⌜ isNetwork (now net) ≡ true ⌝ }
     requires { ⌜ (rows ≡ length (netIn (now net) .rows)) × (length (now area) ≡ 33) ⌝ }
-    ensures { λ r. ⌜ Moved (now (area .entry)) (now (area .exit)) (roundOf (netIn (now (net .entry)) .rows) 0 (now (area .entry))) r ⌝ }
+    ensures { λ r. ⌜ Moved (was area) (is area) (roundOf (netIn (was net) .rows) 0 (was area)) r ⌝ }
 {
     let mut moved = false;
     let mut i = 0;
@@ -95,7 +92,7 @@ fn next_round(turn: usize, moved: bool) -> usize
 fn spread(net: &[i64], rows: usize, area: &mut [usize; 33])
     requires { ⌜ isNetwork (now net) ≡ true ⌝ }
     requires { ⌜ (rows ≡ length (netIn (now net) .rows)) × (length (now area) ≡ 33) ⌝ }
-    ensures { λ _. ⌜ now (area .exit) ≡ turns 0 32 (roundOf (netIn (now (net .entry)) .rows)) (now (area .entry)) ⌝ }
+    ensures { λ _. ⌜ is area ≡ turns 0 32 (roundOf (netIn (was net) .rows)) (was area) ⌝ }
 {
     let mut turn = 0;
     while turn < 32 {
@@ -107,7 +104,7 @@ fn spread(net: &[i64], rows: usize, area: &mut [usize; 33])
 // node n's turn, after the areas that the nodes below it lead
 fn number_node(area: &mut [usize; 33], n: usize, count: usize) -> usize
     requires { ⌜ (n < 33) × ((getD (now area) n 0 < 33) × (count < 33)) ⌝ }
-    ensures { λ r. ⌜ (now (area .exit) ≡ numberAt (now (area .entry)) n count) × (r ≡ countAt (now (area .entry)) n count) ⌝ }
+    ensures { λ r. ⌜ (is area ≡ numberAt (was area) n count) × (r ≡ countAt (was area) n count) ⌝ }
 {
     let low = area[n];
     if low == n {
@@ -122,7 +119,7 @@ fn number_node(area: &mut [usize; 33], n: usize, count: usize) -> usize
 fn number_areas(net: &[i64], nodes: usize, area: &mut [usize; 33]) -> usize
     requires { ⌜ isNetwork (now net) ≡ true ⌝ }
     requires { ⌜ (nodes ≡ netIn (now net) .nodes) × (now area ≡ filled markWords 0 (lowIn (now net))) ⌝ }
-    ensures { λ r. ⌜ (now (area .exit) ≡ filled markWords 0 (netIn (now (net .entry)) .areas)) × (r ≡ areaCount (netIn (now (net .entry)))) ⌝ }
+    ensures { λ r. ⌜ (is area ≡ filled markWords 0 (netIn (was net) .areas)) × (r ≡ areaCount (netIn (was net))) ⌝ }
 {
     let mut count = 0;
     let mut n = 0;
@@ -136,8 +133,9 @@ fn number_areas(net: &[i64], nodes: usize, area: &mut [usize; 33]) -> usize
 // The area of each node into `area`, ground's and those past the last node 0; and how many areas there are.
 pub fn areas(net: &[i64], rows: usize, nodes: usize, area: &mut [usize; 33]) -> usize
     requires { ⌜ isNetwork (now net) ≡ true ⌝ }
-    requires { ⌜ (rows ≡ length (netIn (now net) .rows)) × ((nodes ≡ netIn (now net) .nodes) × (length (now area) ≡ 33)) ⌝ }
-    ensures { λ r. ⌜ (now (area .exit) ≡ filled markWords 0 (netIn (now (net .entry)) .areas)) × (r ≡ areaCount (netIn (now (net .entry)))) ⌝ }
+    requires { ⌜ (rows ≡ length (netIn (now net) .rows))
+        × ((nodes ≡ netIn (now net) .nodes) × (length (now area) ≡ 33)) ⌝ }
+    ensures { λ r. ⌜ (is area ≡ filled markWords 0 (netIn (was net) .areas)) × (r ≡ areaCount (netIn (was net))) ⌝ }
 {
     start(area, nodes);
     spread(net, rows, area);

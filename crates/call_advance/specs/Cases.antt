@@ -1,15 +1,8 @@
 -- The answers of an advance, case by case. Assumes nothing.
-use Prim.Native.Nat.{ℕ, zero, suc, _+_, _≤_, _<_}
-use native.Mathlib.Omega.{arith}
-use mathlib.Core.Path.{_≡_, refl, sym, ap, _∙_}
-use mathlib.Core.Bool.{Bool, true, false, cond, _&&_}
-use mathlib.Core.List.{List, [], _∷_}
-use borrow.Author.Tests.{le-leb, lt-leb}
-use lib.Dec.{leb}
-use lib.ListN.{length}
+use Rattle.whole.specs.Plain.{ℕ, zero, suc, _+_, _≤_, _<_, _≡_, refl, sym, ap, _∙_, Bool, true, false, cond, _&&_, List}
+use Rattle.whole.specs.Plain.{[], _∷_, leb, length, le-leb, lt-leb, arith, Words}
 use Rattle.paper.specs.declared.Advance.{Advance}
 use Rattle.paper.specs.declared.Advance.the-variants.{Network, Store, State, Area, Done, Wait}
-use Rattle.whole.specs.Lists.{Words}
 use Rattle.paper.specs.Rows.{Row, steps}
 use Rattle.paper.specs.Network.{isNetwork}
 use Rattle.paper.specs.Areas.{Net, areaCount, branchNumber}

@@ -1,12 +1,7 @@
 -- A network's plan, the step that comes next, and the tables of one area alone. Assumes nothing.
-use Prim.Native.Nat.{ℕ, suc, _-_, _≤_, _<_}
-use mathlib.Core.Path.{_≡_, sym, ap, subst, _∙_}
-use mathlib.Core.Bool.{Bool, true}
-use mathlib.Core.List.{List}
-use native.Mathlib.Omega.{arith}
+use Rattle.whole.specs.Plain.{ℕ, suc, _-_, _≤_, _<_, _≡_, sym, ap, subst, _∙_, Bool, true, List, length, set}
+use Rattle.whole.specs.Plain.{length-set, arith, Words}
 use lib.Ieee.{Float}
-use lib.ListN.{length, set, length-set}
-use Rattle.whole.specs.Lists.{Words}
 use Rattle.paper.specs.Rows as Rows
 use Rattle.paper.specs.Network.{isNetwork}
 use Rattle.paper.specs.Areas.{Net, areaCount, branchNumber}
@@ -19,7 +14,7 @@ use Rattle.plan_rows.specs.declared.Totals.{Totals}
 use Rattle.plan_rows.specs.Planned.{rowIn, rowOf, Planned, totalsOf}
 use Rattle.plan_net.specs.Of.{Of, of-record}
 use Rattle.plan_own.specs.declared.Own.{Own}
-use Rattle.plan_own.specs.Flags.{Flagged}
+use Rattle.plan_lay.specs.Flags.{Flagged}
 use Rattle.plan_own.specs.Owns.{Given, Ours, Behind, ownIn, wordsOf}
 use Rattle.plan_own.specs.Kept.{own-put}
 use Rattle.step_factors.specs.Factors.{Square}
@@ -62,7 +57,7 @@ module _ {net : Words} {plan : List (List ℕ)} {areas : List ℕ} {totals : Tot
   pub stepping : {recs froms tos : Words} {turn : Turn} (a k : ℕ) → Long recs froms tos → wellFormed (netIn net) recs froms tos ≡ true
       → 1 ≤ a → a ≤ totals .areas → k ≤ totals .steps → turn ≡ turnAt totals a k → Stepping (netIn net) 1 (totals .areas) turn (memory recs froms tos)
   stepping a k l e one h d q =
-      rw q (record { least = one; most = h; step = omega (arith, step-count); limit = ap (λ (t : Totals). t .limit) (s .counts); kept = kept (of .sound) l e })
+      rw q (record { least = one; most = h; step = omega (arith, step-count); limit = ap (λ (t : Totals). t .limit) (s .counts); kept = kept (netIn net) l e })
 
 -- the number of the branch in the place, from 1, that is waited for
 pub number-is : {N : Net} {plan : List (List ℕ)} → Planned N plan → (p : ℕ) → (p ≡ 0 → ⊥) → p ≤ length (N .rows) → rowIn plan (p - 1) .number ≡ branchNumber N p

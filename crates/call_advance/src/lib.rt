@@ -1,11 +1,11 @@
 // An area's advance. "Advancing: 9, 8, then 10 to 17"; "Every refusal leaves all lent memory unchanged."
-ghost use mathlib.Core.Path.{_≡_};
-ghost use mathlib.Core.Bool.{true};
-ghost use Rattle.whole.specs.Loans.{was, is};
+ghost use Rattle.whole.specs.Plain.{_≡_, true};
+ghost use Rattle.whole.specs.Loans.{was};
 ghost use Rattle.paper.specs.Network.{isNetwork};
 ghost use Rattle.paper.specs.Advance as Paper;
 ghost use Rattle.paper.specs.Advance.{memory, advanced, onNext, onNet};
 ghost use Rattle.paper.specs.One.{Advances};
+ghost use Rattle.paper.specs.Lent.{lent, before, after};
 ghost use Rattle.facts.specs.Nets.{netIn};
 ghost use Rattle.call_counts.specs.Counts.{Counted};
 ghost use Rattle.call_state.specs.Judged.{Long};
@@ -28,10 +28,11 @@ fn alone(
     turn: Turn,
 ) -> Advance
     requires { ⌜ Seen (now net) (now plan) (now areas) totals ⌝ }
-    requires { ⌜ Stepping (netIn (now net)) 1 (totals .areas) turn (memory (now records) (now froms) (now tos)) ⌝ }
-    ensures { λ r. ⌜ advanced r (memory (is records) (is froms) (is tos)) ≡ Paper.ready (netIn (was net)) (turn .area) (turn .k) (memory (was records) (was froms) (was tos)) ⌝ }
+    requires { ⌜ Stepping (netIn (now net)) 1 (totals .areas) turn (lent records froms tos) ⌝ }
+    ensures { λ r. ⌜ advanced r (after records froms tos)
+        ≡ Paper.ready (netIn (was net)) (turn .area) (turn .k) (before records froms tos) ⌝ }
 {
-    let fixed = plan_own::fixed_nodes(net, totals.rows);
+    let fixed = plan_lay::fixed_nodes(net, totals.rows);
     let at = plan_own::nothing();
     let mut legs = [[0; 9]; 160];
     let mut nodes = [0; 32];
@@ -77,8 +78,9 @@ fn next(
     turn: Turn,
 ) -> Advance
     requires { ⌜ Seen (now net) (now plan) (now areas) totals × Counted (now plan) (totals .rows) (now records) ⌝ }
-    requires { ⌜ Stepping (netIn (now net)) 1 (totals .areas) turn (memory (now records) (now froms) (now tos)) ⌝ }
-    ensures { λ r. ⌜ advanced r (memory (is records) (is froms) (is tos)) ≡ onNext (netIn (was net)) (turn .area) (turn .k) (memory (was records) (was froms) (was tos)) ⌝ }
+    requires { ⌜ Stepping (netIn (now net)) 1 (totals .areas) turn (lent records froms tos) ⌝ }
+    ensures { λ r. ⌜ advanced r (after records froms tos)
+        ≡ onNext (netIn (was net)) (turn .area) (turn .k) (before records froms tos) ⌝ }
 {
     let late = call_counts::first_late(plan, totals.rows, records, turn.area, turn.k);
     if late != 0 {
@@ -108,7 +110,7 @@ fn on_network(
     area: usize,
 ) -> Advance
     requires { ⌜ (isNetwork (now net) ≡ true) × Long (now records) (now froms) (now tos) ⌝ }
-    ensures { λ r. ⌜ advanced r (memory (is records) (is froms) (is tos)) ≡ onNet (netIn (was net)) area (memory (was records) (was froms) (was tos)) ⌝ }
+    ensures { λ r. ⌜ advanced r (after records froms tos) ≡ onNet (netIn (was net)) area (before records froms tos) ⌝ }
 {
     let mut areas = [0; 33];
     let mut plan = [[0; 12]; 80];
@@ -137,7 +139,7 @@ pub fn advance(
     tos: &mut [i64],
     area: usize,
 ) -> Advance
-    ensures { λ r. ⌜ Advances (was network) area (memory (was records) (was froms) (was tos)) r (memory (is records) (is froms) (is tos)) ⌝ }
+    ensures { λ r. ⌜ Advances (was network) area (before records froms tos) r (after records froms tos) ⌝ }
 {
     if !lent::fits(network, records, froms, tos) {
         return Advance::Store;

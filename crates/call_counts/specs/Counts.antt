@@ -1,12 +1,6 @@
 -- The areas' counts of steps, and those at a line's two ends, by the plan's rows. Assumes nothing.
-use Prim.Native.Nat.{ℕ, _+_, _≤_, _<_}
-use mathlib.Core.Path.{_≡_}
-use mathlib.Core.Bool.{Bool, true, not, _&&_, _||_}
-use mathlib.Core.List.{List, [], _∷_}
-use lib.Dec.{leb, ltb, eqb}
-use lib.IntN.{pos}
-use lib.ListN.{length}
-use Rattle.whole.specs.Lists.{Words, word}
+use Rattle.whole.specs.Plain.{ℕ, _+_, _≤_, _<_, _≡_, Bool, true, not, _&&_, _||_, List, [], _∷_, leb, ltb, eqb, pos}
+use Rattle.whole.specs.Plain.{length, Words, word}
 use Rattle.paper.specs.Limits as Limits
 use Rattle.paper.specs.Rows.{isLine}
 use Rattle.paper.specs.Records.{countAt, countOf}

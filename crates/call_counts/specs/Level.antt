@@ -1,13 +1,6 @@
 -- Areas that have all taken as many steps. Assumes nothing.
-use Prim.Native.Nat.{ℕ, _+_, _-_, _≤_, _<_}
-use native.Mathlib.Omega.{arith}
-use mathlib.Core.Path.{_≡_}
-use mathlib.Core.Bool.{Bool, true, cond}
-use mathlib.Core.List.{List}
-use borrow.Author.Tests.{eq-eqb, ne-eqb, eqb-true}
-use lib.Dec.{eqb}
-use lib.ListN.{length}
-use Rattle.whole.specs.Lists.{Words, every, numbers}
+use Rattle.whole.specs.Plain.{ℕ, _+_, _-_, _≤_, _<_, _≡_, Bool, true, cond, List, eqb, length, eq-eqb, ne-eqb, eqb-true}
+use Rattle.whole.specs.Plain.{arith, Words, every, numbers}
 use Rattle.whole.specs.Folds.{every-at, length-numbers, getD-numbers}
 use Rattle.paper.specs.Areas.{Net}
 use Rattle.paper.specs.Records.{countOf}

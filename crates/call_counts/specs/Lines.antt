@@ -1,16 +1,9 @@
 -- The plan's lines are the network's: whose counts are compared, and for which row an area waits. Assumes nothing.
-use Prim.Native.Nat.{ℕ, _+_, _≤_, _<_}
-use native.Mathlib.Nat.{le-trans, div-le-self}
+use Rattle.whole.specs.Plain.{ℕ, _+_, _≤_, _<_, _≡_, refl, ap, _∙_, true, false, List, [], length, drop}
+use Rattle.whole.specs.Plain.{drop-of-length-le, drop-cons, le-trans, div-le-self, arith, Words}
 use native.Mathlib.Numerals.{add-one}
-use native.Mathlib.Omega.{arith}
-use mathlib.Core.Path.{_≡_, refl, ap, _∙_}
-use mathlib.Core.Bool.{Bool, true, false}
-use mathlib.Core.List.{List, []}
-use borrow.Author.Tests.{eqb-true}
-use lib.ListN.{length, drop, drop-of-length-le}
-use lib.Seq.{drop-cons}
-use Rattle.whole.specs.Lists.{Words}
 use Rattle.paper.specs.Rows as Rows
+use Rattle.paper.specs.Classes.{line-branch}
 use Rattle.paper.specs.Rows.{isLine, travel}
 use Rattle.paper.specs.Areas.{Net, areaOf, areaCount, step}
 use Rattle.paper.specs.Records.{near}
@@ -36,19 +29,11 @@ rows-of o = record { planned = o .planned; count = ap (λ (t : Totals). t .rows)
 module _ (N : Net) (recs : Words) (i : ℕ) where
   near-row : nearBy recs (rowOf N i) ≡ near N recs (rowAt N i)
   unfolding nearBy near rowOf ownerOf
-  near-row = go (isLine (rowAt N i)) refl
-    where
-      go : (l : Bool) → isLine (rowAt N i) ≡ l → nearBy recs (rowOf N i) ≡ near N recs (rowAt N i)
-      go true e = rw e
-      go false e = rw e
+  near-row = elim (isLine (rowAt N i)) as (λ l. isLine (rowAt N i) ≡ l → nearBy recs (rowOf N i) ≡ near N recs (rowAt N i)) [ true ↦ λ e. rw e | false ↦ λ e. rw e ] refl
 
   waits-row : (a k : ℕ) → waitsBy a k recs (rowOf N i) ≡ waitsFor N a k recs (rowAt N i)
   unfolding waitsBy waitsFor rowOf ownerOf
-  waits-row a k = go (isLine (rowAt N i)) refl
-    where
-      go : (l : Bool) → isLine (rowAt N i) ≡ l → waitsBy a k recs (rowOf N i) ≡ waitsFor N a k recs (rowAt N i)
-      go true e = rw e
-      go false e = rw e
+  waits-row a k = elim (isLine (rowAt N i)) as (λ l. isLine (rowAt N i) ≡ l → waitsBy a k recs (rowOf N i) ≡ waitsFor N a k recs (rowAt N i)) [ true ↦ λ e. rw e | false ↦ λ e. rw e ] refl
 
 module _ {N : Net} {plan : List (List ℕ)} (p : Planned N plan) (i : ℕ) (h : i < length (N .rows)) where
   pub kind-is : rowIn plan i .kind ≡ Rows.kind (rowAt N i)
@@ -69,7 +54,7 @@ module _ {N : Net} (s : NetSound N) {recs : Words} (c : CountsIn recs (areaCount
   ends-in =
       let r = rowAt N i in
       let line : LineSound (N .head) r = s .row i h .line l in
-      let branch : BranchSound (step N) (N .nodes) r = s .row i h .branch (rw (eqb-true (Rows.kind r) 4 l)) in
+      let branch : BranchSound (step N) (N .nodes) r = s .row i h .branch (line-branch r l) in
       rw l
       (record {
         from = c .at (areaOf N (Rows.from r)) (s .areaLeast _ (line .fromOff) (branch .fromIn .most)) (area-of N (Rows.from r));

@@ -1,7 +1,6 @@
 // The areas' counts of steps, by the plan: how far those at a line's two ends may part (part of refusal 10), when an area must wait (refusal 13), and how
 // many steps all have taken.
-ghost use mathlib.Core.Path.{_≡_};
-ghost use Rattle.whole.specs.Lists.{every, numbers};
+ghost use Rattle.whole.specs.Plain.{_≡_, every, numbers};
 ghost use Rattle.whole.specs.Loans.{was};
 ghost use Rattle.paper.specs.Areas.{Net};
 ghost use Rattle.paper.specs.Records.{countOf};
@@ -10,10 +9,9 @@ ghost use Rattle.call_counts.specs.Counts.{CountIn, CountsIn, LineIn, Co
 ghost use Rattle.call_counts.specs.Lines.{RowsOf};
 ghost use Rattle.call_counts.specs.Level.{takenBy, tookAll};
 use paper::kinds;
+use paper::sections;
 use plan_rows::Row;
 use plan_rows::Table;
-
-pub mod sections;
 
 // How many steps area a has taken.
 pub fn count_of(records: &[i64], a: usize) -> usize

@@ -1,14 +1,8 @@
 -- The answers of a listing, case by case. Assumes nothing.
-use Prim.Native.Nat.{ℕ, _≤_, _<_}
-use native.Mathlib.Omega.{arith}
-use mathlib.Core.Path.{_≡_, refl, _∙_}
-use mathlib.Core.Bool.{Bool, true, false, cond, not, _&&_, _||_}
-use mathlib.Core.List.{List, []}
-use borrow.Author.Tests.{le-ltb, lt-ltb}
-use lib.ListN.{length}
+use Rattle.whole.specs.Plain.{ℕ, _≤_, _<_, _≡_, refl, _∙_, Bool, true, false, cond, not, _&&_, _||_, List, [], length}
+use Rattle.whole.specs.Plain.{le-ltb, lt-ltb, arith, Words}
 use Rattle.paper.specs.declared.Listing.{Listing}
 use Rattle.paper.specs.declared.Listing.the-variants.{Network, Store, State}
-use Rattle.whole.specs.Lists.{Words}
 use Rattle.paper.specs.Limits as Limits
 use Rattle.paper.specs.Network.{isNetwork}
 use Rattle.paper.specs.Areas.{Net}

@@ -1,11 +1,6 @@
 -- The tables of a network's areas as they are laid, before any step: what a piece of the listing begins from. Assumes nothing.
-use Prim.Native.Nat.{ℕ}
-use native.Mathlib.Omega.{arith}
-use mathlib.Core.Path.{_≡_}
-use mathlib.Core.Bool.{true, _&&_}
-use mathlib.Core.List.{List}
+use Rattle.whole.specs.Plain.{ℕ, _≡_, true, _&&_, List, arith, Words}
 use lib.Ieee.{Float}
-use Rattle.whole.specs.Lists.{Words}
 use Rattle.whole.specs.Folds.{and-left, and-right}
 use Rattle.paper.specs.Network.{isNetwork}
 use Rattle.paper.specs.Areas.{areaCount}

@@ -1,15 +1,12 @@
 // The listing, on all inputs: 9, 8, then 10, and the next piece of the listing in a lent buffer. A refused call writes nothing.
-ghost use mathlib.Core.Path.{_≡_};
-ghost use mathlib.Core.Bool.{true, _&&_};
-ghost use Prim.Native.Nat.{_≤_};
-ghost use lib.ListN.{length};
+ghost use Rattle.whole.specs.Plain.{_≤_, _≡_, true, _&&_, length};
 ghost use Rattle.whole.specs.Loans.{was, is};
 ghost use Rattle.paper.specs.Limits as Limits;
 ghost use Rattle.paper.specs.Areas.{Net};
 ghost use Rattle.paper.specs.Network.{isNetwork};
 ghost use Rattle.paper.specs.Records.{wellFormed};
-ghost use Rattle.paper.specs.Advance.{memory};
 ghost use Rattle.paper.specs.Pieces.{stepsTaken, level, pieceOf, onLevel, Lists};
+ghost use Rattle.paper.specs.Lent.{lent, before, after};
 ghost use Rattle.facts.specs.Nets.{netIn};
 ghost use Rattle.rows.specs.Mapped.{Mapped};
 ghost use Rattle.plan_net.specs.Of.{Of, OfSome};
@@ -25,7 +22,8 @@ use plan_rows::Totals;
 // 10, or not: the state is well formed, and all areas have taken as many steps.
 fn in_step(plan: &Table, totals: Totals, records: &[i64], froms: &[i64], tos: &[i64]) -> bool
     requires { ⌜ OfSome (now plan) totals × Long (now records) (now froms) (now tos) ⌝ }
-    ensures { λ r. ⌜ ((N : Net) → Of N (was plan) totals → r ≡ (wellFormed N (was records) (was froms) (was tos) && level N (was records))) ⌝ }
+    ensures { λ r. ⌜ ((N : Net) → Of N (was plan) totals → r
+        ≡ (wellFormed N (was records) (was froms) (was tos) && level N (was records))) ⌝ }
 {
     if !call_state::well_formed(plan, totals, records, froms, tos) {
         return false;
@@ -46,11 +44,12 @@ fn onward(
     out: &mut [u8],
 ) -> Piece
     requires { ⌜ Of (netIn (now net)) (now plan) totals × Mapped (netIn (now net)) (now area) ⌝ }
-    requires { ⌜ InStep (now net) (stepsTaken (netIn (now net)) (now records)) (memory (now records) (now froms) (now tos)) ⌝ }
+    requires { ⌜ InStep (now net) (stepsTaken (netIn (now net)) (now records)) (lent records froms tos) ⌝ }
     requires { ⌜ Limits.stepBytes ≤ length (now out) ⌝ }
-    ensures { λ r. ⌜ Gives (pieceOf (was net) (netIn (was net)) (memory (was records) (was froms) (was tos)) (length (was out))) (was out) (r .answer) (r .count) (is out) (memory (is records) (is froms) (is tos)) ⌝ }
+    ensures { λ r. ⌜ Gives (pieceOf (was net) (netIn (was net)) (before records froms tos) (length (was out))) (was out)
+        (r .answer) (r .count) (is out) (after records froms tos) ⌝ }
 {
-    let fixed = plan_own::fixed_nodes(net, totals.rows);
+    let fixed = plan_lay::fixed_nodes(net, totals.rows);
     let mut legs = [[0; 9]; 160];
     let mut nodes = [0; 32];
     let mut sources = [[0; 5]; 16];
@@ -90,7 +89,8 @@ fn on_network(
 ) -> Piece
     requires { ⌜ (isNetwork (now net) ≡ true) × Long (now records) (now froms) (now tos) ⌝ }
     requires { ⌜ Limits.stepBytes ≤ length (now out) ⌝ }
-    ensures { λ r. ⌜ Gives (onLevel (was net) (netIn (was net)) (memory (was records) (was froms) (was tos)) (length (was out))) (was out) (r .answer) (r .count) (is out) (memory (is records) (is froms) (is tos)) ⌝ }
+    ensures { λ r. ⌜ Gives (onLevel (was net) (netIn (was net)) (before records froms tos) (length (was out))) (was out)
+        (r .answer) (r .count) (is out) (after records froms tos) ⌝ }
 {
     let mut area = [0; 33];
     let mut plan = [[0; 12]; 80];
@@ -112,7 +112,8 @@ pub fn list(
     tos: &mut [i64],
     out: &mut [u8],
 ) -> Piece
-    ensures { λ r. ⌜ Lists (now (network .entry)) (memory (now (records .entry)) (now (froms .entry)) (now (tos .entry))) (now (out .entry)) (r .answer) (r .count) (now (out .exit)) (memory (now (records .exit)) (now (froms .exit)) (now (tos .exit))) ⌝ }
+    ensures { λ r. ⌜ Lists (was network) (before records froms tos) (was out) (r .answer) (r .count) (is out)
+        (after records froms tos) ⌝ }
 {
     if !lent::fits(network, records, froms, tos) {
         return Piece {

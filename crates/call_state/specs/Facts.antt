@@ -1,16 +1,7 @@
 -- What a well-formed state gives its callers: counts that are numbers of steps, none past the study's. Assumes nothing.
-use Prim.Native.Nat.{ℕ, _+_, _-_, _≤_}
-use native.Mathlib.Nat.{le-trans}
-use native.Mathlib.Decide.{ℕ-discrete}
-use native.Mathlib.Omega.{arith}
-use mathlib.Core.Path.{_≡_, refl, sym, _∙_}
-use mathlib.Core.Bool.{true, true≢false}
-use mathlib.Core.List.{List}
-use borrow.Author.Tests.{leb-true, eq-eqb, ne-eqb}
-use lib.IntN.{ℤ, pos, negsuc}
-use lib.ListN.{length, take}
-use lib.Signed.{nonNeg}
-use Rattle.whole.specs.Lists.{Words, word, nat, upTo, every}
+use Rattle.whole.specs.Plain.{ℕ, _+_, _-_, _≤_, _≡_, refl, sym, _∙_, true, true≢false, List, ℤ, pos, negsuc, nonNeg}
+use Rattle.whole.specs.Plain.{length, take, leb-true, eq-eqb, ne-eqb, le-trans, ℕ-discrete, arith, Words, word, nat}
+use Rattle.whole.specs.Plain.{upTo, every}
 use Rattle.whole.specs.Folds.{and-left, and-right}
 use Rattle.whole.specs.Within.{take-every}
 use Rattle.paper.specs.Limits as Limits

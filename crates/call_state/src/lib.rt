@@ -1,13 +1,6 @@
 // 10 STATE: lent records and line stores, judged exactly, by the plan. No function has the network record: what is said is said of every network that the
 // plan is of.
-ghost use mathlib.Core.Path.{_≡_};
-ghost use mathlib.Core.Bool.{cond};
-ghost use Prim.Native.Nat.{_+_, _≤_, _<_};
-ghost use lib.Dec.{T};
-ghost use lib.IntN.{natAbs};
-ghost use lib.ListN.{length};
-ghost use lib.Signed.{nonNeg};
-ghost use Rattle.whole.specs.Lists.{upTo, word, every, numbers};
+ghost use Rattle.whole.specs.Plain.{_+_, _≤_, _<_, _≡_, cond, T, natAbs, nonNeg, length, upTo, word, every, numbers};
 ghost use Rattle.whole.specs.Loans.{was};
 ghost use Rattle.paper.specs.Limits as Limits;
 ghost use Rattle.paper.specs.Areas.{Net};
@@ -16,12 +9,12 @@ ghost use Rattle.plan_net.specs.Of.{Of, OfSome};
 ghost use Rattle.call_counts.specs.Counts.{LineIn, Counted};
 ghost use Rattle.call_state.specs.Judged.{Long, partFormed, sectionFormed, countsFormed, tailsFormed};
 ghost use Rattle.call_state.specs.Judged.{wordsFormed, rowFormed, plannedFormed};
-use call_counts::sections;
 use paper::Current;
 use paper::History;
 use paper::Room;
 use paper::Voltage;
 use paper::kinds;
+use paper::sections;
 use plan_rows::Row;
 use plan_rows::Table;
 use plan_rows::Totals;
@@ -98,7 +91,7 @@ fn words_formed(kind: usize, records: &[i64], i: usize) -> bool
     requires { ⌜ (i < Limits.rowEnd) × (length (now records) ≡ Limits.recordWords) ⌝ }
     ensures { λ r. ⌜ r ≡ wordsFormed kind (was records) i ⌝ }
 {
-    let branch = plan_rows::is_branch(kind);
+    let branch = kinds::is_branch(kind);
     let line = kind == kinds::LINE;
     let stores = (kind == kinds::L) | (kind == kinds::C);
     let current = held(records, sections::CURRENTS + i, branch, Current::MAX);
@@ -133,15 +126,16 @@ fn rows_formed(plan: &Table, records: &[i64], rows: usize) -> bool
     all
 }
 
-// Whether the words past the last row's are zero.
+// Whether the words past the last row's, and past the last section, are zero.
 fn tails_formed(records: &[i64], rows: usize) -> bool
     requires { ⌜ (rows ≤ Limits.rowEnd) × (length (now records) ≡ Limits.recordWords) ⌝ }
     ensures { λ r. ⌜ r ≡ tailsFormed (was records) rows ⌝ }
 {
     let currents = unused(records, sections::CURRENTS + rows, sections::TO_CURRENTS);
     let to_currents = unused(records, sections::TO_CURRENTS + rows, sections::HISTORIES);
-    let histories = unused(records, sections::HISTORIES + rows, Room::RECORDS);
-    currents & (to_currents & histories)
+    let histories = unused(records, sections::HISTORIES + rows, sections::END);
+    let rest = unused(records, sections::END, Room::RECORDS);
+    currents & (to_currents & (histories & rest))
 }
 
 // All of it. Where the counts are no numbers of steps nothing goes by them.

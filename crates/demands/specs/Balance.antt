@@ -1,15 +1,7 @@
 -- "Balance.": the sum over a step's legs that refusal 16 judges is the sum over the rows of the currents in the records. Assumes nothing.
-use Prim.Native.Nat.{ℕ, zero, suc, _+_, _≤_, _<_}
-use native.Mathlib.Decide.{ℕ-discrete}
-use native.Mathlib.Omega.{arith}
-use mathlib.Core.Path.{_≡_, refl, sym, ap, _∙_}
-use mathlib.Core.Bool.{Bool, true, false, cond}
-use mathlib.Core.List.{List, [], _∷_, map}
-use lib.ListN.{length, getD}
-use lib.Dec.{eqb}
-use lib.IntN.{ℤ, pos, negℤ, _+ℤ_, _-ℤ_, _*ℤ_, +ℤ-assoc}
-use borrow.Author.Tests.{ne-eqb}
-use Rattle.whole.specs.Lists.{Words, z, word, numbers, total}
+use Rattle.whole.specs.Plain.{ℕ, zero, suc, _+_, _≤_, _<_, _≡_, refl, sym, ap, _∙_, Bool, true, false, cond, List, []}
+use Rattle.whole.specs.Plain.{_∷_, map, eqb, ℤ, pos, negℤ, _+ℤ_, _-ℤ_, _*ℤ_, +ℤ-assoc, length, getD, ne-eqb, ℕ-discrete}
+use Rattle.whole.specs.Plain.{arith, Words, z, word, numbers, total}
 use Rattle.whole.specs.Folds.{both}
 use Rattle.whole.specs.Int.{ring-laws}
 use Rattle.paper.specs.Rows.{Row, isBranch, isLine, from, to}
@@ -28,7 +20,7 @@ use Rattle.local.specs.Written.{current-put, to-put}
 use Rattle.local.specs.Outcome.{stepOf, legsNow, voltsOf}
 use Rattle.stays.specs.Stays.{Long}
 use Rattle.demands.specs.Said.{fromCurrent, toCurrent, at-end, leaves, imbalanceAt}
-use Rattle.demands.specs.Branches.{proposal, snd, top, from-leg, to-leg, from-else, to-else, plain-legs, row-else}
+use Rattle.demands.specs.Branches.{proposal, snd, from-leg, to-leg, from-else, to-else, plain-legs, row-else}
 
 -- ---- sums over both legs of each row
 
@@ -80,11 +72,11 @@ module _ (N : Net) (s : NetSound N) (a : ℕ) (m : Memory) (long : Long m) (good
 
       written-from : by i .fromEnd .own ≡ true → fromCurrent n i ≡ current v (by i .fromEnd .wire)
       unfolding written
-      written-from o = current-put N a k (m .records) ears v (snd N s a m long good one most) one (top N s a m long good one most) (m .records) (long .records) i there o
+      written-from o = current-put N a k (m .records) ears v (snd N s a m long good one most) (m .records) (long .records) i there o
 
       written-to : isLine r ≡ true → by i .toEnd .own ≡ true → toCurrent n i ≡ current v (by i .toEnd .wire)
       unfolding written
-      written-to l o = to-put N a k (m .records) ears v (snd N s a m long good one most) one (top N s a m long good one most) (m .records) (long .records) i there (both l o)
+      written-to l o = to-put N a k (m .records) ears v (snd N s a m long good one most) (m .records) (long .records) i there (both l o)
 
       -- an end of a line: it is the area's own, or it is not at p
       line-end : (q : ℕ) (e : End) (w : Leg) (x : ℤ) → w .near ≡ q → (areaOf N q ≡ a → (e ≡ ownEnd w) × (x ≡ current v (e .wire))) → ((areaOf N q ≡ a → ⊥) → e ≡ otherEnd)

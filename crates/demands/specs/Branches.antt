@@ -1,39 +1,30 @@
 -- "Branch equations": the memory that a step proposes obeys them, accepted or not. Assumes nothing.
-use Prim.Native.Nat.{ℕ, zero, suc, _+_, _-_, _≤_, _<_}
-use native.Mathlib.Omega.{arith}
-use mathlib.Core.Path.{_≡_, refl, sym, ap, _∙_, subst}
-use mathlib.Core.Logic.{_⊎_, inl, inr}
-use mathlib.Core.Bool.{Bool, true, false, cond, not, _&&_, _||_, or-true, and-false}
-use mathlib.Core.List.{List}
-use lib.ListN.{length, getD}
-use lib.Dec.{eqb, leb, ltb}
-use lib.IntN.{ℤ, pos, negsuc, negℤ, natAbs, _+ℤ_, _-ℤ_, _*ℤ_, +ℤ-comm, +ℤ-idr, zero-*ℤ, negℤ-+ℤ}
-use borrow.Author.Tests.{eq-eqb, eqb-true, ne-eqb, le-leb, lt-leb, lt-ltb, le-ltb}
-use Rattle.whole.specs.Lists.{Words, z, word, numbers}
+use Rattle.whole.specs.Plain.{ℕ, zero, suc, _+_, _-_, _≤_, _<_, _≡_, refl, sym, ap, _∙_, _⊎_, inl, inr, Bool, true}
+use Rattle.whole.specs.Plain.{false, cond, _&&_, _||_, or-true, List, eqb, ltb, ℤ, pos, negsuc, negℤ, natAbs, _+ℤ_}
+use Rattle.whole.specs.Plain.{_-ℤ_, _*ℤ_, +ℤ-comm, +ℤ-idr, zero-*ℤ, negℤ-+ℤ, length, getD, eq-eqb, eqb-true, ne-eqb}
+use Rattle.whole.specs.Plain.{lt-ltb, le-ltb, arith, Words, z, word, numbers}
 use Rattle.whole.specs.Folds.{both, getD-map, getD-numbers, length-numbers}
 use Rattle.paper.specs.Limits as Limits
-use Rattle.paper.specs.Rows.{Row, kind, isBranch, isL, isC, isLine, isSwitch, from, to, closes, opens}
+use Rattle.paper.specs.Rows.{Row, kind, isBranch, isL, isC, isLine, from, to}
 use Rattle.paper.specs.Conductance.{conductance}
 use Rattle.paper.specs.Areas.{Net, areaOf, areaCount, rowArea, step}
 use Rattle.paper.specs.Records.{historyAt, slotCount, wellFormed}
 use Rattle.paper.specs.Legs.{Leg, leg, End, ownEnd, otherEnd, Branch, branch, Heard, sentTo, sentAt, heardBy, heard, isOpen, conducts, lineEnd, lineLegs, plainLegs, legsBy, through, current, echo, passedOn}
+use Rattle.paper.specs.Apart.{histories-in, end-of, unused-zero}
 use Rattle.paper.specs.Advance.{Memory, written}
 use Rattle.facts.specs.Nets.{NetSound, rowAt, row-area-from, row-area-to}
-use Rattle.local.specs.Sound.{Sound, sound, line-branch}
+use Rattle.paper.specs.Classes.{line-branch}
+use Rattle.local.specs.Sound.{Sound, sound}
 use Rattle.local.specs.Own.{deaf}
 use Rattle.local.specs.Nodes.{NodeOf}
 use Rattle.local.specs.Written.{volt-put, current-put, to-put, history-put}
 use Rattle.local.specs.Slots.{delayAt, sent, sent-put}
 use Rattle.local.specs.Outcome.{stepOf, legsNow, voltsOf}
-use Rattle.stays.specs.Formed.{formed, end-history}
 use Rattle.stays.specs.Stays.{Long}
 use Rattle.demands.specs.Said.{voltage, fromCurrent, toCurrent, history, fromSent, toSent, gu, gv, Obeys, EndObeys}
 use Rattle.demands.specs.Volts.{ground-volt}
 
 -- ---- a kind is one number
-
-other-kind : (r : Row) (j : ℕ) → kind r ≡ j → (i : ℕ) → eqb j i ≡ false → eqb (kind r) i ≡ false
-other-kind r j e i f = rw e f
 
 zero-size : (x : ℤ) → natAbs x ≤ 0 → x ≡ z
 zero-size (pos n) h = ap pos (omega arith)
@@ -104,15 +95,12 @@ module _ (N : Net) (s : NetSound N) (a : ℕ) (m : Memory) (long : Long m) (good
   pub snd : Sound N
   snd = sound N s
 
-  pub top : a ≤ 32
-  top = omega (arith, snd .areas)
-
   -- a voltage of the area, or ground's
-  pub volt-of : (p : ℕ) → (p ≡ 0) ⊎ NodeOf N a p → voltage proposal p ≡ word v p
+  pub volt-of : (p : ℕ) → (p ≡ 0) ⊎ NodeOf N a p → voltage N proposal p ≡ word v p
   unfolding written
   volt-of zero h = sym (ground-volt N s a k (legsNow N a m))
   volt-of (suc p) (inl e) = absurd (omega arith)
-  volt-of (suc p) (inr n) = volt-put N a k (m .records) ears v snd one top (m .records) (long .records) (suc p) n
+  volt-of (suc p) (inr n) = volt-put N a k (m .records) ears v snd (m .records) (long .records) (suc p) n
 
   -- ---- R, L, C, SW
 
@@ -145,7 +133,7 @@ module _ (N : Net) (s : NetSound N) (a : ℕ) (m : Memory) (long : Long m) (good
     current-of : fromCurrent proposal i ≡ current v wire
     unfolding written
     current-of =
-        current-put N a k (m .records) ears v snd one top (m .records) (long .records) i there (ap (λ (e : End). e .own) own-from)
+        current-put N a k (m .records) ears v snd (m .records) (long .records) i there (ap (λ (e : End). e .own) own-from)
         ∙ ap (λ (e : End). current v (e .wire)) own-from
 
     -- i = g·u + h
@@ -155,7 +143,7 @@ module _ (N : Net) (s : NetSound N) (a : ℕ) (m : Memory) (long : Long m) (good
 
     no-history : isL (rowAt N i) || isC (rowAt N i) ≡ false → history m i ≡ z
     no-history e =
-        zero-size (history m i) (subst (λ (n : ℕ). natAbs (history m i) ≤ n) (end-history N snd i there ∙ ap (λ (b : Bool). cond b Limits.historyEnd 0) e) (formed N m good .records (historyAt i)))
+        unused-zero N (m .records) (m .froms) (m .tos) good (historyAt i) (end-of N histories-in i (omega (arith, snd .rows)) ∙ ap (λ (b : Bool). cond b Limits.historyEnd 0) e)
 
     resistive : isOpen N (m .records) k i ≡ false → isL (rowAt N i) || isC (rowAt N i) ≡ false → fromCurrent proposal i ≡ gu N proposal i
     resistive o e = closed-current o ∙ rw (no-history e) (+ℤ-idr (gu N proposal i))
@@ -167,7 +155,7 @@ module _ (N : Net) (s : NetSound N) (a : ℕ) (m : Memory) (long : Long m) (good
     next-history : isL (rowAt N i) || isC (rowAt N i) ≡ true → history proposal i ≡ passedOn v (rowAt N i) wire
     unfolding written
     next-history e =
-        history-put N a k (m .records) ears v snd one top (m .records) (long .records) i there (both e (ap (λ (e : End). e .own) own-from))
+        history-put N a k (m .records) ears v snd (m .records) (long .records) i there (both e (ap (λ (e : End). e .own) own-from))
         ∙ ap (λ (e : End). passedOn v (rowAt N i) (e .wire)) own-from
 
     -- i + g·u
@@ -265,7 +253,7 @@ module _ (N : Net) (s : NetSound N) (a : ℕ) (m : Memory) (long : Long m) (good
     from-obeys e =
         end-obeys i (ear .atFrom) (toSent N m i) (ap (λ (x : Heard). x .atFrom) (ear-is N a k (m .froms) (m .tos) i there) ∙ rw (l, eq-eqb (areaOf N (from (rowAt N i))) a e))
         (from (rowAt N i)) (fromCurrent proposal i) (fromSent N proposal i k)
-        (current-put N a k (m .records) ears v snd one top (m .records) (long .records) i there (ap (λ (x : End). x .own) is) ∙ ap (λ (x : End). current v (x .wire)) is ∙ end-current (from (rowAt N i)) i (ear .atFrom) n)
+        (current-put N a k (m .records) ears v snd (m .records) (long .records) i there (ap (λ (x : End). x .own) is) ∙ ap (λ (x : End). current v (x .wire)) is ∙ end-current (from (rowAt N i)) i (ear .atFrom) n)
         (sent-put N a k (m .records) ears v (λ b. b .fromEnd) snd (m .froms) room i there (both l (ap (λ (x : End). x .own) is)) ∙ ap (λ (x : End). passedOn v (rowAt N i) (x .wire)) is ∙ end-sends (from (rowAt N i)) i (ear .atFrom) n l)
       where
         is : by i .fromEnd ≡ ownEnd (leg (from (rowAt N i)) 0 (conductance (step N) (rowAt N i)) (ear .atFrom))
@@ -279,7 +267,7 @@ module _ (N : Net) (s : NetSound N) (a : ℕ) (m : Memory) (long : Long m) (good
     to-obeys e =
         end-obeys i (ear .atTo) (fromSent N m i) (ap (λ (x : Heard). x .atTo) (ear-is N a k (m .froms) (m .tos) i there) ∙ rw (l, eq-eqb (areaOf N (to (rowAt N i))) a e))
         (to (rowAt N i)) (toCurrent proposal i) (toSent N proposal i k)
-        (to-put N a k (m .records) ears v snd one top (m .records) (long .records) i there (both l (ap (λ (x : End). x .own) is)) ∙ ap (λ (x : End). current v (x .wire)) is ∙ end-current (to (rowAt N i)) i (ear .atTo) n)
+        (to-put N a k (m .records) ears v snd (m .records) (long .records) i there (both l (ap (λ (x : End). x .own) is)) ∙ ap (λ (x : End). current v (x .wire)) is ∙ end-current (to (rowAt N i)) i (ear .atTo) n)
         (sent-put N a k (m .records) ears v (λ b. b .toEnd) snd (m .tos) room-to i there (both l (ap (λ (x : End). x .own) is)) ∙ ap (λ (x : End). passedOn v (rowAt N i) (x .wire)) is ∙ end-sends (to (rowAt N i)) i (ear .atTo) n l)
       where
         is : by i .toEnd ≡ ownEnd (leg (to (rowAt N i)) 0 (conductance (step N) (rowAt N i)) (ear .atTo))

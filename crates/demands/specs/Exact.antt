@@ -1,16 +1,8 @@
 -- T-exact, 11 to 13: each comes exactly when the paper says, and 13 names the first such branch in table order. Assumes nothing.
-use Prim.Native.Nat.{ℕ, suc, _≤_, _<_}
-use native.Mathlib.Omega.{arith}
-use mathlib.Core.Path.{_≡_, refl, sym, ap, _∙_}
-use mathlib.Core.Logic.{_≢_, _↔_}
-use mathlib.Core.Bool.{Bool, true, false, true≢false}
-use mathlib.Core.List.{List, []}
-use lib.ListN.{length}
-use lib.Dec.{leb}
-use borrow.Author.Tests.{leb-true, leb-false, le-leb, lt-leb}
+use Rattle.whole.specs.Plain.{ℕ, suc, _≤_, _<_, _≡_, refl, sym, ap, _∙_, _≢_, _↔_, Bool, true, false, true≢false, List}
+use Rattle.whole.specs.Plain.{[], leb, length, leb-true, leb-false, le-leb, lt-leb, arith, Words}
 use Rattle.paper.specs.declared.Advance.{Advance}
 use Rattle.paper.specs.declared.Advance.the-variants.{Took, Store, Network, State, Area, Done, Wait}
-use Rattle.whole.specs.Lists.{Words}
 use Rattle.whole.specs.Folds.{and-left, and-right, both}
 use Rattle.whole.specs.Places.{place-least, least-place}
 use Rattle.paper.specs.Answers.{advanceNumber}

@@ -1,36 +1,28 @@
 -- "17 HISTORY: a next history or sent value beyond 10^17": the row that the step's search finds. Assumes nothing.
-use Prim.Native.Nat.{ℕ, suc, _+_, _≤_, _<_}
-use native.Mathlib.Omega.{arith}
-use native.Mathlib.Decide.{ℕ-discrete}
-use mathlib.Core.Path.{_≡_, refl, sym, ap, _∙_}
-use mathlib.Core.Logic.{_≢_, _⊎_, inl, inr}
-use mathlib.Core.Bool.{Bool, true, false, cond, not, _&&_, _||_, and-false, true≢false}
-use mathlib.Core.List.{List, []}
-use lib.ListN.{length, getD}
-use lib.Dec.{eqb, leb}
-use lib.IntN.{ℤ, pos, negℤ, natAbs, _+ℤ_, _-ℤ_, _*ℤ_, zero-*ℤ}
-use borrow.Author.Tests.{eqb-true, ne-eqb, leb-false, lt-leb}
-use Rattle.whole.specs.Lists.{Words, z, word, upTo}
+use Rattle.whole.specs.Plain.{ℕ, suc, _+_, _≤_, _<_, _≡_, refl, sym, ap, _∙_, _≢_, _⊎_, inl, inr, Bool, true, false}
+use Rattle.whole.specs.Plain.{cond, not, _&&_, _||_, and-false, true≢false, List, [], eqb, leb, ℤ, pos, negℤ, natAbs}
+use Rattle.whole.specs.Plain.{_+ℤ_, _-ℤ_, _*ℤ_, zero-*ℤ, length, getD, ne-eqb, leb-false, lt-leb, ℕ-discrete, arith}
+use Rattle.whole.specs.Plain.{Words, z, word, upTo}
 use Rattle.whole.specs.Folds.{both}
 use Rattle.whole.specs.Int.{ring-laws, abs-neg}
 use Rattle.whole.specs.Places.{place-none, none-place, place-least, least-place}
 use Rattle.paper.specs.Limits as Limits
-use Rattle.paper.specs.Rows.{Row, kind, isBranch, isL, isC, isLine, from, to}
-use Rattle.paper.specs.Areas.{Net, areaOf, areaCount, rowArea, step, branchNumber}
+use Rattle.paper.specs.Rows.{Row, isBranch, isL, isC, isLine, from, to}
+use Rattle.paper.specs.Areas.{Net, areaOf, areaCount, rowArea, branchNumber}
 use Rattle.paper.specs.Records.{historyAt, wellFormed}
 use Rattle.paper.specs.Legs.{Leg, leg, idle, End, otherEnd, Branch, branch, Heard, heard, conducts, plainLegs, legsBy, through, current, echo, passedOn}
 use Rattle.paper.specs.Solve.{beyond}
 use Rattle.paper.specs.Advance.{Memory, written}
 use Rattle.facts.specs.Nets.{NetSound, rowAt}
 use Rattle.local.specs.Sound.{Sound}
-use Rattle.local.specs.Own.{row-is, legs-length, branch-is, line-no}
+use Rattle.local.specs.Own.{row-is, legs-length, branch-is, line-no, keeper}
 use Rattle.local.specs.Written.{history-put}
 use Rattle.local.specs.Slots.{sent-put}
 use Rattle.local.specs.Outcome.{stepOf, legsNow, voltsOf, large}
 use Rattle.stays.specs.Sizes.{beyond-place}
 use Rattle.stays.specs.Stays.{Long}
 use Rattle.demands.specs.Said.{history, fromSent, toSent, offer}
-use Rattle.demands.specs.Branches.{snd, top, from-leg, to-leg, from-else, to-else, plain-legs, row-else}
+use Rattle.demands.specs.Branches.{snd, from-leg, to-leg, from-else, to-else, plain-legs, row-else}
 
 -- what row i would pass on is beyond the end: the next history of an L or C of the area, or what one of its own line ends would send
 pub data Exceeds (N : Net) (a k : ℕ) (m : Memory) (i : ℕ) : Type 0 where
@@ -82,15 +74,6 @@ none-passes v r l e f = go (isL r) (isC r) (isLine r) e f
     go false true t p q = absurd (true≢false p)
     go false false true p q = absurd (true≢false q)
     go false false false p q = refl
-
--- an L or C is a branch
-pub keeper : (r : Row) → isL r || isC r ≡ true → isBranch r ≡ true
-keeper r e = go (eqb (kind r) 2) (eqb (kind r) 3) refl refl e
-  where
-    go : (x y : Bool) → eqb (kind r) 2 ≡ x → eqb (kind r) 3 ≡ y → x || y ≡ true → isBranch r ≡ true
-    go true y p q h = rw (eqb-true (kind r) 2 p)
-    go false true p q h = rw (eqb-true (kind r) 3 q)
-    go false false p q h = absurd (true≢false (sym h))
 
 over : (A B : ℤ) → not (upTo Limits.historyEnd A && upTo Limits.historyEnd B) ≡ true → (Limits.historyEnd < natAbs A) ⊎ (Limits.historyEnd < natAbs B)
 unfolding upTo
@@ -182,7 +165,7 @@ module _ (N : Net) (s : NetSound N) (a : ℕ) (m : Memory) (long : Long m) (good
       kept-is : isL r || isC r ≡ true → A ≡ history n i
       unfolding written plainLegs
       kept-is e =
-          sym (history-put N a k (m .records) ears v f one (top N s a m long good one most) (m .records) (long .records) i there (both e (ap (λ (x : Branch). x .fromEnd .own) own-is)))
+          sym (history-put N a k (m .records) ears v f (m .records) (long .records) i there (both e (ap (λ (x : Branch). x .fromEnd .own) own-is)))
 
       none-kept : isL r || isC r ≡ false → A ≡ z
       none-kept e = none-passes v r (by i .fromEnd .wire) e l

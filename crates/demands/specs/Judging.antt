@@ -1,11 +1,6 @@
 -- T-exact, 9, 8 and 10: "Advancing: 9, 8, then 10 to 17". Assumes nothing.
-use Prim.Native.Nat.{ℕ}
-use native.Mathlib.Omega.{arith}
-use mathlib.Core.Path.{_≡_}
-use mathlib.Core.Logic.{_↔_}
-use mathlib.Core.Bool.{true, false}
+use Rattle.whole.specs.Plain.{ℕ, _≡_, _↔_, true, false, arith, Words}
 use Rattle.paper.specs.declared.Advance.the-variants.{Store, Network, State}
-use Rattle.whole.specs.Lists.{Words}
 use Rattle.paper.specs.Network.{isNetwork}
 use Rattle.paper.specs.Records.{wellFormed}
 use Rattle.paper.specs.Areas.{Net}

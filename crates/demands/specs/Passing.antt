@@ -1,19 +1,11 @@
 -- 14 to 17, each by what the paper says of it: what a step's search, its doubles, its sums and what it passes on have to be for each to come.
 -- Assumes nothing.
-use Prim.Native.Nat.{ℕ, zero, suc, _≤_, _<_}
-use native.Mathlib.Omega.{arith}
-use mathlib.Core.Path.{_≡_, refl, sym, ap, _∙_}
-use mathlib.Core.Logic.{_≢_}
-use mathlib.Core.Bool.{Bool, true, false, not}
-use mathlib.Core.List.{List, [], _∷_}
-use lib.ListN.{length, getD}
-use lib.Dec.{leb}
-use lib.IntN.{ℤ, natAbs}
+use Rattle.whole.specs.Plain.{ℕ, zero, suc, _≤_, _<_, _≡_, refl, sym, ap, _∙_, _≢_, Bool, true, false, not, List, []}
+use Rattle.whole.specs.Plain.{_∷_, leb, ℤ, natAbs, length, getD, eqb-true, eq-eqb, leb-true, leb-false, le-leb, lt-leb}
+use Rattle.whole.specs.Plain.{not-true, not-false, arith, upTo}
 use lib.Ieee.{nan}
-use borrow.Author.Tests.{eqb-true, eq-eqb, leb-true, leb-false, le-leb, lt-leb, not-true, not-false}
 use Rattle.paper.specs.declared.Rounded.{Rounded}
 use Rattle.paper.specs.declared.Rounded.the-variants.{Whole, Outside}
-use Rattle.whole.specs.Lists.{upTo}
 use Rattle.whole.specs.Rising.{Rising, lowest-first, first-lowest}
 use Rattle.paper.specs.Rows.{limit}
 use Rattle.paper.specs.Areas.{Net, areaCount, fixed, freeOf}

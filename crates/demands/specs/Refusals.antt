@@ -1,13 +1,8 @@
 -- T-exact, 14 to 17, and acceptance: each comes exactly when the paper says, and names the lowest such node or the first such branch. Assumes nothing.
-use Prim.Native.Nat.{ℕ, zero, suc, _<_}
-use native.Mathlib.Omega.{arith}
-use mathlib.Core.Path.{_≡_, refl, sym, ap, _∙_, subst}
-use mathlib.Core.Logic.{_≢_, _↔_}
-use mathlib.Core.List.{List}
-use lib.ListN.{length, getD}
+use Rattle.whole.specs.Plain.{ℕ, zero, suc, _<_, _≡_, refl, sym, ap, _∙_, subst, _≢_, _↔_, List, length, getD, arith}
+use Rattle.whole.specs.Plain.{Words}
 use Rattle.paper.specs.declared.Advance.{Advance}
 use Rattle.paper.specs.declared.Advance.the-variants.{Took, Floating, Range, Unbalanced, History}
-use Rattle.whole.specs.Lists.{Words}
 use Rattle.whole.specs.Members.{among-at}
 use Rattle.paper.specs.Answers.{advanceNumber}
 use Rattle.paper.specs.Areas.{Net, freeOf, branchNumber}

@@ -1,21 +1,14 @@
 -- One step of one area in document 01's words: what the records and line stores say before it (m) and after it (n). Definitions only, to be held
 -- beside the paper. Assumes nothing.
-use Prim.Native.Nat.{ℕ, zero, suc, _+_, _-_, _≤_, _<_}
-use mathlib.Core.Path.{_≡_}
-use mathlib.Core.Logic.{_≢_}
-use mathlib.Core.Bool.{true, false, cond, _||_}
-use mathlib.Core.List.{List}
-use lib.ListN.{length, getD}
-use lib.Dec.{eqb}
-use lib.IntN.{ℤ, pos, negℤ, natAbs, _+ℤ_, _-ℤ_, _*ℤ_}
+use Rattle.whole.specs.Plain.{ℕ, zero, suc, _+_, _-_, _≤_, _<_, _≡_, _≢_, true, false, cond, List, eqb, ℤ, pos, negℤ}
+use Rattle.whole.specs.Plain.{natAbs, _+ℤ_, _-ℤ_, _*ℤ_, length, getD, z, word, numbers, total}
 use lib.Ieee.{Float, nan}
 use Rattle.paper.specs.declared.Rounded.the-variants.{Whole}
-use Rattle.whole.specs.Lists.{z, word, numbers, total}
-use Rattle.paper.specs.Rows.{isBranch, isR, isL, isC, isLine, isSwitch, isVS, from, to, at, limit}
+use Rattle.paper.specs.Rows.{isBranch, isR, isL, isC, isLine, isSwitch, isFixing, from, to, at, limit}
 use Rattle.paper.specs.Conductance.{conductance}
 use Rattle.paper.specs.Areas.{Net, areaOf, areaCount, rowArea, step, fixed, freeOf}
 use Rattle.paper.specs.Sources.{source, injected}
-use Rattle.paper.specs.Records.{countAt, voltAt, currentAt, toCurrentAt, historyAt, countOf}
+use Rattle.paper.specs.Records.{countAt, voltAt, currentAt, toCurrentAt, historyAt, countOf, ownerOf}
 use Rattle.paper.specs.Legs.{Branch, bothLegs, heard, isOpen, legsOf}
 use Rattle.paper.specs.Doubles.{nearestOf}
 use Rattle.paper.specs.Elimination.{voltages}
@@ -35,9 +28,9 @@ pub record IsArea (N : Net) (a : ℕ) : Type 0 where
 -- ---- what stands in the records and stores
 
 -- "0 is ground"
-abbrev pub voltage : Memory → ℕ → ℤ
-voltage m zero = z
-voltage m (suc n) = word (m .records) (voltAt (suc n))
+abbrev pub voltage : Net → Memory → ℕ → ℤ
+voltage N m zero = z
+voltage N m (suc n) = word (m .records) (voltAt N (suc n))
 
 -- of the row in place i: the current that leaves its from node, that which leaves a line's to node, and the history
 abbrev pub fromCurrent : Memory → ℕ → ℤ
@@ -61,10 +54,10 @@ abbrev pub g : Net → ℕ → ℤ
 g N i = pos (conductance (step N) (rowAt N i))
 
 abbrev pub gu : Net → Memory → ℕ → ℤ
-gu N n i = g N i *ℤ (voltage n (from (rowAt N i)) -ℤ voltage n (to (rowAt N i)))
+gu N n i = g N i *ℤ (voltage N n (from (rowAt N i)) -ℤ voltage N n (to (rowAt N i)))
 
 abbrev pub gv : Net → Memory → ℕ → ℕ → ℤ
-gv N n i p = g N i *ℤ voltage n p
+gv N n i p = g N i *ℤ voltage N n p
 
 -- ---- "Branch equations"
 
@@ -123,9 +116,9 @@ pub record Stepped (N : Net) (a k : ℕ) (m n : Memory) : Type 0 where
   pub next : k ≡ suc (countOf (m .records) a)
   pub count : word (n .records) (countAt a) ≡ pos k
   -- a fixed node has its source's value
-  pub fixed-node : (p i : ℕ) → NodeOf N a p → i < length (N .rows) → isVS (rowAt N i) ≡ true → at (rowAt N i) ≡ p → voltage n p ≡ source N k (rowAt N i)
+  pub fixed-node : (p i : ℕ) → NodeOf N a p → i < length (N .rows) → isFixing (rowAt N i) ≡ true → at (rowAt N i) ≡ p → voltage N n p ≡ source N k (rowAt N i)
   -- a free node has the double of the stated elimination, rounded to the nearest whole number
-  pub free-node : (q : ℕ) → q < length (freeOf N a) → nearestOf (getD (solution N a k m) q nan) ≡ Whole (voltage n (getD (freeOf N a) q 0))
+  pub free-node : (q : ℕ) → q < length (freeOf N a) → nearestOf (getD (solution N a k m) q nan) ≡ Whole (voltage N n (getD (freeOf N a) q 0))
   -- each branch of the area obeys its own equation
   pub plain : (i : ℕ) → i < length (N .rows) → isBranch (rowAt N i) ≡ true → isLine (rowAt N i) ≡ false → rowArea N (rowAt N i) ≡ a → Obeys N k m n i
   pub from-end : (i : ℕ) → i < length (N .rows) → isLine (rowAt N i) ≡ true → areaOf N (from (rowAt N i)) ≡ a
@@ -134,11 +127,7 @@ pub record Stepped (N : Net) (a k : ℕ) (m n : Memory) : Type 0 where
       → EndObeys N k i (to (rowAt N i)) n (toCurrent n i) (toSent N n i k) (fromSent N m i)
   -- "At each free node the exact whole-number sum of currents leaving, minus injection, has magnitude at most the limit."
   pub balance : (p : ℕ) → NodeOf N a p → fixed N p ≡ false → natAbs (imbalanceAt N k n p) ≤ limit (N .head)
-  -- every other word of the records and of the two stores is as it was
-  pub records : (j : ℕ) → j ≢ countAt a → ((p : ℕ) → NodeOf N a p → j ≢ voltAt p)
-      → ((i : ℕ) → i < length (N .rows) → isBranch (rowAt N i) ≡ true → cond (isLine (rowAt N i)) (areaOf N (from (rowAt N i))) (rowArea N (rowAt N i)) ≡ a → j ≢ currentAt i)
-      → ((i : ℕ) → i < length (N .rows) → isLine (rowAt N i) ≡ true → areaOf N (to (rowAt N i)) ≡ a → j ≢ toCurrentAt i)
-      → ((i : ℕ) → i < length (N .rows) → isL (rowAt N i) || isC (rowAt N i) ≡ true → rowArea N (rowAt N i) ≡ a → j ≢ historyAt i)
-      → word (n .records) j ≡ word (m .records) j
+  -- every word of the records and of the two stores that is not the area's own is as it was
+  pub records : (j : ℕ) → ownerOf N j ≢ a → word (n .records) j ≡ word (m .records) j
   pub froms : (j : ℕ) → ((i : ℕ) → i < length (N .rows) → isLine (rowAt N i) ≡ true → areaOf N (from (rowAt N i)) ≡ a → j ≢ slotOf N i k) → word (n .froms) j ≡ word (m .froms) j
   pub tos : (j : ℕ) → ((i : ℕ) → i < length (N .rows) → isLine (rowAt N i) ≡ true → areaOf N (to (rowAt N i)) ≡ a → j ≢ slotOf N i k) → word (n .tos) j ≡ word (m .tos) j

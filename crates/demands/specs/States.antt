@@ -1,11 +1,6 @@
 -- T-fresh, T-stays and T-local, of the calls themselves. Assumes nothing.
-use Prim.Native.Nat.{ℕ}
-use mathlib.Core.Path.{_≡_, sym, _∙_}
-use mathlib.Core.Bool.{true}
-use lib.ListN.{length-replicate}
-use borrow.Author.Tests.{eq-eqb}
+use Rattle.whole.specs.Plain.{ℕ, _≡_, sym, _∙_, true, length-replicate, eq-eqb, Words, z}
 use Rattle.paper.specs.declared.Resetting.the-variants.{Reset}
-use Rattle.whole.specs.Lists.{Words, z}
 use Rattle.whole.specs.Folds.{both}
 use Rattle.paper.specs.Limits as Limits
 use Rattle.paper.specs.Network.{isNetwork}

@@ -1,22 +1,13 @@
 -- T-step: an accepted step, in the paper's words. Assumes nothing.
-use Prim.Native.Nat.{ℕ, _≤_}
-use native.Mathlib.Omega.{arith}
-use mathlib.Core.Path.{_≡_, refl, sym, ap, _∙_, subst}
-use mathlib.Core.Logic.{inr}
-use mathlib.Core.Bool.{Bool, true, false, _&&_, _||_}
-use mathlib.Core.List.{List}
-use lib.ListN.{length, getD}
-use lib.Dec.{eqb}
-use lib.IntN.{natAbs}
-use borrow.Author.Tests.{eqb-true, eq-eqb, leb-true, not-false}
+use Rattle.whole.specs.Plain.{ℕ, _≤_, _≡_, refl, sym, ap, _∙_, subst, inr, Bool, true, false, _&&_, List, eqb, natAbs}
+use Rattle.whole.specs.Plain.{length, getD, eqb-true, eq-eqb, leb-true, not-false, arith, Words, z, word, upTo}
 use Rattle.paper.specs.declared.Advance.{Advance}
 use Rattle.paper.specs.declared.Advance.the-variants.{Took, Store, Network, State}
 use Rattle.paper.specs.declared.Rounded.the-variants.{Whole}
-use Rattle.whole.specs.Lists.{Words, z, word, upTo}
 use Rattle.whole.specs.Folds.{and-left, and-right, both}
 use Rattle.whole.specs.Members.{among-at}
 use Rattle.paper.specs.Answers.{accepted}
-use Rattle.paper.specs.Rows.{isL, isC, isLine, at, limit}
+use Rattle.paper.specs.Rows.{isLine, at, limit}
 use Rattle.paper.specs.Faults.{fixes}
 use Rattle.paper.specs.Network.{isNetwork}
 use Rattle.paper.specs.Areas.{Net, fixed, freeOf}
@@ -26,14 +17,12 @@ use Rattle.paper.specs.Solve.{unbalanced}
 use Rattle.paper.specs.Advance.{Memory, Advanced, advanced, written, onNet, fits, advanceOf}
 use Rattle.facts.specs.Nets.{NetSound, rowAt, netIn, net-sound}
 use Rattle.local.specs.Sound.{Sound, sound}
-use Rattle.local.specs.Own.{from-own, to-own, line-no}
+use Rattle.local.specs.Own.{from-own, to-own}
 use Rattle.local.specs.Nodes.{NodeOf, free-of, of-free}
-use Rattle.local.specs.Written.{count-put, records-other}
+use Rattle.local.specs.Written.{count-put, records-keep}
 use Rattle.local.specs.Slots.{sent-other}
 use Rattle.local.specs.Outcome.{stepOf, legsNow, voltsOf, outside, heavy, Taken, taken, Solving, floats, leaves, tips, exceeds, solves, solving}
-use Rattle.stays.specs.Formed.{formed}
 use Rattle.stays.specs.Stays.{Long, stop-move}
-use Rattle.stays.specs.Sizes.{own-branch}
 use Rattle.demands.specs.Said.{voltage, imbalanceAt, Stepped}
 use Rattle.demands.specs.Volts.{fixed-volt, free-whole, free-rising, first-all}
 use Rattle.demands.specs.Branches.{proposal, volt-of, plain-obeys, from-obeys, to-obeys}
@@ -136,9 +125,6 @@ module _ (N : Net) (s : NetSound N) (a : ℕ) (m : Memory) (long : Long m) (good
   snd : Sound N
   snd = sound N s
 
-  top : a ≤ 32
-  top = omega (arith, t .most, snd .areas)
-
   -- neither 14 nor 15, 16, 17
   record Passed : Type 0 where
     whole : outside N a k bs ≡ 0
@@ -154,7 +140,7 @@ module _ (N : Net) (s : NetSound N) (a : ℕ) (m : Memory) (long : Long m) (good
       go (exceeds i p o h b e) = absurd (stop-move (sym e ∙ t .solved))
       go (solves p o h b e) = record { whole = o; even = h }
 
-  volt : (p : ℕ) → NodeOf N a p → voltage n p ≡ word v p
+  volt : (p : ℕ) → NodeOf N a p → voltage N n p ≡ word v p
   volt p h = volt-of N s a m long good (t .one) (t .most) p (inr h)
 
   balanced : (p : ℕ) → NodeOf N a p → fixed N p ≡ false → natAbs (imbalanceAt N k n p) ≤ limit (N .head)
@@ -167,22 +153,14 @@ module _ (N : Net) (s : NetSound N) (a : ℕ) (m : Memory) (long : Long m) (good
   unfolding written fixes
   step-taken = record {
     next = refl;
-    count = count-put N a k (m .records) ears v snd (t .one) top (m .records) (long .records);
+    count = count-put N a k (m .records) ears v snd (m .records) (long .records) (t .one) (t .most);
     fixed-node = λ p i h l e q. volt p h ∙ fixed-volt N s a k bs p i h l (both e (eq-eqb (at (rowAt N i)) p q));
     free-node = λ q h. free-whole N s a k bs (passed .whole) q h ∙ ap Whole (sym (volt (getD (freeOf N a) q 0) (free-of N a (among-at (freeOf N a) q 0 h) .0)));
     plain = plain-obeys N s a m long good (t .one) (t .most);
     from-end = from-obeys N s a m long good (t .one) (t .most);
     to-end = to-obeys N s a m long good (t .one) (t .most);
     balance = balanced;
-    records = λ j c p f u h. records-other N a k (m .records) ears v (m .records) j record {
-      count = c;
-      volts = p;
-      froms = λ i l o. f i l (own-branch N m (formed N m good) s a k i o) (from-own N a k (m .records) ears i o);
-      tos = λ i l o. let e = and-left (isLine (rowAt N i)) _ o in u i l e (to-own N a k (m .records) ears i e (and-right (isLine (rowAt N i)) _ o));
-      histories = λ i l o.
-          let e = and-left (isL (rowAt N i) || isC (rowAt N i)) _ o in
-          h i l e (rw (line-no (rowAt N i) e) at (from-own N a k (m .records) ears i (and-right (isL (rowAt N i) || isC (rowAt N i)) _ o)));
-    };
+    records = records-keep N a k bs v (m .records);
     froms = λ j h. sent-other N a k (m .records) ears v (λ b. b .fromEnd) j
         (λ i l o. let e = and-left (isLine (rowAt N i)) _ o in h i l e (rw e at (from-own N a k (m .records) ears i (and-right (isLine (rowAt N i)) _ o)))) (m .froms);
     tos = λ j h. sent-other N a k (m .records) ears v (λ b. b .toEnd) j

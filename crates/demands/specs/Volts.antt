@@ -1,19 +1,12 @@
 -- The voltages that a step proposes, node by node: ground's, a fixed node's, a free node's. Assumes nothing.
-use Prim.Native.Nat.{ℕ, zero, suc, _≤_, _<_}
-use native.Mathlib.Omega.{arith}
-use mathlib.Core.Path.{_≡_, refl, sym, ap, _∙_}
-use mathlib.Core.Logic.{_⊎_, inl, inr}
-use mathlib.Core.Bool.{Bool, true, false, cond, not, true≢false}
-use mathlib.Core.List.{List, [], _∷_, List·Memᴰ·cases-cons, List·Memᴰ·not-nil}
-use lib.ListN.{length, getD, set, length-set, take, length-map, replicate, length-replicate}
-use lib.Seq.{getD-set-same, getD-set-other, getD-take, length-take-le}
-use lib.Dec.{eqb}
-use lib.IntN.{ℤ, pos}
+use Rattle.whole.specs.Plain.{ℕ, zero, suc, _≤_, _<_, _≡_, refl, sym, ap, _∙_, _⊎_, inl, inr, Bool, true, false, cond}
+use Rattle.whole.specs.Plain.{not, true≢false, List, [], _∷_, List·Memᴰ·cases-cons, List·Memᴰ·not-nil, eqb, ℤ, pos}
+use Rattle.whole.specs.Plain.{length, getD, set, length-set, take, length-map, replicate, length-replicate}
+use Rattle.whole.specs.Plain.{getD-set-same, getD-set-other, getD-take, length-take-le, eq-eqb, arith, Words, z, word}
+use Rattle.whole.specs.Plain.{any, keep, numbers, first}
 use lib.Ieee.{Float, nan, fin}
-use borrow.Author.Tests.{eq-eqb}
 use Rattle.paper.specs.declared.Rounded.{Rounded}
 use Rattle.paper.specs.declared.Rounded.the-variants.{Whole, Outside}
-use Rattle.whole.specs.Lists.{Words, z, word, any, keep, numbers, first}
 use Rattle.whole.specs.Folds.{getD-map, length-keep, count-le, length-numbers, none-at}
 use Rattle.whole.specs.TurnLaws.{downs-keeps}
 use Rattle.whole.specs.Members.{Among, top, below, among-at}
@@ -35,13 +28,6 @@ unfolding freeOf nodesOf
 free-rising N a = rising-keep _ 0 _ (rising-keep _ 0 _ (rising-numbers 0 (N .nodes)))
 
 -- ---- the free nodes' values, put in their places
-
-settled-length : (ns : List ℕ) (xs : List Rounded) (v : Words) → length (settled ns xs v) ≡ length v
-unfolding settled
-settled-length [] xs v = refl
-settled-length (n ∷ ns) [] v = refl
-settled-length (n ∷ ns) (Whole x ∷ xs) v = settled-length ns xs (set v n x) ∙ length-set v n x
-settled-length (n ∷ ns) (Outside ∷ xs) v = settled-length ns xs v
 
 settled-other : (ns : List ℕ) (xs : List Rounded) (v : Words) (p : ℕ) → (Among p ns → ⊥) → word (settled ns xs v) p ≡ word v p
 unfolding settled

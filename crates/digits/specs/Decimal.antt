@@ -1,16 +1,10 @@
 -- A number's digits, several at a time. Assumes nothing.
-use Prim.Native.Nat.{ℕ, zero, suc, _+_, _*_, _/_, _%_, _^_, _≤_, _<_}
-use mathlib.Core.Path.{_≡_, refl, sym, ap, _∙_}
-use mathlib.Core.Bool.{Bool, true, false, not}
-use mathlib.Core.List.{List, [], _∷_, _++_, append-assoc, append-nil}
-use native.Mathlib.Omega.{arith}
-use native.Mathlib.Decide.{decLt}
-use native.Mathlib.Nat.{mul-assoc, pow-suc, pow-succ', one-le-pow, div-div-eq-div-mul, div-le-self, div-one, div-add-mod'}
-use borrow.Author.Tests.{eq-eqb, ne-eqb}
-use lib.Dec.{eqb}
-use lib.ListN.{length, length-append}
-use lib.IntN.{ℤ, pos, negsuc, natAbs}
+use Rattle.whole.specs.Plain.{ℕ, zero, suc, _+_, _*_, _/_, _%_, _^_, _≤_, _<_, _≡_, refl, sym, ap, _∙_, Bool, true}
+use Rattle.whole.specs.Plain.{false, not, List, [], _∷_, _++_, append-assoc, append-nil, eqb, ℤ, pos, negsuc, natAbs}
+use Rattle.whole.specs.Plain.{length, length-append, eq-eqb, ne-eqb, mul-assoc, pow-suc, pow-succ', one-le-pow}
+use Rattle.whole.specs.Plain.{div-div-eq-div-mul, div-le-self, div-one, div-add-mod', decLt, arith}
 use Rattle.paper.specs.Listing.{digits, shownNat, shown}
+use Rattle.spelling.specs.Digits.{stopped, before}
 use Rattle.digits.specs.Puts.{Puts, Parts, puts-room}
 
 -- n's last w digits, zeros in front too
@@ -24,21 +18,6 @@ length-fixed zero n = refl
 length-fixed (suc w) n = omega (arith, length-append (fixed w (n / 10)) ((48 + n % 10) ∷ []), length-fixed w (n / 10))
 
 -- ---- the listing's digits, the last one first
-
-stopped : (f n : ℕ) (rest : List ℕ) → digits f false n rest ≡ rest
-unfolding digits
-stopped zero n rest = refl
-stopped (suc f) n rest = refl
-
-before : (f : ℕ) (more : Bool) (n : ℕ) (rest : List ℕ) → digits f more n rest ≡ digits f more n [] ++ rest
-unfolding digits
-before zero more n rest = refl
-before (suc f) false n rest = refl
-before (suc f) true n rest =
-    let q = n / 10 in
-    let d = 48 + n % 10 in
-    let m = not (eqb q 0) in
-    before f m q (d ∷ rest) ∙ sym (ap (λ (l : List ℕ). l ++ rest) (before f m q (d ∷ [])) ∙ append-assoc (digits f m q []) (d ∷ []) rest)
 
 abbrev last : ℕ → List ℕ → List ℕ
 last n rest = (48 + n % 10) ∷ rest

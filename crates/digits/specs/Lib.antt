@@ -1,5 +1,3 @@
 pub mod Puts
 pub mod Decimal
 pub mod Pairs
-pub mod Eights
-pub mod Magnitude

@@ -1,13 +1,6 @@
 -- Two digits at a time: the pairs that are looked up. Assumes nothing.
-use Prim.Native.Nat.{ℕ, zero, suc, _+_, _*_, _/_, _%_, _≤_, _<_}
-use mathlib.Core.Path.{_≡_, refl, _∙_}
-use mathlib.Core.Bool.{cond}
-use mathlib.Core.List.{List, [], _∷_, _++_}
-use native.Mathlib.Omega.{arith}
-use native.Mathlib.Decide.{decLt}
-use borrow.Author.Tests.{lt-ltb, le-ltb}
-use lib.Dec.{ltb}
-use lib.ListN.{getD}
+use Rattle.whole.specs.Plain.{ℕ, zero, suc, _+_, _*_, _/_, _%_, _≤_, _<_, _≡_, refl, _∙_, cond, List, [], _∷_, _++_}
+use Rattle.whole.specs.Plain.{ltb, getD, lt-ltb, le-ltb, decLt, arith}
 use Rattle.paper.specs.Listing.{shownNat}
 use Rattle.digits.specs.Puts.{Parts}
 use Rattle.digits.specs.Decimal.{fixed, shown-digit, shown-exact}

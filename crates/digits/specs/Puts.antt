@@ -1,11 +1,7 @@
 -- Bytes put into a buffer one after another, from a place on: what each function that writes a part of a listing promises. Assumes nothing.
-use Prim.Native.Nat.{ℕ, suc, _+_, _≤_}
-use mathlib.Core.Path.{_≡_, refl, sym, ap, _∙_}
-use mathlib.Core.List.{List, [], _∷_, _++_}
-use native.Mathlib.Omega.{arith}
+use Rattle.whole.specs.Plain.{ℕ, suc, _+_, _≤_, _≡_, refl, sym, ap, _∙_, List, [], _∷_, _++_, length, set, drop}
+use Rattle.whole.specs.Plain.{length-append, sets, length-sets, sets-eq, arith}
 use native.Mathlib.Numerals.{add-one}
-use lib.ListN.{length, set, drop, length-append}
-use lib.Seq.{sets, length-sets, sets-eq}
 
 -- the bytes bs put into the buffer from `at` on, and the next place
 pub record Puts (before : List ℕ) (at : ℕ) (bs : List ℕ) (next : ℕ) (after : List ℕ) : Type 0 where

@@ -1,13 +1,10 @@
-// A number's digits, put into a lent buffer from a place on, two at a time; each function answers the next place.
-ghost use mathlib.Core.Path.{_≡_};
-ghost use Prim.Native.Nat.{_+_, _/_, _^_, _≤_, _<_};
-ghost use lib.ListN.{length};
+// Up to eight digits, put into a lent buffer from a place on, two at a time; each function answers the next place.
+ghost use Rattle.whole.specs.Plain.{_+_, _/_, _^_, _≤_, _<_, _≡_, length};
 ghost use Rattle.whole.specs.Loans.{was, is};
-ghost use Rattle.paper.specs.Listing.{shownNat, shown};
+ghost use Rattle.paper.specs.Listing.{shownNat};
 ghost use Rattle.digits.specs.Puts.{Puts};
 ghost use Rattle.digits.specs.Decimal.{fixed};
 ghost use Rattle.digits.specs.Pairs.{allPairs, tens};
-ghost use Rattle.digits.specs.Eights.{Cut, groupsOf};
 
 // Both digits of 0 to 99, to look them up. Whoever puts many numbers makes them once.
 pub type Pairs = [u8; 200];
@@ -74,7 +71,7 @@ fn put_four(pairs: &Pairs, out: &mut [u8], at: usize, n: u64) -> usize
     put_pair(pairs, out, next, n - 100 * lead)
 }
 
-fn put_eight(pairs: &Pairs, out: &mut [u8], at: usize, n: u64) -> usize
+pub fn put_eight(pairs: &Pairs, out: &mut [u8], at: usize, n: u64) -> usize
     requires { ⌜ (now pairs ≡ allPairs) × (n < 10 ^ 8) × (at + 8 ≤ length (now out)) ⌝ }
     ensures { λ r. ⌜ Puts (was out) at (fixed 8 n) r (is out) ⌝ }
 {
@@ -129,7 +126,7 @@ fn put_to_four(pairs: &Pairs, out: &mut [u8], at: usize, n: u64) -> usize
     put_four(pairs, out, at, n)
 }
 
-fn put_to_eight(pairs: &Pairs, out: &mut [u8], at: usize, n: u64) -> usize
+pub fn put_to_eight(pairs: &Pairs, out: &mut [u8], at: usize, n: u64) -> usize
     requires { ⌜ (now pairs ≡ allPairs) × (n < 10 ^ 8) × (at + length (shownNat n) ≤ length (now out)) ⌝ }
     ensures { λ r. ⌜ Puts (was out) at (shownNat n) r (is out) ⌝ }
 {
@@ -139,96 +136,4 @@ fn put_to_eight(pairs: &Pairs, out: &mut [u8], at: usize, n: u64) -> usize
     let lead = ten_thousands(n);
     let next = put_to_four(pairs, out, at, lead);
     put_four(pairs, out, next, n - 10_000 * lead)
-}
-
-// A number's first digits, and how many groups of eight stand behind them: none, the low one, or both.
-struct Eights {
-    top: u64,
-    groups: usize,
-    middle: u64,
-    low: u64,
-}
-
-fn eights_of(n: u64) -> Eights
-    ensures { λ r. ⌜ Cut n r ⌝ }
-{
-    if n < 100_000_000 {
-        return Eights {
-            top: n,
-            groups: 0,
-            middle: 0,
-            low: 0,
-        };
-    }
-    let rest = n / 100_000_000;
-    let low = n - 100_000_000 * rest;
-    if rest < 100_000_000 {
-        return Eights {
-            top: rest,
-            groups: 1,
-            middle: 0,
-            low,
-        };
-    }
-    let top = rest / 100_000_000;
-    Eights {
-        top,
-        groups: 2,
-        middle: rest - 100_000_000 * top,
-        low,
-    }
-}
-
-fn put_groups(pairs: &Pairs, out: &mut [u8], at: usize, p: Eights) -> usize
-    requires { ⌜ (now pairs ≡ allPairs) × (p .middle < 10 ^ 8) × (p .low < 10 ^ 8) ⌝ }
-    requires { ⌜ at + length (groupsOf p) ≤ length (now out) ⌝ }
-    ensures { λ r. ⌜ Puts (was out) at (groupsOf p) r (is out) ⌝ }
-{
-    if p.groups == 0 {
-        return at;
-    }
-    if p.groups == 1 {
-        return put_eight(pairs, out, at, p.low);
-    }
-    let next = put_eight(pairs, out, at, p.middle);
-    put_eight(pairs, out, next, p.low)
-}
-
-pub fn put_natural_by(pairs: &Pairs, out: &mut [u8], at: usize, n: u64) -> usize
-    requires { ⌜ (now pairs ≡ allPairs) × (at + length (shownNat n) ≤ length (now out)) ⌝ }
-    ensures { λ r. ⌜ Puts (was out) at (shownNat n) r (is out) ⌝ }
-{
-    let p = eights_of(n);
-    let next = put_to_eight(pairs, out, at, p.top);
-    put_groups(pairs, out, next, p)
-}
-
-pub fn put_number_by(pairs: &Pairs, out: &mut [u8], at: usize, x: i64) -> usize
-    requires { ⌜ (now pairs ≡ allPairs) × (at + length (shown x) ≤ length (now out)) ⌝ }
-    ensures { λ r. ⌜ Puts (was out) at (shown x) r (is out) ⌝ }
-{
-    let n = whole::magnitude(x);
-    if 0 <= x {
-        return put_natural_by(pairs, out, at, n);
-    }
-    out[at] = b'-';
-    put_natural_by(pairs, out, at + 1, n)
-}
-
-// ---- one number alone
-
-pub fn put_natural(out: &mut [u8], at: usize, n: u64) -> usize
-    requires { ⌜ at + length (shownNat n) ≤ length (now out) ⌝ }
-    ensures { λ r. ⌜ Puts (now (out .entry)) at (shownNat n) r (now (out .exit)) ⌝ }
-{
-    let pairs = pairs();
-    put_natural_by(&pairs, out, at, n)
-}
-
-pub fn put_number(out: &mut [u8], at: usize, x: i64) -> usize
-    requires { ⌜ at + length (shown x) ≤ length (now out) ⌝ }
-    ensures { λ r. ⌜ Puts (now (out .entry)) at (shown x) r (now (out .exit)) ⌝ }
-{
-    let pairs = pairs();
-    put_number_by(&pairs, out, at, x)
 }

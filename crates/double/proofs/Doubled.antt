@@ -1,12 +1,10 @@
 -- A double is doubled exactly. So the whole part of its double gives the nearest whole number. Assumes nothing.
-use Prim.Native.Nat.{ℕ, zero, suc, _+_, _*_, _-_, _/_, _%_, _^_, _<_, _≤_}
-use mathlib.Core.Path.{_≡_, refl, sym, subst, ap, _∙_}
-use mathlib.Core.Bool.{Bool, true, false, _&&_}
-use native.Mathlib.Nat.{le-trans, le-of-eq, lt-of-le-of-lt, le-of-mul-le-mul-right, mul-le-mul-right, mul-assoc, mul-one, mul-right-comm, add-mul, zero-mul, mul-pos, lt-irrefl, lt-of-lt-of-le, div-le-of-le-mul, div-div-eq-div-mul, add-div-right, zero-div, mul-comm}
-use native.Mathlib.Omega.{arith}
-use lib.Dec.{T, leb, ltb, eqb, lt→ltb, leb→le, ltb→lt, lit<}
+use Rattle.whole.specs.Plain.{ℕ, zero, suc, _+_, _*_, _-_, _/_, _%_, _^_, _<_, _≤_, _≡_, refl, sym, subst, ap, _∙_}
+use Rattle.whole.specs.Plain.{Bool, true, false, _&&_, T, leb, ltb, eqb, lt→ltb, leb→le, ltb→lt, lit<, ℤ, pos, negsuc}
+use Rattle.whole.specs.Plain.{le-trans, le-of-eq, lt-of-le-of-lt, le-of-mul-le-mul-right, mul-le-mul-right, mul-assoc}
+use Rattle.whole.specs.Plain.{mul-one, mul-right-comm, add-mul, zero-mul, mul-pos, lt-irrefl, lt-of-lt-of-le}
+use Rattle.whole.specs.Plain.{div-le-of-le-mul, div-div-eq-div-mul, add-div-right, zero-div, mul-comm, arith}
 use lib.Pow.{pow-add, pow-lt}
-use lib.IntN.{ℤ, pos, negsuc}
 use lib.Ieee.{Float, nan, inf, fin, binary64, up, down, round, add, lt, fits, toUnsigned}
 use lib.Ieee.Fits.{down-pos, and-l, and-r}
 use lib.Ieee.Exact.{HasValue, round-exact}

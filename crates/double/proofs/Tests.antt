@@ -1,12 +1,8 @@
 -- The tests that code makes, by the number that the double is. Assumes nothing.
-use Prim.Native.Nat.{ℕ, _+_, _*_, _<_, _≤_}
-use mathlib.Core.Path.{_≡_, refl, sym, ap, _∙_}
-use mathlib.Core.Bool.{Bool, true, false, not, _&&_, _||_, true≢false, false≢true, and-true}
-use native.Mathlib.Nat.{le-trans, le-of-eq, le-of-mul-le-mul-right, mul-one, zero-mul}
-use native.Mathlib.Omega.{arith}
-use borrow.Author.Tests.{ltb-true, ltb-false, leb-true, leb-false, lt-ltb, eq-eqb, ne-eqb, eqb-true, eqb-false}
-use lib.Dec.{leb, ltb, eqb}
-use lib.IntN.{ℤ, pos, negℤ}
+use Rattle.whole.specs.Plain.{ℕ, _+_, _*_, _<_, _≤_, _≡_, refl, sym, ap, _∙_, Bool, true, false, not, _&&_, _||_}
+use Rattle.whole.specs.Plain.{true≢false, false≢true, and-true, leb, ltb, eqb, ℤ, pos, negℤ, ltb-true, ltb-false}
+use Rattle.whole.specs.Plain.{leb-true, leb-false, lt-ltb, eq-eqb, ne-eqb, eqb-true, eqb-false, le-trans, le-of-eq}
+use Rattle.whole.specs.Plain.{le-of-mul-le-mul-right, mul-one, zero-mul, arith}
 use lib.Ieee.{Float, nan, inf, fin, binary64, up, down, neg, lt, le, ofInt}
 use lib.Ieee.Fits.{down-pos, up-pos}
 use lib.Ieee.Positive.{num, den}

@@ -1,19 +1,15 @@
 -- The double of a whole number by its two halves is that number rounded once, to the nearest double, for each number of 64 bits. Assumes nothing.
-use Prim.Native.Nat.{ℕ, suc, _*_, _-_, _/_, _%_, _^_, _<_}
-use mathlib.Core.Path.{_≡_, refl, sym, subst, ap, _∙_}
-use mathlib.Core.Bool.{Bool, true, false, cond, true≢false, false≢true}
-use native.Mathlib.Nat.{mul-one, mul-assoc, mul-comm, mul-right-comm, mul-pos, mul-lt-mul-of-pos-right, mul-sub, zero-lt-suc, lt-of-lt-of-le, le-of-lt}
-use native.Mathlib.Omega.{arith}
-use lib.Dec.{ltb, lit≤}
+use Rattle.whole.specs.Plain.{ℕ, suc, _*_, _-_, _/_, _%_, _^_, _<_, _≡_, refl, sym, subst, ap, _∙_, Bool, true, false}
+use Rattle.whole.specs.Plain.{cond, true≢false, false≢true, ltb, lit≤, ℤ, pos, negsuc, lt-ltb, le-ltb, mul-one}
+use Rattle.whole.specs.Plain.{mul-assoc, mul-comm, mul-right-comm, mul-pos, mul-lt-mul-of-pos-right, mul-sub}
+use Rattle.whole.specs.Plain.{zero-lt-suc, lt-of-lt-of-le, le-of-lt, arith}
 use lib.Pow.{shl-lt}
 use lib.Bits.{and-mask}
-use lib.IntN.{ℤ, pos, negsuc}
 use lib.Ieee.{Float, nan, inf, fin, binary64, up, down, round, add, sum, mul, ofInt}
 use lib.Ieee.Fits.{down-pos}
 use lib.Ieee.Exact.{HasValue, round-exact}
 use lib.Ieee.Scale.{round-same}
 use lib.Ieee.Back.{round-whole}
-use borrow.Author.Tests.{lt-ltb, le-ltb}
 use mir.Syntax.{w64}
 use mir.Val.{SFits}
 use Rattle.std.proofs.num.Nearest.{halves-masked}

@@ -1,7 +1,5 @@
 -- What is rounded. Assumes nothing.
-use Prim.Native.Nat.{ℕ, _*_, _≤_}
-use mathlib.Core.Path.{_≡_}
-use lib.Dec.{T}
+use Rattle.whole.specs.Plain.{ℕ, _*_, _≤_, _≡_, T}
 use lib.Ieee.{Float, nan, inf, fin, up, down}
 
 -- a number from 0 to top; zero may have either sign

@@ -1,7 +1,5 @@
 // Whole numbers to doubles and back, each operation rounded once.
-ghost use mathlib.Core.Path.{_≡_};
-ghost use mathlib.Core.Bool.{true};
-ghost use Prim.Native.Nat.{_≤_};
+ghost use Rattle.whole.specs.Plain.{_≤_, _≡_, true};
 ghost use lib.Ieee.Positive.{num, den};
 ghost use Rattle.whole.specs.Rounding.{nearest};
 ghost use Rattle.paper.specs.Doubles.{double, inRange, wholeOf, nearestOf};

@@ -1,9 +1,5 @@
 -- The calls as C sees them: the paper's number for the answer, and beside it the line, the place or the count. Assumes nothing.
-use Prim.Native.Nat.{ℕ}
-use mathlib.Core.Path.{_≡_}
-use mathlib.Core.List.{List, _++_}
-use lib.ListN.{length, drop}
-use Rattle.whole.specs.Lists.{Words}
+use Rattle.whole.specs.Plain.{ℕ, _≡_, List, _++_, length, drop, Words}
 use Rattle.paper.specs.Answers.{readingNumber, readingLine, resettingNumber, advanceNumber}
 use Rattle.paper.specs.Reading.{readOf}
 use Rattle.paper.specs.Advance.{Memory, advanceOf}

@@ -1,8 +1,9 @@
 // What a customer links: the calls over lent memory, for Rattle and for C. None has a `requires`; each refuses instead.
-ghost use mathlib.Core.Path.{_≡_};
-ghost use Rattle.paper.specs.Advance.{memory};
+ghost use Rattle.whole.specs.Plain.{_≡_};
+ghost use Rattle.whole.specs.Loans.{was, is};
 ghost use Rattle.paper.specs.One.{Reads, Resets, Advances};
 ghost use Rattle.paper.specs.Pieces.{Lists};
+ghost use Rattle.paper.specs.Lent.{before, after};
 ghost use Rattle.emt.specs.Numbered.{ReadsBy, ResetsBy, AdvancesBy, ListsBy};
 use list_pieces::Piece;
 use paper::Advance;
@@ -11,7 +12,7 @@ use paper::Resetting;
 
 // "Reading: 9, 7, then the first faulty line, in it 1 to 6 in turn"; "An accepted reading writes all 1,024 words, unused ones 0, and answers 0".
 pub fn read(text: &[u8], network: &mut [i64]) -> Reading
-    ensures { λ r. ⌜ Reads (now (text .entry)) (now (network .entry)) r (now (network .exit)) ⌝ }
+    ensures { λ r. ⌜ Reads (was text) (was network) r (is network) ⌝ }
 {
     reading::read(text, network)
 }
@@ -19,7 +20,7 @@ pub fn read(text: &[u8], network: &mut [i64]) -> Reading
 // "the answer carries the line number (0 for 7 and 9)": it is written whatever the answer is.
 #[no_mangle]
 pub extern "C" fn emt_read(text: &[u8], network: &mut [i64], line: &mut u64) -> u64
-    ensures { λ r. ⌜ ReadsBy (now (text .entry)) (now (network .entry)) r (now (line .exit)) (now (network .exit)) ⌝ }
+    ensures { λ r. ⌜ ReadsBy (was text) (was network) r (is line) (is network) ⌝ }
 {
     let answer = reading::read(text, network);
     *line = answers::reading_line(answer);
@@ -28,7 +29,7 @@ pub extern "C" fn emt_read(text: &[u8], network: &mut [i64], line: &mut u64) -> 
 
 // "Resetting gives 9 or 8, or writes the records and both line stores all zero and answers 0."
 pub fn reset(network: &[i64], records: &mut [i64], froms: &mut [i64], tos: &mut [i64]) -> Resetting
-    ensures { λ r. ⌜ Resets (now (network .entry)) (memory (now (records .entry)) (now (froms .entry)) (now (tos .entry))) r (memory (now (records .exit)) (now (froms .exit)) (now (tos .exit))) ⌝ }
+    ensures { λ r. ⌜ Resets (was network) (before records froms tos) r (after records froms tos) ⌝ }
 {
     resetting::reset(network, records, froms, tos)
 }
@@ -40,7 +41,7 @@ pub extern "C" fn emt_reset(
     froms: &mut [i64],
     tos: &mut [i64],
 ) -> u64
-    ensures { λ r. ⌜ ResetsBy (now (network .entry)) (memory (now (records .entry)) (now (froms .entry)) (now (tos .entry))) r (memory (now (records .exit)) (now (froms .exit)) (now (tos .exit))) ⌝ }
+    ensures { λ r. ⌜ ResetsBy (was network) (before records froms tos) r (after records froms tos) ⌝ }
 {
     answers::resetting_number(resetting::reset(network, records, froms, tos))
 }
@@ -53,7 +54,7 @@ pub fn advance(
     tos: &mut [i64],
     area: usize,
 ) -> Advance
-    ensures { λ r. ⌜ Advances (now (network .entry)) area (memory (now (records .entry)) (now (froms .entry)) (now (tos .entry))) r (memory (now (records .exit)) (now (froms .exit)) (now (tos .exit))) ⌝ }
+    ensures { λ r. ⌜ Advances (was network) area (before records froms tos) r (after records froms tos) ⌝ }
 {
     call_advance::advance(network, records, froms, tos, area)
 }
@@ -68,7 +69,7 @@ pub extern "C" fn emt_advance(
     area: usize,
     place: &mut u64,
 ) -> u64
-    ensures { λ r. ⌜ AdvancesBy (now (network .entry)) area (memory (now (records .entry)) (now (froms .entry)) (now (tos .entry))) r (now (place .exit)) (memory (now (records .exit)) (now (froms .exit)) (now (tos .exit))) ⌝ }
+    ensures { λ r. ⌜ AdvancesBy (was network) area (before records froms tos) r (is place) (after records froms tos) ⌝ }
 {
     let answer = call_advance::advance(network, records, froms, tos, area);
     *place = answers::place_or_count(answer);
@@ -84,7 +85,8 @@ pub fn list(
     tos: &mut [i64],
     out: &mut [u8],
 ) -> Piece
-    ensures { λ r. ⌜ Lists (now (network .entry)) (memory (now (records .entry)) (now (froms .entry)) (now (tos .entry))) (now (out .entry)) (r .answer) (r .count) (now (out .exit)) (memory (now (records .exit)) (now (froms .exit)) (now (tos .exit))) ⌝ }
+    ensures { λ r. ⌜ Lists (was network) (before records froms tos) (was out) (r .answer) (r .count) (is out)
+        (after records froms tos) ⌝ }
 {
     call_list::list(network, records, froms, tos, out)
 }
@@ -99,7 +101,8 @@ pub extern "C" fn emt_list(
     out: &mut [u8],
     written: &mut u64,
 ) -> u64
-    ensures { λ r. ⌜ ListsBy (now (network .entry)) (memory (now (records .entry)) (now (froms .entry)) (now (tos .entry))) (now (out .entry)) r (now (written .exit)) (now (out .exit)) (memory (now (records .exit)) (now (froms .exit)) (now (tos .exit))) ⌝ }
+    ensures { λ r. ⌜ ListsBy (was network) (before records froms tos) (was out) r (is written) (is out)
+        (after records froms tos) ⌝ }
 {
     let piece = call_list::list(network, records, froms, tos, out);
     let answer = piece.answer;

@@ -1,15 +1,9 @@
 -- What the program hands to its output: a `bad` line, or one piece of the listing after another (T-pieces, in crate `pieces`: together they are the listing). Assumes nothing.
-use Prim.Native.Nat.{ℕ, _+_, _≤_}
-use native.Mathlib.Omega.{arith}
-use mathlib.Core.Path.{_≡_, refl, sym, ap, _∙_}
-use mathlib.Core.Bool.{Bool, true}
-use mathlib.Core.List.{List, [], _∷_, _++_}
-use lib.IntN.{pos}
-use lib.ListN.{length, drop, length-append, length-drop}
+use Rattle.whole.specs.Plain.{ℕ, _+_, _≤_, _≡_, ap, _∙_, Bool, true, List, [], _∷_, _++_, pos, length, drop}
+use Rattle.whole.specs.Plain.{length-append, arith, Words}
 use Rattle.paper.specs.declared.Reading.{Reading}
 use Rattle.paper.specs.declared.Listing.{Listing}
 use Rattle.paper.specs.declared.Listing.the-variants.{More}
-use Rattle.whole.specs.Lists.{Words}
 use Rattle.paper.specs.Rows.{bytes}
 use Rattle.paper.specs.Answers.{readingNumber, readingLine}
 use Rattle.paper.specs.Advance.{Memory}

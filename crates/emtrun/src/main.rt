@@ -1,8 +1,7 @@
 // emtrun: a study text on standard input, its listing on standard output.
-ghost use mathlib.Core.Path.{_≡_};
-ghost use Prim.Native.Nat.{_≤_};
-ghost use lib.ListN.{length};
-ghost use Rattle.paper.specs.Advance.{memory};
+ghost use Rattle.whole.specs.Plain.{_≤_, _≡_, length};
+ghost use Rattle.whole.specs.Loans.{was, is};
+ghost use Rattle.paper.specs.Lent.{before, after};
 ghost use Rattle.digits.specs.Puts.{Puts};
 ghost use Rattle.emtrun.specs.Pieces.{badLine, Goes};
 use libc::STDIN_FILENO;
@@ -19,7 +18,7 @@ fn list_piece(
     tos: &mut [i64],
     out: &mut [u8],
 ) -> bool
-    ensures { λ r. ⌜ Goes (now (network .entry)) (memory (now (records .entry)) (now (froms .entry)) (now (tos .entry))) (now (out .entry)) r (now (out .exit)) (memory (now (records .exit)) (now (froms .exit)) (now (tos .exit))) ⌝ }
+    ensures { λ r. ⌜ Goes (was network) (before records froms tos) (was out) r (is out) (after records froms tos) ⌝ }
 {
     let piece = emt::list(network, records, froms, tos, out);
     let count = piece.count;
@@ -56,7 +55,7 @@ fn run(network: &[i64]) {
 
 fn put_refusal(answer: Reading, out: &mut [u8]) -> usize
     requires { ⌜ 46 ≤ length (now out) ⌝ }
-    ensures { λ r. ⌜ Puts (now (out .entry)) 0 (badLine answer) r (now (out .exit)) ⌝ }
+    ensures { λ r. ⌜ Puts (was out) 0 (badLine answer) r (is out) ⌝ }
 {
     lines::put_bad(
         out,

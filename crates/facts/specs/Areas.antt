@@ -1,25 +1,17 @@
 -- The areas of a table that passes: each node off ground has one, numbered from 1; joined nodes have one area, and nodes of one area are joined by
 -- a path. Assumes nothing.
-use Prim.Native.Nat.{ℕ, zero, suc, _+_, _-_, _≤_, _<_, max}
-use native.Mathlib.Omega.{arith}
-use native.Mathlib.Decide.{decLt, ℕ-discrete}
-use mathlib.Core.Path.{_≡_, refl, sym, ap, _∙_, subst}
-use mathlib.Core.Logic.{_⊎_, inl, inr, _↔_}
-use mathlib.Core.Bool.{Bool, true, false, cond}
-use mathlib.Core.List.{List, [], _∷_, _++_, map}
-use lib.ListN.{length, getD, length-map}
-use lib.Dec.{eqb}
-use borrow.Author.Tests.{eq-eqb, ne-eqb}
-use Rattle.whole.specs.Lists.{count, numbers, fold}
+use Rattle.whole.specs.Plain.{ℕ, zero, suc, _+_, _-_, _≤_, _<_, max, _≡_, refl, sym, ap, _∙_, inl, _↔_, true, List, []}
+use Rattle.whole.specs.Plain.{_∷_, length, getD, length-map, eq-eqb, ne-eqb, decLt, ℕ-discrete, arith, count, numbers}
+use Rattle.whole.specs.Plain.{fold}
 use Rattle.whole.specs.Turns.{turns}
 use Rattle.whole.specs.Folds.{count-append, count-le, length-numbers, numbers-append, numbers-more, getD-map}
 use Rattle.whole.specs.Most.{most-at, most-least}
 use Rattle.paper.specs.Limits as Limits
 use Rattle.paper.specs.Rows.{Row, from, to}
 use Rattle.paper.specs.Network.{passes}
-use Rattle.paper.specs.Spread.{Join, mark, spread}
-use Rattle.paper.specs.Areas.{joins, joinOf, nodeCount, lowest, leads, areaNumbers, Net, netOf, netOn, areaOf, areaCount}
-use Rattle.paths.specs.Paths.{Beside, Path, stay, hop, Linked}
+use Rattle.paper.specs.Spread.{mark, spread}
+use Rattle.paper.specs.Areas.{joins, joinOf, nodeCount, lowest, leads, areaNumbers}
+use Rattle.paths.specs.Paths.{Beside, stay, hop, Linked}
 use Rattle.paths.specs.Rounds.{run-length}
 use Rattle.paths.specs.Meaning.{areaJoins, lowest-linked, lowest-least, same-area}
 use Rattle.facts.specs.Table.{node-most, row-sound}

@@ -1,18 +1,10 @@
 -- A row without the faults NODE and VALUE has each field of its kind, in its range. Assumes nothing.
-use Prim.Native.Nat.{ℕ, zero, suc, _+_, _≤_, _<_, _^_}
-use native.Mathlib.Omega.{arith}
-use mathlib.Core.Path.{_≡_, refl, sym, ap, _∙_, subst}
-use mathlib.Core.Bool.{Bool, true, false, cond, not, _&&_, _||_, true≢false}
-use mathlib.Core.List.{List, [], _∷_, tail}
-use lib.ListN.{length, getD}
-use lib.Dec.{T, leb, ltb, eqb, ltb→lt}
-use lib.IntN.{ℤ, pos, negsuc, negℤ, natAbs}
-use lib.Signed.{leZ}
-use borrow.Author.Tests.{leb-true, not-false}
-use Rattle.whole.specs.Lists.{Words, z, word, nat, between}
+use Rattle.whole.specs.Plain.{ℕ, zero, suc, _≤_, _<_, _≡_, refl, sym, subst, Bool, true, false, not, _&&_, _||_}
+use Rattle.whole.specs.Plain.{true≢false, List, [], _∷_, tail, T, leb, ltb, ltb→lt, ℤ, pos, negsuc, length, getD}
+use Rattle.whole.specs.Plain.{leb-true, not-false, arith, Words, z, word, nat, between}
 use Rattle.whole.specs.Folds.{and-left, and-right, or-left, or-right}
 use Rattle.paper.specs.Limits as Limits
-use Rattle.paper.specs.Rows.{Row, Field, kinds, fieldsOf, kind}
+use Rattle.paper.specs.Rows.{Row, Field, fieldsOf, kind}
 use Rattle.paper.specs.Faults.{outside, nodeFault, valueFault}
 
 abbrev pub noField : Field

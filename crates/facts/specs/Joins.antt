@@ -1,14 +1,6 @@
 -- The joins of a table that passes: each is a row's, between two nodes off ground. Assumes nothing.
-use Prim.Native.Nat.{ℕ, zero, suc, _≤_, _<_}
-use native.Mathlib.Omega.{arith}
-use mathlib.Core.Path.{_≡_, refl, sym, ap, _∙_, subst}
-use mathlib.Core.Logic.{_⊎_, inl, inr}
-use mathlib.Core.Bool.{Bool, true, false, cond, not, _&&_, true≢false}
-use mathlib.Core.List.{List, [], _∷_, map}
-use lib.ListN.{length, getD}
-use lib.Dec.{eqb}
-use borrow.Author.Tests.{not-true, eqb-false}
-use Rattle.whole.specs.Lists.{keep}
+use Rattle.whole.specs.Plain.{ℕ, zero, suc, _≤_, _<_, _≡_, refl, _⊎_, inl, inr, Bool, true, false, cond, not, _&&_}
+use Rattle.whole.specs.Plain.{List, [], _∷_, map, eqb, length, getD, not-true, eqb-false, arith, keep}
 use Rattle.whole.specs.Folds.{and-left, and-right}
 use Rattle.paper.specs.Rows.{Row, isBranch, isLine, from, to}
 use Rattle.paper.specs.Network.{passes}
@@ -17,7 +9,6 @@ use Rattle.paper.specs.Areas.{joins, joinOf, nodeCount}
 use Rattle.paths.specs.Paths.{In, top, below, Beside, Path, stay, hop, Linked}
 use Rattle.paths.specs.Rounds.{Inside}
 use Rattle.paths.specs.Meaning.{areaJoins}
-use Rattle.facts.specs.Sound.{RowSound}
 use Rattle.facts.specs.Table.{row-sound}
 
 -- ---- which rows they are

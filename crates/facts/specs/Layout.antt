@@ -1,20 +1,13 @@
 -- Where a network record that passes has its rows: the words of row i stand from word 8 + 8·i on, and all other words are 0. Assumes nothing.
-use Prim.Native.Nat.{ℕ, zero, suc, _+_, _*_, _-_, _≤_, _<_, min}
-use native.Mathlib.Omega.{arith}
-use mathlib.Core.Path.{_≡_, refl, sym, ap, _∙_, subst}
-use mathlib.Core.Bool.{Bool, true, false, cond, _&&_, true≢false}
-use mathlib.Core.List.{List, [], _∷_, _++_, tail}
-use lib.ListN.{length, getD, take, drop, length-append, length-take, List·getD-append, List·getD-eq-default}
-use lib.Seq.{getD-take, getD-append-add, length-take-le}
-use lib.Dec.{T, leb, eqb, lit≤}
-use lib.IntN.{ℤ, pos, negsuc}
-use borrow.Author.Tests.{eqb-true}
-use Rattle.whole.specs.Lists.{Words, z, word, nat, between, same, sameWords, filled}
+use Rattle.whole.specs.Plain.{ℕ, zero, suc, _+_, _*_, _-_, _≤_, _<_, _≡_, refl, sym, ap, _∙_, true, _&&_, true≢false}
+use Rattle.whole.specs.Plain.{List, [], _∷_, _++_, tail, lit≤, ℤ, pos, negsuc, length, getD, take, drop, length-append}
+use Rattle.whole.specs.Plain.{length-take, List·getD-append, List·getD-eq-default, getD-take, getD-append-add, eqb-true}
+use Rattle.whole.specs.Plain.{arith, Words, z, word, nat, between, same, sameWords, filled}
 use Rattle.whole.specs.Folds.{and-left, and-right}
 use Rattle.whole.specs.Filled.{length-filled, getD-filled}
 use Rattle.paper.specs.Limits as Limits
 use Rattle.paper.specs.Rows.{Row, kinds, fieldsOf, kind}
-use Rattle.paper.specs.Network.{Table, laid, networkOf, rowOfWords, rowsOf, rowCount, tableOf, passes, isNetwork}
+use Rattle.paper.specs.Network.{laid, networkOf, rowOfWords, rowsOf, rowCount, tableOf, passes, isNetwork}
 use Rattle.facts.specs.Fields.{Within, within}
 
 -- ---- lists

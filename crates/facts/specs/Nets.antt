@@ -1,24 +1,15 @@
 -- The facts of a network, in one record: all that a step, a check or a promise may take as known of a record that passes refusal 8, or of a table
 -- that passes. Assumes nothing.
-use Prim.Native.Nat.{ℕ, zero, suc, _+_, _*_, _≤_, _<_, max}
+use Rattle.whole.specs.Plain.{ℕ, zero, suc, _+_, _*_, _≤_, _<_, max, _≡_, refl, sym, ap, _∙_, _↔_, Bool, true, false}
+use Rattle.whole.specs.Plain.{List, [], _∷_, lit≤, ℤ, pos, length, getD, take, List·getD-eq-default, ne-eqb, decLt}
+use Rattle.whole.specs.Plain.{arith, Words, z, word, nat, count}
 use native.Mathlib.Numerals.{add-one}
-use native.Mathlib.Decide.{decLt}
-use native.Mathlib.Omega.{arith}
-use mathlib.Core.Path.{_≡_, refl, sym, ap, _∙_}
-use mathlib.Core.Logic.{_↔_}
-use mathlib.Core.Bool.{Bool, true, false}
-use mathlib.Core.List.{List, [], _∷_}
-use lib.ListN.{length, getD, take, List·getD-eq-default}
-use lib.Dec.{lit≤}
-use borrow.Author.Tests.{ne-eqb}
-use lib.IntN.{ℤ, pos}
-use Rattle.whole.specs.Lists.{Words, z, word, nat, count}
 use Rattle.whole.specs.Folds.{count-next}
 use Rattle.whole.specs.Most.{most-at, most-least}
 use Rattle.whole.specs.Prefix.{sum-below, sum-within, total-alone}
 use Rattle.whole.specs.Written.{count-take}
 use Rattle.paper.specs.Limits as Limits
-use Rattle.paper.specs.Rows.{Row, kinds, fieldsOf, kind, isBranch, isSource, isLine, from, to, travel}
+use Rattle.paper.specs.Rows.{Row, kinds, fieldsOf, sourceKind, kind, isBranch, isSource, isLine, from, to, travel}
 use Rattle.paper.specs.Faults.{fixes, slots}
 use Rattle.paper.specs.Network.{tableOf, passes, isNetwork}
 use Rattle.paper.specs.Areas.{Net, netOf, netOn, areaOf, areaCount, rowArea, joins, branchNumber}
@@ -77,7 +68,7 @@ table-sound h rows e =
 -- ---- the fourth field, of whatever kind
 
 fourth : (r : Row) {head : Row} {nodes : ℕ} → RowSound head nodes r → (Layout.roomOf r ≤ 4 → word r 4 ≡ z) → word r 4 ≡ pos (travel r)
-unfolding fieldsOf kinds
+unfolding fieldsOf sourceKind kinds
 fourth r s rest = go (kind r) refl (s .kindLeast) (s .kindMost)
   where
     short : (k : ℕ) → kind r ≡ k → suc (length (fieldsOf k)) ≤ 4 → word r 4 ≡ pos (travel r)

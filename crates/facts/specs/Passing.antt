@@ -1,13 +1,7 @@
 -- A table that passes, row by row: each row is sound after those before it. Assumes nothing.
-use Prim.Native.Nat.{ℕ, zero, suc, _+_, _≤_, _<_}
-use native.Mathlib.Omega.{arith}
-use mathlib.Core.Path.{_≡_, refl, sym, ap, _∙_}
-use mathlib.Core.Bool.{Bool, true, false, cond, _&&_, Bool·beq, true≢false}
-use mathlib.Core.List.{List, [], _∷_, _++_, tail, append-assoc, append-nil}
-use lib.ListN.{length, getD, take}
-use lib.Dec.{leb, eqb}
-use borrow.Author.Tests.{leb-true, eqb-true}
-use Rattle.whole.specs.Lists.{empty, fold}
+use Rattle.whole.specs.Plain.{ℕ, zero, suc, _+_, _<_, _≡_, refl, sym, Bool, true, false, cond, _&&_, Bool·beq, List, []}
+use Rattle.whole.specs.Plain.{_∷_, _++_, tail, append-assoc, append-nil, leb, eqb, length, getD, take, leb-true}
+use Rattle.whole.specs.Plain.{eqb-true, arith, empty, fold}
 use Rattle.whole.specs.Folds.{and-left, and-right}
 use Rattle.paper.specs.Rows.{Row, kind, noKind, isStudy}
 use Rattle.paper.specs.Faults.{nodeFault, valueFault, travelFault, doubleFault, fullFault, lineFault, rowFault}

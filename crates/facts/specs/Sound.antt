@@ -1,19 +1,12 @@
 -- What a row without faults 2 to 4 is, by its kind, in the paper's words. Assumes nothing.
-use Prim.Native.Nat.{ℕ, zero, suc, _+_, _*_, _/_, _%_, _≤_, _<_, _^_, max}
-use native.Mathlib.Omega.{arith}
-use native.Mathlib.Nat.{mod-add-div'}
-use mathlib.Core.Path.{_≡_, refl, sym, ap, _∙_, subst}
-use mathlib.Core.Logic.{_≢_}
-use mathlib.Core.Bool.{Bool, true, false, cond, not, _&&_, _||_, true≢false}
-use mathlib.Core.List.{List, [], _∷_, tail}
-use lib.ListN.{length}
-use lib.Dec.{T, leb, ltb, eqb, lit≤}
-use lib.IntN.{ℤ, pos, negsuc, natAbs}
-use borrow.Author.Tests.{leb-true, leb-false, eqb-true, eqb-false, not-false}
-use Rattle.whole.specs.Lists.{z, word, nat, between}
+use Rattle.whole.specs.Plain.{ℕ, zero, suc, _+_, _*_, _%_, _≤_, _<_, max, _≡_, refl, sym, _∙_, _≢_, Bool, true, false}
+use Rattle.whole.specs.Plain.{cond, not, _&&_, _||_, true≢false, false≢true, List, [], _∷_, tail, leb, eqb, lit≤, ℤ}
+use Rattle.whole.specs.Plain.{pos, negsuc, natAbs, leb-true, leb-false, eqb-true, eqb-false, not-false, mod-add-div'}
+use Rattle.whole.specs.Plain.{arith, z, word, between}
 use Rattle.whole.specs.Folds.{and-left, and-right, or-left, or-right}
 use Rattle.paper.specs.Limits as Limits
-use Rattle.paper.specs.Rows.{Row, kinds, fieldsOf, kind, noKind, isStudy, isBranch, isSource, isLine, isSwitch, isVS, isIS, from, to, size, travel, closes, opens, at, start, rise, peak, stepLength, steps, limit}
+use Rattle.paper.specs.Rows.{Row, kinds, fieldsOf, branchKind, sourceKind, fixingKind, kind, noKind, isBranch, isSource, isLine, isSwitch, isFixing, from, to, size, travel, closes, opens, at, peak, stepLength}
+use Rattle.paper.specs.Classes.{kind-count, by-branch, by-source}
 use Rattle.paper.specs.Conductance.{conductance}
 use Rattle.paper.specs.Faults.{outside, nodeFault, valueFault, travelFault, delay, depth, slots}
 use Rattle.paper.specs.Areas.{named}
@@ -59,7 +52,7 @@ pub record SourceSound (nodes : ℕ) (r : Row) : Type 0 where
   pub startIn : Within 1 Limits.startEnd (word r 3)
   pub riseIn : Within 0 Limits.riseEnd (word r 4)
   pub peakMost : natAbs (peak r) ≤ Limits.injectionEnd
-  pub voltMost : isVS r ≡ true → natAbs (peak r) ≤ Limits.voltageEnd
+  pub voltMost : isFixing r ≡ true → natAbs (peak r) ≤ Limits.voltageEnd
 
 pub record RowSound (head : Row) (nodes : ℕ) (r : Row) : Type 0 where
   pub kindIs : word r 0 ≡ pos (kind r)
@@ -76,24 +69,6 @@ pub kind-is : (r : Row) → kind r < noKind → word r 0 ≡ pos (kind r)
 kind-is [] h = refl
 kind-is (pos k ∷ r) h = refl
 kind-is (negsuc k ∷ r) h = absurd (omega arith)
-
-by-branch : (P : ℕ → Type 0) (k : ℕ) → (leb 1 k && leb k 5) ≡ true → P 1 → P 2 → P 3 → P 4 → P 5 → P k
-by-branch P zero h a b c d e = absurd (true≢false (sym h))
-by-branch P (suc zero) h a b c d e = a
-by-branch P (suc (suc zero)) h a b c d e = b
-by-branch P (suc (suc (suc zero))) h a b c d e = c
-by-branch P (suc (suc (suc (suc zero)))) h a b c d e = d
-by-branch P (suc (suc (suc (suc (suc zero))))) h a b c d e = e
-by-branch P (suc (suc (suc (suc (suc (suc k)))))) h a b c d e =
-    let l : suc (suc (suc (suc (suc (suc k))))) ≤ 5 = leb-true _ 5 (and-right (leb 1 (suc (suc (suc (suc (suc (suc k))))))) (leb (suc (suc (suc (suc (suc (suc k)))))) 5) h) in
-    absurd (omega arith)
-
-by-source : (P : ℕ → Type 0) (k : ℕ) → (eqb k 6 || eqb k 7) ≡ true → P 6 → P 7 → P k
-by-source P k h a b = go (eqb k 6) refl
-  where
-    go : (t : Bool) → eqb k 6 ≡ t → P k
-    go true e = subst P (sym (eqb-true k 6 e)) a
-    go false e = let f : eqb k 7 ≡ true = rw e at h in subst P (sym (eqb-true k 7 f)) b
 
 -- a test that fails where its first part holds
 unless : (a b : Bool) → (a && b) ≡ false → a ≡ true → b ≡ false
@@ -207,7 +182,7 @@ peak-size m (pos n) e = leb-true n (suc m) (and-right true (leb n (suc m)) e)
 peak-size m (negsuc n) e = let h : n ≤ m = leb-true n m (and-left (leb n m) true e) in omega arith
 
 source-sound : (step : ℕ) (r : Row) → Parts step r → isSource r ≡ true → SourceSound Limits.nodeEnd r
-unfolding fieldsOf kinds
+unfolding fieldsOf fixingKind kinds
 source-sound step r p s =
     by-source (λ k. kind r ≡ k → SourceSound Limits.nodeEnd r) (kind r) s
     (λ e.
@@ -224,7 +199,7 @@ source-sound step r p s =
       startIn = within _ _ _ (field 7 2 r e (p .fields) tt);
       riseIn = within _ _ _ (field 7 3 r e (p .fields) tt);
       peakMost = peak-size _ _ (field 7 1 r e (p .fields) tt);
-      voltMost = λ h. let z : _≡_ {A = ℕ} 0 1 = cc in absurd (omega arith);
+      voltMost = λ h. absurd (false≢true (rw e at h));
     })
     refl
   where
@@ -242,7 +217,7 @@ row-of head before r t =
     record {
       kindIs = kind-is r (t .known);
       kindLeast = not-zero (kind r) (t .study);
-      kindMost = omega (arith, t .known);
+      kindMost = omega (arith, t .known, kind-count);
       branch = branch-sound _ r p;
       line = line-sound head r p;
       switch = switch-sound _ r p;
@@ -266,8 +241,9 @@ pub named-branch : (r : Row) → isBranch r ≡ true → named r ≡ max (from r
 unfolding named
 named-branch r b = rw b
 
-source-no-branch : (k : ℕ) → (eqb k 6 || eqb k 7) ≡ true → (leb 1 k && leb k 5) ≡ false
-source-no-branch k e = by-source (λ k. (leb 1 k && leb k 5) ≡ false) k e refl refl
+source-no-branch : (k : ℕ) → sourceKind k ≡ true → branchKind k ≡ false
+unfolding branchKind kinds
+source-no-branch k e = by-source (λ k. branchKind k ≡ false) k e refl refl
 
 pub named-source : (r : Row) → isSource r ≡ true → named r ≡ at r
 unfolding named
@@ -304,15 +280,3 @@ sound-named head most nodes r s n =
             voltMost = p .voltMost;
           };
     }
-
--- a row is a branch or a source, and not both
-pub one-sort : (k : ℕ) → 1 ≤ k → k ≤ 7 → cond (leb 1 k && leb k 5) 1 0 + cond (eqb k 6 || eqb k 7) 1 0 ≡ 1
-one-sort zero l h = absurd (omega arith)
-one-sort (suc zero) l h = refl
-one-sort (suc (suc zero)) l h = refl
-one-sort (suc (suc (suc zero))) l h = refl
-one-sort (suc (suc (suc (suc zero)))) l h = refl
-one-sort (suc (suc (suc (suc (suc zero))))) l h = refl
-one-sort (suc (suc (suc (suc (suc (suc zero)))))) l h = refl
-one-sort (suc (suc (suc (suc (suc (suc (suc zero))))))) l h = refl
-one-sort (suc (suc (suc (suc (suc (suc (suc (suc k)))))))) l h = absurd (omega arith)

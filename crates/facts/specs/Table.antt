@@ -1,26 +1,19 @@
 -- What a table that passes has: every row sound, at most 64 branches and 16 sources, slots that fit the stores, one VS to a node. Assumes nothing.
-use Prim.Native.Nat.{ℕ, zero, suc, _+_, _≤_, _<_}
-use native.Mathlib.Omega.{arith}
-use native.Mathlib.Decide.{decLt}
-use mathlib.Core.Path.{_≡_, refl, sym, ap, _∙_, subst}
-use mathlib.Core.Bool.{Bool, true, false, cond, _&&_, _||_, true≢false}
-use mathlib.Core.List.{List, [], _∷_}
-use lib.ListN.{length, getD, take, length-take}
-use lib.Seq.{take-length, getD-take}
-use lib.Dec.{leb, ltb, eqb}
-use borrow.Author.Tests.{eqb-true}
-use Rattle.whole.specs.Lists.{any, count, sum}
+use Rattle.whole.specs.Plain.{ℕ, _+_, _≤_, _<_, _≡_, sym, ap, _∙_, true, false, _&&_, true≢false, List, [], _∷_, leb}
+use Rattle.whole.specs.Plain.{ltb, eqb, length, getD, take, length-take, take-length, getD-take, eqb-true, decLt, arith}
+use Rattle.whole.specs.Plain.{any, count, sum}
 use Rattle.whole.specs.Folds.{and-left, and-right, none-at}
 use Rattle.whole.specs.Prefix.{count-room, sum-room, count-parts}
 use Rattle.whole.specs.Most.{most-at, most-least}
 use Rattle.paper.specs.Limits as Limits
-use Rattle.paper.specs.Rows.{Row, kind, isBranch, isSource, isVS, at}
+use Rattle.paper.specs.Rows.{Row, kind, isBranch, isSource, isFixing, at}
+use Rattle.paper.specs.Classes.{one-sort}
 use Rattle.paper.specs.Faults.{doubleFault, fullFault, fixes, slots}
 use Rattle.paper.specs.Network.{passes}
 use Rattle.paper.specs.Areas.{named, nodeCount}
 use Rattle.facts.specs.Passing.{Taken, head-taken, row-taken}
 use Rattle.facts.specs.Fields.{none-of-three}
-use Rattle.facts.specs.Sound.{StudySound, RowSound, study-of, row-of, named-most, sound-named, one-sort}
+use Rattle.facts.specs.Sound.{StudySound, RowSound, study-of, row-of, named-most, sound-named}
 
 module _ (h : Row) (rows : List Row) (e : passes (h ∷ rows) ≡ true) where
   abbrev rowAt : ℕ → Row
@@ -71,9 +64,9 @@ module _ (h : Row) (rows : List Row) (e : passes (h ∷ rows) ≡ true) where
 
   -- ---- at most one VS to a node
 
-  fixes-parts : (n : ℕ) (r : Row) → fixes n r ≡ true → (isVS r ≡ true) × (at r ≡ n)
+  fixes-parts : (n : ℕ) (r : Row) → fixes n r ≡ true → (isFixing r ≡ true) × (at r ≡ n)
   unfolding fixes
-  fixes-parts n r f = (and-left (isVS r) (eqb (at r) n) f, eqb-true (at r) n (and-right (isVS r) (eqb (at r) n) f))
+  fixes-parts n r f = (and-left (isFixing r) (eqb (at r) n) f, eqb-true (at r) n (and-right (isFixing r) (eqb (at r) n) f))
 
   once-below : (i j n : ℕ) → i < j → j < length rows → fixes n (rowAt i) ≡ true → fixes n (rowAt j) ≡ true → ⊥
   unfolding doubleFault

@@ -1,26 +1,19 @@
 -- A row without fault: what is seen with it stands for the rows with it. Assumes nothing.
-use Prim.Native.Nat.{ℕ, zero, suc, _+_, _≤_, _<_}
-use native.Mathlib.Omega.{arith}
-use mathlib.Core.Path.{_≡_, refl, sym, _∙_, ap, subst}
-use mathlib.Core.Bool.{Bool, true, false, not, cond, _&&_, _||_, false≢true, true≢false}
-use mathlib.Core.List.{List, [], _∷_, _++_, tail}
-use borrow.Author.Tests.{eqb-true, eqb-false, ne-eqb, eq-eqb, leb-false, ltb-false}
-use lib.Dec.{eqb, leb, ltb}
-use lib.IntN.{ℤ, pos, natAbs}
-use lib.ListN.{length, getD, set, length-set}
-use lib.Seq.{getD-set-same, getD-set-other}
-use Rattle.whole.specs.Lists.{Words, word, nat, between, empty, any, count, sum}
+use Rattle.whole.specs.Plain.{ℕ, _+_, _≤_, _<_, _≡_, refl, sym, _∙_, ap, Bool, true, false, cond, _&&_, _||_, List, []}
+use Rattle.whole.specs.Plain.{_∷_, _++_, eqb, leb, ltb, pos, length, getD, set, length-set, getD-set-same}
+use Rattle.whole.specs.Plain.{getD-set-other, eqb-true, eqb-false, eq-eqb, leb-false, ltb-false, arith, Words, word}
+use Rattle.whole.specs.Plain.{nat, between, empty, any, count, sum}
 use Rattle.whole.specs.Truths.{or-false, or-true}
 use Rattle.whole.specs.Folds.{or-left, or-right, count-append, sum-append, any-append}
-use Rattle.paper.specs.Rows.{Row, bytes, kinds, kind, fieldsOf, isStudy, isBranch, isSource, isVS, at, stepLength}
-use Rattle.paper.specs.Faults.{outside, nodeFault, valueFault, fixes, slots}
+use Rattle.paper.specs.Rows.{Row, bytes, kinds, kind, fieldsOf, branchKind, sourceKind, fixingKind, isStudy, isBranch, isSource, isFixing, at, stepLength}
+use Rattle.paper.specs.Faults.{valueFault, fixes, slots}
 use Rattle.paper.specs.Network.{Table, rowOfWords}
 use Rattle.kinds.specs.Table.{namesOf, low, high, outsideFrom}
 use Rattle.kinds.specs.Fields.{outside-values, field-in, in-range}
 use Rattle.faults.specs.declared.Seen.{Seen}
-use Rattle.faults.specs.Seen.{headOf, Held, seenFull, seenFault, fixedAfter, seenAfter}
+use Rattle.faults.specs.Seen.{headOf, seenFull, seenFault, fixedAfter, seenAfter}
 use Rattle.faults.specs.Laws.{Faultless, faultless}
-use Rattle.faults.specs.Stands.{Stands, row-kind, row-slots, row-fixes, row-study, source-node}
+use Rattle.faults.specs.Stands.{Stands, row-kind, row-slots, row-fixes, row-study}
 
 -- ---- the study's row
 
@@ -57,26 +50,26 @@ any-one p before r = any-append p before (r ∷ []) ∙ ap (λ (b : Bool). any p
 -- the nodes with a VS
 fixed-one : (fixed : List Bool) (w : Words) (n : ℕ) → length fixed ≡ 33 → n ≤ 32 → getD (fixedAfter fixed w) n false ≡ (getD fixed n false || fixes n w)
 unfolding fixedAfter fixes
-fixed-one fixed w n wide l = by-kind (eqb (kind w) 6) refl
+fixed-one fixed w n wide l = by-kind (isFixing w) refl
   where
     by-node : (t : Bool) → eqb (at w) n ≡ t → getD (set fixed (at w) true) n false ≡ (getD fixed n false || eqb (at w) n)
     by-node true e = let i : at w ≡ n = eqb-true (at w) n e in rw (e, i) (getD-set-same fixed n true false (omega arith) ∙ sym (or-true (getD fixed n false)))
     by-node false e = rw e (getD-set-other fixed (at w) n true false (λ (i : n ≡ at w). eqb-false (at w) n e (sym i)) ∙ sym (or-false (getD fixed n false)))
 
-    by-kind : (t : Bool) → eqb (kind w) 6 ≡ t → getD (cond (eqb (kind w) 6) (set fixed (at w) true) fixed) n false ≡ (getD fixed n false || (eqb (kind w) 6 && eqb (at w) n))
+    by-kind : (t : Bool) → isFixing w ≡ t → getD (cond (isFixing w) (set fixed (at w) true) fixed) n false ≡ (getD fixed n false || (isFixing w && eqb (at w) n))
     by-kind true e = rw e (by-node (eqb (at w) n) refl)
     by-kind false e = rw e (sym (or-false (getD fixed n false)))
 
 fixed-wide : (fixed : List Bool) (w : Words) → length (fixedAfter fixed w) ≡ length fixed
 unfolding fixedAfter
-fixed-wide fixed w = by-test (isVS w)
+fixed-wide fixed w = by-test (isFixing w)
   where
     by-test : (t : Bool) → length (cond t (set fixed (at w) true) fixed) ≡ length fixed
     by-test true = length-set fixed (at w) true
     by-test false = refl
 
 fixes-not : (w : Words) (n : ℕ) → kind w ≡ 0 → fixes n w ≡ false
-unfolding fixes
+unfolding fixes fixingKind kinds
 fixes-not w n e = rw e
 
 module _ (s : Seen) (w : Words) (few : 6 ≤ length w) (known : kind w < 8) (ok : Faultless s w) where
@@ -106,7 +99,7 @@ module _ (s : Seen) (w : Words) (few : 6 ≤ length w) (known : kind w < 8) (ok 
 
   -- the study's row counts for nothing but its step length
   first : Stands s [] → kind w ≡ 0 → Stands (seenAfter s w) (rowOfWords w ∷ [])
-  unfolding seenAfter slots count sum any
+  unfolding seenAfter slots branchKind sourceKind kinds count sum any
   first h e =
       let range = study-step w few known (headOf (s .step)) (ok .value) e in
       record {

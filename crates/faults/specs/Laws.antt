@@ -1,34 +1,27 @@
 -- From a row's words to what its faults ask. Assumes nothing.
-use Prim.Native.Nat.{ℕ, zero, suc, _+_, _*_, _≤_, _<_}
-use native.Mathlib.Omega.{arith}
-use mathlib.Core.Path.{_≡_, refl, sym, _∙_, ap}
-use mathlib.Core.Bool.{Bool, true, false, not, cond, _&&_, _||_, true≢false, false≢true}
-use mathlib.Core.List.{List, [], _∷_, tail}
-use lib.Dec.{T, leb, ltb, eqb}
-use lib.ListN.{length}
-use lib.IntN.{ℤ, pos, negsuc, natAbs}
-use lib.Signed.{nonNeg}
+use Rattle.whole.specs.Plain.{ℕ, suc, _+_, _≤_, _<_, _≡_, refl, sym, _∙_, ap, Bool, true, false, not, cond, _&&_, _||_}
+use Rattle.whole.specs.Plain.{true≢false, false≢true, List, [], _∷_, tail, T, leb, ltb, eqb, ℤ, pos, negsuc, natAbs}
+use Rattle.whole.specs.Plain.{nonNeg, length, ne-eqb, eqb-true, le-trans, div-le-self, arith, Words, word, nat, between}
+use Rattle.whole.specs.Plain.{count}
 use Rattle.whole.specs.Folds.{or-left}
-use Rattle.whole.specs.Lists.{Words, word, nat, between, count}
-use Rattle.paper.specs.Rows.{bytes, kinds, kind, fieldsOf, isStudy, isBranch, stepLength, from, to, closes, opens, travel}
+use Rattle.paper.specs.Rows.{bytes, kinds, kind, fieldsOf, branchKind, sourceKind, isStudy, isBranch, stepLength, from, to, closes, opens, travel}
+use Rattle.paper.specs.Classes.{kind-count}
 use Rattle.paper.specs.Conductance.{conductance, ofOhms, ofHenries, ofFarads}
 use Rattle.paper.specs.Faults.{outside, nodeFault, valueFault, travelFault, slots}
 use Rattle.kinds.specs.Table.{namesOf, low, high, outsideFrom}
 use Rattle.kinds.specs.Fields.{each, names-few, fields-few, outside-names, outside-values, field-in, in-range}
 use Rattle.faults.specs.declared.Seen.{Seen}
 use Rattle.faults.specs.Seen.{headOf, Sized, conductanceOf, seenDouble, seenFull, seenFault, fixedAfter, seenAfter}
-use borrow.Author.Tests.{ne-eqb, eqb-true}
-use native.Mathlib.Nat.{le-trans, div-le-self}
 
 -- ---- the kind as an index
 
 pub kind-sign : (x : ℤ) → kind (x ∷ []) < 8 → T (nonNeg x)
 kind-sign (pos k) h = tt
-kind-sign (negsuc n) h = absurd (omega arith)
+kind-sign (negsuc n) h = absurd (omega (arith, kind-count))
 
 pub kind-size : (x : ℤ) → kind (x ∷ []) < 8 → natAbs x ≡ kind (x ∷ [])
 kind-size (pos k) h = refl
-kind-size (negsuc n) h = absurd (omega arith)
+kind-size (negsuc n) h = absurd (omega (arith, kind-count))
 
 -- ---- a branch's size
 
@@ -47,9 +40,9 @@ module _ (step : ℕ) (l : 1 ≤ step) (h : step ≤ 1000000) where
       let t = in-range low end x b in
       record { long = l; short = h; some = omega arith; most = omega arith; farads = λ (e : k ≡ 3). let m = r e in omega arith }
 
-  branch-size : (k : ℕ) → k < 8 → (x : ℤ) → (leb 1 k && leb k 5) ≡ true → between (low k 2) (high k 2) x ≡ true → Sized step k (nat x)
-  unfolding low high fieldsOf kinds bytes
-  branch-size k known x = each (λ k. (leb 1 k && leb k 5) ≡ true → between (low k 2) (high k 2) x ≡ true → Sized step k (nat x))
+  branch-size : (k : ℕ) → k < 8 → (x : ℤ) → branchKind k ≡ true → between (low k 2) (high k 2) x ≡ true → Sized step k (nat x)
+  unfolding low high fieldsOf branchKind kinds bytes
+  branch-size k known x = each (λ k. branchKind k ≡ true → between (low k 2) (high k 2) x ≡ true → Sized step k (nat x))
       (λ f b. absurd (false≢true f))
       (λ f b. of-range 1 1000 1000000000000 x (omega arith) (omega arith) (λ e. absurd (omega arith)) b)
       (λ f b. of-range 2 1 1000000000000 x (omega arith) (omega arith) (λ e. absurd (omega arith)) b)
@@ -69,7 +62,7 @@ module _ (w : Words) (few : 6 ≤ length w) (known : kind w < 8) {k : ℕ} (e : 
   pub fields-fit : {n : ℕ} → n ≡ length (fieldsOf k) → n ≤ 5
   fields-fit p = rw (p, e) (fields-few (kind w) known)
 
-  pub node-is : {n a b : ℕ} {o br so : Bool} → a ≡ from w → b ≡ to w → n ≡ namesOf k → o ≡ outsideFrom k 0 n w → br ≡ (leb 1 k && leb k 5) → so ≡ (eqb k 6 || eqb k 7)
+  pub node-is : {n a b : ℕ} {o br so : Bool} → a ≡ from w → b ≡ to w → n ≡ namesOf k → o ≡ outsideFrom k 0 n w → br ≡ branchKind k → so ≡ sourceKind k
       → (((o || (br && eqb a b)) || (so && eqb a 0)) || (eqb k 4 && (eqb a 0 || eqb b 0))) ≡ nodeFault w
   unfolding nodeFault
   node-is p q r s t u = rw (p, q, s, r, t, u, e, outside-names w few (kind w) known)
@@ -82,20 +75,20 @@ module _ (w : Words) (few : 6 ≤ length w) (known : kind w < 8) {k : ℕ} (e : 
   unfolding valueFault
   value-out step o = rw o
 
-  pub value-none : (step : ℕ) {br : Bool} → outside false (fieldsOf (kind w)) (tail w) ≡ false → br ≡ (leb 1 k && leb k 5) → br ≡ false → false ≡ valueFault (headOf step) w
-  unfolding valueFault
+  pub value-none : (step : ℕ) {br : Bool} → outside false (fieldsOf (kind w)) (tail w) ≡ false → br ≡ branchKind k → br ≡ false → false ≡ valueFault (headOf step) w
+  unfolding valueFault branchKind kinds
   value-none step {br} o p q =
       let n : isBranch w ≡ false = rw (← e) (sym p ∙ q) in
-      rw (o, n, ne-eqb (kind w) 5 (λ (f : kind w ≡ 5). true≢false (sym (ap (λ (j : ℕ). leb 1 j && leb j 5) f) ∙ n)))
+      rw (o, n, ne-eqb (kind w) 5 (λ (f : kind w ≡ 5). true≢false (sym (ap branchKind f) ∙ n)))
 
-  pub value-is : (step : ℕ) {br : Bool} {g shut opened size : ℕ} → outside false (fieldsOf (kind w)) (tail w) ≡ false → br ≡ (leb 1 k && leb k 5) → br ≡ true
+  pub value-is : (step : ℕ) {br : Bool} {g shut opened size : ℕ} → outside false (fieldsOf (kind w)) (tail w) ≡ false → br ≡ branchKind k → br ≡ true
       → size ≡ nat (word w 3) → g ≡ conductanceOf step k size → shut ≡ closes w → opened ≡ opens w
       → ((eqb k 5 && leb opened shut) || not (leb 1 g && leb g 1000000000)) ≡ valueFault (headOf step) w
   unfolding valueFault conductance ofOhms ofHenries ofFarads conductanceOf
   value-is step o p q r s t u = let b : isBranch w ≡ true = rw (← e) (sym p ∙ q) in rw (o, b, s, r, t, u, e)
 
   -- the size of a branch, for its conductance
-  pub sized : (step : ℕ) {br : Bool} {size : ℕ} → 1 ≤ step → step ≤ 1000000 → outside false (fieldsOf (kind w)) (tail w) ≡ false → br ≡ (leb 1 k && leb k 5) → br ≡ true
+  pub sized : (step : ℕ) {br : Bool} {size : ℕ} → 1 ≤ step → step ≤ 1000000 → outside false (fieldsOf (kind w)) (tail w) ≡ false → br ≡ branchKind k → br ≡ true
       → size ≡ nat (word w 3) → Sized step k size
   sized step l h o p q r = rw (r, e) (branch-size step l h (kind w) known (word w 3) (rw (← e) (sym p ∙ q)) (field-in (kind w) (namesOf (kind w)) (length (fieldsOf (kind w))) w (outside-values w few (kind w) known ∙ o) 2 (branch-names (kind w) known) (branch-fields (kind w) known)))
 
@@ -120,7 +113,7 @@ slots-small w few step f = by-test (eqb (kind w) 4) refl
     by-test true e = let t = line-travel w few step (eqb-true (kind w) 4 e) f in rw e (omega (arith, div-le-self (travel w) step))
     by-test false e = rw e (omega arith)
 
-pub full-is : (s : Seen) (w : Words) {k n : ℕ} {br so : Bool} → k ≡ kind w → br ≡ (leb 1 k && leb k 5) → so ≡ (eqb k 6 || eqb k 7) → n ≡ slots (headOf (s .step)) w
+pub full-is : (s : Seen) (w : Words) {k n : ℕ} {br so : Bool} → k ≡ kind w → br ≡ branchKind k → so ≡ sourceKind k → n ≡ slots (headOf (s .step)) w
     → ((br && leb 64 (s .branches)) || (so && leb 16 (s .sources)) || ltb 4096 (s .slots + n)) ≡ seenFull s w
 unfolding seenFull
 full-is s w e p q r = rw (p, q, r, e)
@@ -154,7 +147,7 @@ one-most true e = omega arith
 one-most false e = omega arith
 
 pub after-is : (s : Seen) (w : Words) {k step n b o : ℕ} {br so : Bool} {fixed : List Bool} → k ≡ kind w → fixed ≡ fixedAfter (s .fixed) w
-    → step ≡ cond (isStudy w) (stepLength w) (s .step) → br ≡ (leb 1 k && leb k 5) → b ≡ cond br 1 0 → so ≡ (eqb k 6 || eqb k 7) → o ≡ cond so 1 0 → n ≡ slots (headOf (s .step)) w
+    → step ≡ cond (isStudy w) (stepLength w) (s .step) → br ≡ branchKind k → b ≡ cond br 1 0 → so ≡ sourceKind k → o ≡ cond so 1 0 → n ≡ slots (headOf (s .step)) w
     → _≡_ {A = Seen} (record { step = step; branches = s .branches + b; sources = s .sources + o; slots = s .slots + n; fixed = fixed }) (seenAfter s w)
 unfolding seenAfter
 after-is s w e f g h i j k l = rw (f, g, i, h, k, j, l, e)

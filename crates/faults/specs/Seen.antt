@@ -1,14 +1,8 @@
 -- What the rows before tell, held in a few words, and the faults of a row by them. Assumes nothing.
-use Prim.Native.Nat.{ℕ, _+_, _*_, _≤_, _^_}
-use mathlib.Core.Path.{_≡_}
-use mathlib.Core.Bool.{Bool, true, false, cond, _&&_, _||_}
-use mathlib.Core.List.{List, [], _∷_}
-use lib.ListN.{getD, set, replicate}
-use lib.Dec.{leb, ltb, eqb}
-use lib.IntN.{pos}
-use Rattle.whole.specs.Lists.{Words, z}
+use Rattle.whole.specs.Plain.{ℕ, _+_, _*_, _≤_, _^_, _≡_, Bool, true, false, cond, _&&_, _||_, List, [], _∷_, leb, ltb}
+use Rattle.whole.specs.Plain.{eqb, pos, getD, set, replicate, Words, z}
 use Rattle.paper.specs.Limits as Limits
-use Rattle.paper.specs.Rows.{Row, isStudy, isBranch, isSource, isVS, at, stepLength}
+use Rattle.paper.specs.Rows.{Row, isStudy, isBranch, isSource, isFixing, at, stepLength}
 use Rattle.paper.specs.Conductance.{nearest}
 use Rattle.paper.specs.Faults.{nodeFault, valueFault, travelFault, slots}
 use Rattle.faults.specs.declared.Seen.{Seen}
@@ -40,7 +34,7 @@ conductanceOf step k size =
     cond (eqb k 2) (nearest (10 ^ 9 * step) (2 * size)) (cond (eqb k 3) (nearest (2 * 10 ^ 6 * size) step) (nearest (10 ^ 12) size))
 
 unfoldable pub seenDouble : Seen → Words → Bool
-seenDouble s w = isVS w && getD (s .fixed) (at w) false
+seenDouble s w = isFixing w && getD (s .fixed) (at w) false
 
 unfoldable pub seenFull : Seen → Words → Bool
 seenFull s w =
@@ -57,7 +51,7 @@ seenFault s w =
     (cond (seenFull s w) 6 0))))
 
 unfoldable pub fixedAfter : List Bool → Words → List Bool
-fixedAfter fixed w = cond (isVS w) (set fixed (at w) true) fixed
+fixedAfter fixed w = cond (isFixing w) (set fixed (at w) true) fixed
 
 unfoldable pub seenAfter : Seen → Words → Seen
 seenAfter s w =

@@ -1,25 +1,18 @@
 -- The faults of a row by what is seen are the paper's, after the rows that it stands for. Assumes nothing.
-use Prim.Native.Nat.{ℕ, zero, suc, _+_, _≤_, _<_}
-use native.Mathlib.Omega.{arith}
-use mathlib.Core.Path.{_≡_, refl, sym, _∙_, ap, subst}
-use mathlib.Core.Bool.{Bool, true, false, not, cond, _&&_, _||_, false≢true, true≢false}
-use mathlib.Core.List.{List, [], _∷_, _++_, tail}
-use borrow.Author.Tests.{eqb-true, eqb-false, ne-eqb, eq-eqb}
-use lib.Dec.{eqb, leb, ltb}
-use lib.IntN.{ℤ, pos, negsuc, natAbs}
-use lib.ListN.{length, getD, drop, take, set, replicate, length-set, getD-replicate}
-use lib.Seq.{getD-set-same, getD-set-other}
-use Rattle.whole.specs.Lists.{Words, word, nat, between, empty, any, count, sum}
-use Rattle.whole.specs.Folds.{or-left, count-append, sum-append, any-append}
+use Rattle.whole.specs.Plain.{ℕ, _≤_, _<_, _≡_, refl, sym, _∙_, ap, subst, Bool, true, false, _&&_, false≢true}
+use Rattle.whole.specs.Plain.{true≢false, List, [], _∷_, tail, ℤ, pos, negsuc, length, getD, drop, getD-replicate}
+use Rattle.whole.specs.Plain.{eqb-true, arith, Words, word, nat, between, empty, any, count, sum}
+use Rattle.whole.specs.Folds.{or-left}
 use Rattle.paper.specs.Limits as Limits
-use Rattle.paper.specs.Rows.{Row, bytes, kinds, kind, fieldsOf, isStudy, isBranch, isSource, isLine, isVS, at, stepLength}
-use Rattle.paper.specs.Conductance.{conductance, nearest, ofOhms, ofHenries, ofFarads}
+use Rattle.paper.specs.Rows.{Row, bytes, kinds, kind, fieldsOf, isStudy, isBranch, isSource, isFixing, branchKind, sourceKind, fixingKind, at, stepLength}
+use Rattle.paper.specs.Classes.{kind-count, fixing-kinds}
+use Rattle.paper.specs.Conductance.{conductance, ofOhms, ofHenries, ofFarads}
 use Rattle.paper.specs.Faults.{outside, nodeFault, valueFault, travelFault, fixes, doubleFault, slots, fullFault, lineFault, rowFault}
 use Rattle.paper.specs.Network.{Table, rowOfWords}
 use Rattle.kinds.specs.Table.{namesOf, low, high, outsideFrom}
 use Rattle.kinds.specs.Fields.{each, five, outside-names, field-in, in-range}
 use Rattle.faults.specs.declared.Seen.{Seen}
-use Rattle.faults.specs.Seen.{headOf, Held, nothingSeen, seenDouble, seenFull, seenFault, fixedAfter, seenAfter}
+use Rattle.faults.specs.Seen.{headOf, Held, nothingSeen, seenDouble, seenFull, seenFault}
 
 -- what is seen of the study's row and the rows after it. Before the study's row no step length is known, and none is asked for
 pub record Stands (s : Seen) (t : Table) : Type 0 where
@@ -48,7 +41,7 @@ stands-none =
 
 kind-word : (x : ℤ) → kind (x ∷ []) < 8 → x ≡ pos (kind (x ∷ []))
 kind-word (pos k) h = refl
-kind-word (negsuc n) h = absurd (omega arith)
+kind-word (negsuc n) h = absurd (omega (arith, kind-count))
 
 head-tail : (w : Words) → 6 ≤ length w → w ≡ word w 0 ∷ tail w
 head-tail [] h = absurd (omega arith)
@@ -106,10 +99,10 @@ module _ (w : Words) (few : 6 ≤ length w) (known : kind w < 8) where
 -- the faults of a row, seen and of the paper
 seen-double : (s : Seen) (before : List Row) (w : Words) → ((n : ℕ) → n ≤ 32 → getD (s .fixed) n false ≡ any (fixes n) before) → (kind w ≡ 6 → at w ≤ 32) → seenDouble s w ≡ doubleFault before w
 unfolding seenDouble doubleFault
-seen-double s before w h l = by-test (eqb (kind w) 6) refl
+seen-double s before w h l = by-test (isFixing w) refl
   where
-    by-test : (t : Bool) → eqb (kind w) 6 ≡ t → (eqb (kind w) 6 && getD (s .fixed) (at w) false) ≡ (eqb (kind w) 6 && any (fixes (at w)) before)
-    by-test true e = rw (h (at w) (l (eqb-true (kind w) 6 e)))
+    by-test : (t : Bool) → isFixing w ≡ t → (isFixing w && getD (s .fixed) (at w) false) ≡ (isFixing w && any (fixes (at w)) before)
+    by-test true e = rw (h (at w) (l (eqb-true (kind w) 6 (fixing-kinds (kind w) ∙ e))))
     by-test false e = rw e
 
 seen-full : (s : Seen) (before : List Row) (w : Words) → s .branches ≡ count isBranch before → s .sources ≡ count isSource before → s .slots ≡ sum (slots (headOf (s .step))) before
@@ -133,7 +126,7 @@ module _ (s : Seen) (w : Words) (few : 6 ≤ length w) (known : kind w < 8) wher
       by-test false f = rw (f, seen-double s before w h (source-node w few known f), seen-full s before w p q r)
 
   first-study : isStudy w ≡ true → s .slots ≡ 0 → seenFault s w ≡ lineFault [] [] w
-  unfolding words seenFault seenDouble seenFull fieldsOf kinds bytes lineFault nodeFault valueFault travelFault doubleFault fullFault outside conductance ofOhms ofHenries ofFarads slots sum
+  unfolding words seenFault seenDouble seenFull fieldsOf branchKind sourceKind fixingKind kinds bytes lineFault nodeFault valueFault travelFault doubleFault fullFault outside conductance ofOhms ofHenries ofFarads slots sum
   first-study =
       by-kind (λ v. isStudy v ≡ true → s .slots ≡ 0 → seenFault s v ≡ lineFault [] [] v) w few known
       (λ i e. rw e)

@@ -1,15 +1,10 @@
 // What may be wrong with a row whose spelling is right, after the rows before it: refusals 2 to 6. One function, for the reader's lines and for the rows of a
 // lent network record.
-ghost use mathlib.Core.Path.{_≡_};
-ghost use mathlib.Core.Bool.{false, true, cond, _&&_, _||_};
-ghost use Prim.Native.Nat.{_≤_, _<_, _+_, _*_};
-ghost use lib.IntN.{natAbs};
-ghost use lib.ListN.{getD};
-ghost use lib.Dec.{leb, eqb};
-ghost use Rattle.whole.specs.Lists.{word};
+ghost use Rattle.whole.specs.Plain.{_≤_, _<_, _+_, _*_, _≡_, false, true, cond, natAbs, getD, word};
 ghost use Rattle.paper.specs.Rows.{kind, isStudy, stepLength};
 ghost use Rattle.paper.specs.Faults as Faults;
-ghost use Rattle.faults.specs.Seen.{headOf, Held, conductanceOf, seenDouble, seenFull, seenFault, fixedAfter, seenAfter, nothingSeen, Sized};
+ghost use Rattle.faults.specs.Seen.{headOf, Held, conductanceOf, seenDouble, seenFull, seenFault, fixedAfter};
+ghost use Rattle.faults.specs.Seen.{seenAfter, nothingSeen, Sized};
 use paper::Conductance;
 use paper::Room;
 
@@ -50,18 +45,6 @@ pub fn kind_of(row: [i64; 8]) -> usize
     row[0] as usize
 }
 
-fn is_branch(kind: usize) -> bool
-    ensures { λ r. ⌜ r ≡ (leb 1 kind && leb kind 5) ⌝ }
-{
-    (1 <= kind) & (kind <= 5)
-}
-
-fn is_source(kind: usize) -> bool
-    ensures { λ r. ⌜ r ≡ (eqb kind 6 || eqb kind 7) ⌝ }
-{
-    (kind == 6) | (kind == 7)
-}
-
 // 2 NODE: "node over 32, both ends equal, source or line end on ground"
 fn node_fault(row: [i64; 8]) -> bool
     requires { ⌜ kind row < 8 ⌝ }
@@ -71,8 +54,8 @@ fn node_fault(row: [i64; 8]) -> bool
     let a = field(row, 1);
     let b = field(row, 2);
     kinds::outside(k, 0, kinds::names(k), row)
-        | (is_branch(k) & (a == b))
-        | (is_source(k) & (a == 0))
+        | (paper::kinds::is_branch(k) & (a == b))
+        | (paper::kinds::is_source(k) & (a == 0))
         | ((k == 4) & ((a == 0) | (b == 0)))
 }
 
@@ -99,7 +82,7 @@ fn value_fault(step: u64, row: [i64; 8]) -> bool
     if kinds::outside(k, kinds::names(k), kinds::fields(k), row) {
         return true;
     }
-    if !is_branch(k) {
+    if !paper::kinds::is_branch(k) {
         return false;
     }
     let g = conductance(step, k, field(row, 3));
@@ -134,7 +117,7 @@ fn double_fault(seen: Seen, row: [i64; 8]) -> bool
     ensures { λ r. ⌜ r ≡ seenDouble seen row ⌝ }
 {
     let fixed = seen.fixed;
-    (kind_of(row) == 6) & fixed_at(fixed, field(row, 1))
+    paper::kinds::is_fixing(kind_of(row)) & fixed_at(fixed, field(row, 1))
 }
 
 // "Each line end keeps its last 2d sent values"
@@ -154,8 +137,8 @@ fn full_fault(seen: Seen, row: [i64; 8]) -> bool
     ensures { λ r. ⌜ r ≡ seenFull seen row ⌝ }
 {
     let k = kind_of(row);
-    (is_branch(k) & (Room::BRANCHES <= seen.branches))
-        | (is_source(k) & (Room::SOURCES <= seen.sources))
+    (paper::kinds::is_branch(k) & (Room::BRANCHES <= seen.branches))
+        | (paper::kinds::is_source(k) & (Room::SOURCES <= seen.sources))
         | (Room::SLOTS < seen.slots + slots_of(seen.step, row))
 }
 
@@ -208,7 +191,7 @@ fn fixed_after(fixed: [bool; 33], row: [i64; 8]) -> [bool; 33]
 {
     let mut next = fixed;
     let node = field(row, 1);
-    if kind_of(row) == 6 {
+    if paper::kinds::is_fixing(kind_of(row)) {
         if node < 33 {
             let n = node as usize;
             next[n] = true;
@@ -227,8 +210,8 @@ pub fn seen_after(seen: Seen, row: [i64; 8]) -> Seen
     let fixed = fixed_after(before, row);
     Seen {
         step: step_after(seen.step, row),
-        branches: seen.branches + one_if(is_branch(k)),
-        sources: seen.sources + one_if(is_source(k)),
+        branches: seen.branches + one_if(paper::kinds::is_branch(k)),
+        sources: seen.sources + one_if(paper::kinds::is_source(k)),
         slots: seen.slots + slots_of(seen.step, row),
         fixed,
     }

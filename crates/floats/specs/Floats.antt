@@ -1,13 +1,6 @@
 -- T-floats: answer 14 names node n exactly when n is the lowest free node of the area from which there is no path. Assumes nothing.
-use Prim.Native.Nat.{ℕ, zero, suc, _<_}
-use native.Mathlib.Omega.{arith}
-use mathlib.Core.Path.{_≡_, refl, sym, ap, _∙_, subst}
-use mathlib.Core.Logic.{_↔_}
-use mathlib.Core.Bool.{Bool, true, false, not, true≢false}
-use mathlib.Core.List.{List}
-use lib.Dec.{eqb}
-use borrow.Author.Tests.{eqb-true, eq-eqb, not-false}
-use Rattle.whole.specs.Lists.{Words}
+use Rattle.whole.specs.Plain.{ℕ, zero, suc, _<_, _≡_, refl, sym, ap, _∙_, subst, _↔_, Bool, true, false, not}
+use Rattle.whole.specs.Plain.{true≢false, List, eqb, eqb-true, eq-eqb, not-false, arith, Words}
 use Rattle.whole.specs.Rising.{Rising, rising-numbers, rising-keep, Lowest, lowest-first, first-lowest}
 use Rattle.paper.specs.declared.Advance.{Advance}
 use Rattle.paper.specs.declared.Advance.the-variants.{Took, Store, Network, State, Area, Done, Wait, Floating}

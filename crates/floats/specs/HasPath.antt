@@ -1,11 +1,6 @@
 -- "A free node needs a path of conducting branches (R, L, C, closed SW) to ground, to a fixed node, or to a node with a line end, itself included."
 -- In the paper's own terms, over the rows: no legs, no marks, no search. Assumes nothing.
-use Prim.Native.Nat.{ℕ, _<_}
-use mathlib.Core.Path.{_≡_}
-use mathlib.Core.Logic.{_⊎_}
-use mathlib.Core.Bool.{true, false}
-use lib.ListN.{length}
-use Rattle.whole.specs.Lists.{Words}
+use Rattle.whole.specs.Plain.{ℕ, _<_, _≡_, _⊎_, true, false, length, Words}
 use Rattle.paper.specs.Rows.{Row, isBranch, isLine, from, to}
 use Rattle.paper.specs.Areas.{Net, fixed}
 use Rattle.paper.specs.Legs.{isOpen}

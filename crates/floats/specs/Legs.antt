@@ -1,15 +1,7 @@
 -- The legs that conduct, and the rows that they are of: a line's end is a leg to ground, and every other is an R, L, C or closed SW. Assumes nothing.
-use Prim.Native.Nat.{ℕ, _<_}
-use native.Mathlib.Omega.{arith}
-use mathlib.Core.Path.{_≡_, refl, sym, ap, subst}
-use mathlib.Core.Logic.{_⊎_, inl, inr}
-use mathlib.Core.Bool.{Bool, true, false, cond, not, _&&_, true≢false}
-use mathlib.Core.List.{List, [], _∷_, List·Memᴰ·cases-cons, List·Memᴰ·not-nil}
-use lib.ListN.{length, getD}
-use lib.Dec.{eqb}
-use lib.IntN.{ℤ}
-use borrow.Author.Tests.{eq-eqb}
-use Rattle.whole.specs.Lists.{Words, z, word, numbers}
+use Rattle.whole.specs.Plain.{ℕ, _<_, _≡_, refl, sym, ap, subst, _⊎_, inl, inr, Bool, true, false, cond, not, _&&_}
+use Rattle.whole.specs.Plain.{true≢false, List, [], _∷_, List·Memᴰ·cases-cons, List·Memᴰ·not-nil, eqb, ℤ, length, getD}
+use Rattle.whole.specs.Plain.{eq-eqb, arith, Words, z, word, numbers}
 use Rattle.whole.specs.Folds.{and-left}
 use Rattle.whole.specs.Members.{Among, top, below, among-map, map-among, among-numbers, numbers-among}
 use Rattle.paper.specs.Rows.{Row, isBranch, isLine, from, to}

@@ -1,15 +1,7 @@
 -- The search's marks against the paper's paths: a node of the area comes to mark 0 exactly when it has a path. Assumes nothing.
-use Prim.Native.Nat.{ℕ, suc, _≤_, _<_}
-use native.Mathlib.Omega.{arith}
-use native.Mathlib.Decide.{ℕ-discrete}
-use mathlib.Core.Path.{_≡_, refl, sym, ap, _∙_, subst}
-use mathlib.Core.Logic.{_⊎_, inl, inr}
-use mathlib.Core.Bool.{true}
-use mathlib.Core.List.{List, [], _∷_, List·Memᴰ·cases-cons, List·Memᴰ·not-nil}
-use lib.ListN.{length}
-use lib.IntN.{ℤ}
-use borrow.Author.Tests.{eq-eqb, ne-eqb}
-use Rattle.whole.specs.Lists.{Words, keep}
+use Rattle.whole.specs.Plain.{ℕ, suc, _≤_, _<_, _≡_, refl, sym, ap, _∙_, subst, _⊎_, inl, inr, true, List, [], _∷_}
+use Rattle.whole.specs.Plain.{List·Memᴰ·cases-cons, List·Memᴰ·not-nil, ℤ, length, eq-eqb, ne-eqb, ℕ-discrete, arith}
+use Rattle.whole.specs.Plain.{Words, keep}
 use Rattle.whole.specs.Members.{Among, top, below, among-map, map-among, among-keep, keep-among}
 use Rattle.paper.specs.Rows.{Row, isBranch, isLine, from, to}
 use Rattle.paper.specs.Conductance.{conductance}
@@ -22,7 +14,7 @@ use Rattle.paths.specs.Paths.{In, Beside, Path, stay, hop}
 use Rattle.paths.specs.Rounds.{Inside}
 use Rattle.paths.specs.Meaning.{legJoins, Grounded, reached-sound, reached-complete}
 use Rattle.facts.specs.Nets.{rowAt, NetSound, row-area-from, row-area-to}
-use Rattle.local.specs.Sound.{line-branch}
+use Rattle.paper.specs.Classes.{line-branch}
 use Rattle.floats.specs.HasPath.{Conducts, Between, HasPath, at-ground, at-fixed, at-line, along}
 use Rattle.floats.specs.Legs.{Of-row, of-line, of-branch, legsIn, leg-of, row-legs, line-from, line-to, plain-from}
 

@@ -1,15 +1,8 @@
 -- The paper's test of a row's fields is the loop's, and what a row that passes it has. Assumes nothing.
-use Prim.Native.Nat.{ℕ, zero, suc, _+_, _-_, _<_, _≤_}
-use mathlib.Core.Path.{_≡_, refl}
-use mathlib.Core.Bool.{Bool, true, false, not, _||_, _&&_}
-use mathlib.Core.List.{List, [], _∷_, tail}
-use native.Mathlib.Omega.{arith}
-use borrow.Author.Tests.{eqb-true, eqb-false, leb-true, not-false}
-use lib.Dec.{eqb, leb}
-use lib.IntN.{ℤ, pos, negsuc, natAbs}
-use lib.ListN.{getD, length, drop}
+use Rattle.whole.specs.Plain.{ℕ, zero, suc, _+_, _-_, _<_, _≤_, _≡_, refl, Bool, true, false, not, [], _∷_, tail, eqb}
+use Rattle.whole.specs.Plain.{leb, ℤ, pos, negsuc, natAbs, length, drop, eqb-true, eqb-false, leb-true, not-false}
+use Rattle.whole.specs.Plain.{arith, Words, word, between, count}
 use Rattle.whole.specs.Folds.{and-left, and-right, or-left, or-right}
-use Rattle.whole.specs.Lists.{Words, word, between, count}
 use Rattle.paper.specs.Rows.{bytes, kinds, fieldsOf}
 use Rattle.paper.specs.Faults.{outside}
 use Rattle.kinds.specs.Table.{namesOf, low, high, anyOutside, outsideFrom}

@@ -1,15 +1,8 @@
 -- The table of kinds as code holds it, flat, against the paper's lists of fields. Assumes nothing.
-use Prim.Native.Nat.{ℕ, zero, suc, _+_, _*_, _-_, _<_, _≤_}
-use mathlib.Core.Path.{_≡_, ap, _∙_}
-use mathlib.Core.Bool.{Bool, true, false, not, _||_}
-use mathlib.Core.List.{List, []}
-use native.Mathlib.Omega.{arith}
+use Rattle.whole.specs.Plain.{ℕ, zero, suc, _+_, _-_, _<_, _≤_, _≡_, Bool, true, false, not, _||_, List, ℤ, getD, arith}
+use Rattle.whole.specs.Plain.{Words, z, word, between, count}
 use native.Mathlib.Numerals.{add-one, one-add}
-use lib.ListN.{getD}
-use lib.IntN.{ℤ}
-use lib.Signed.{leZ}
 use Rattle.whole.specs.Tables.{table, table-at}
-use Rattle.whole.specs.Lists.{Words, z, word, between, count}
 use Rattle.paper.specs.Rows.{Field, fieldsOf}
 
 -- how many fields of a kind name a node

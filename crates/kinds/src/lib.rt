@@ -1,8 +1,5 @@
 // The table of kinds: "study, R, L, C, LINE, SW, VS, IS", kinds 0 to 7. A kind's fields that name a node are its first.
-ghost use mathlib.Core.Path.{_≡_};
-ghost use Prim.Native.Nat.{_≤_, _<_, _+_};
-ghost use lib.ListN.{length};
-ghost use Rattle.whole.specs.Lists.{between};
+ghost use Rattle.whole.specs.Plain.{_≤_, _<_, _+_, _≡_, length, between};
 ghost use Rattle.paper.specs.Rows.{fieldsOf};
 ghost use Rattle.kinds.specs.Table.{namesOf, lowsOf, highsOf, outsideFrom};
 use paper::Balance;

@@ -1,14 +1,8 @@
 -- What is within the voltage range stays within it: a double that is rounded, and a list of small words into which one more is put. Assumes nothing.
-use Prim.Native.Nat.{ℕ, zero, suc, _*_, _≤_}
-use mathlib.Core.Path.{_≡_, refl}
-use mathlib.Core.Bool.{Bool, true, false, cond, false≢true}
-use mathlib.Core.List.{[], _∷_}
-use borrow.Author.Tests.{leb-true}
-use lib.ListN.{set}
-use lib.IntN.{ℤ, pos, negℤ, natAbs}
+use Rattle.whole.specs.Plain.{ℕ, zero, suc, _*_, _≤_, _≡_, refl, Bool, true, false, cond, false≢true, [], _∷_, ℤ, pos}
+use Rattle.whole.specs.Plain.{negℤ, natAbs, set, leb-true, Words, word}
 use lib.Ieee.{Float, nan, inf, fin, up, down}
 use lib.Ieee.Fits.{down-pos}
-use Rattle.whole.specs.Lists.{Words, word}
 use Rattle.whole.specs.Int.{abs-neg}
 use Rattle.whole.specs.Rounding.{nearest, nearest-most}
 use Rattle.paper.specs.Doubles.{inRange, wholeOf}

@@ -1,24 +1,11 @@
--- The kinds of a source, and how large its value gets. Assumes nothing.
-use Prim.Native.Nat.{ℕ, _-_, _≤_, _<_}
-use mathlib.Core.Path.{_≡_, refl, ap}
-use mathlib.Core.Bool.{Bool, true, false, cond, _||_}
-use native.Mathlib.Omega.{arith}
-use borrow.Author.Tests.{ltb-true, eqb-true}
-use lib.Dec.{ltb, eqb}
-use lib.IntN.{pos, natAbs, _*ℤ_}
-use lib.Signed.{quotZ}
-use Rattle.whole.specs.Lists.{z}
+-- How large a source's value gets. Assumes nothing.
+use Rattle.whole.specs.Plain.{ℕ, _-_, _≤_, _<_, _≡_, refl, Bool, true, false, cond, ltb, pos, natAbs, _*ℤ_, quotZ}
+use Rattle.whole.specs.Plain.{ltb-true, arith, z}
 use Rattle.whole.specs.Rounding.{part-size}
-use Rattle.paper.specs.Rows.{Row, kind, isVS, isIS, isSource, peak, start, rise}
+use Rattle.paper.specs.Rows.{Row, peak, start, rise}
 use Rattle.paper.specs.Areas.{Net}
 use Rattle.paper.specs.Sources.{ramp, risen, source}
 use Rattle.paper.specs.Kept.{either}
-
-pub vs-source : (r : Row) → isVS r ≡ true → isSource r ≡ true
-vs-source r e = ap (λ (k : ℕ). eqb k 6 || eqb k 7) (eqb-true (kind r) 6 e)
-
-pub is-source : (r : Row) → isIS r ≡ true → isSource r ≡ true
-is-source r e = ap (λ (k : ℕ). eqb k 6 || eqb k 7) (eqb-true (kind r) 7 e)
 
 -- a source is never larger than its peak
 pub ramp-size : (k : ℕ) (r : Row) → natAbs (ramp k r) ≤ natAbs (peak r)

@@ -1,21 +1,13 @@
 -- The voltages by node before solving, sources at the area's fixed nodes and 0 elsewhere: node by node, how many, and in range. Assumes nothing.
-use Prim.Native.Nat.{ℕ, zero, suc, _≤_, _<_}
-use mathlib.Core.Path.{_≡_, refl, sym, ap, _∙_}
-use mathlib.Core.Bool.{Bool, true, false, cond, _&&_, and-false}
-use mathlib.Core.List.{[]}
-use native.Mathlib.Omega.{arith}
-use native.Mathlib.Decide.{decLt}
-use native.Mathlib.Nat.{le-trans}
-use borrow.Author.Tests.{eqb-true}
-use lib.Dec.{eqb}
-use lib.ListN.{length, set, replicate, length-set, length-replicate, List·getD-eq-default}
-use lib.IntN.{ℤ, natAbs}
-use Rattle.whole.specs.Lists.{Words, z, word, any, numbers}
+use Rattle.whole.specs.Plain.{ℕ, zero, suc, _≤_, _<_, _≡_, refl, sym, ap, _∙_, Bool, true, false, cond, _&&_, and-false}
+use Rattle.whole.specs.Plain.{[], eqb, ℤ, natAbs, length, set, replicate, length-set, length-replicate}
+use Rattle.whole.specs.Plain.{List·getD-eq-default, eqb-true, le-trans, decLt, arith, Words, z, word, any, numbers}
 use Rattle.whole.specs.Folds.{and-left, and-right, fold-keeps}
 use Rattle.whole.specs.Filled.{getD-same}
 use Rattle.whole.specs.Written.{some-at, fold-set, total-none, kept-in, kept-out}
 use Rattle.paper.specs.Limits as Limits
-use Rattle.paper.specs.Rows.{isVS, at}
+use Rattle.paper.specs.Rows.{isFixing, at}
+use Rattle.paper.specs.Classes.{fixing-source}
 use Rattle.paper.specs.Faults.{fixes}
 use Rattle.paper.specs.Areas.{Net, areaOf, fixed, nodesOf}
 use Rattle.paper.specs.Sources.{source, held}
@@ -23,7 +15,7 @@ use Rattle.paper.specs.Kept.{either}
 use Rattle.paper.specs.Solve.{stillOf}
 use Rattle.facts.specs.Nets.{NetSound, rowAt, held-is}
 use Rattle.laws_volts.specs.Range.{set-end}
-use Rattle.laws_volts.specs.Sources.{source-size, vs-source}
+use Rattle.laws_volts.specs.Sources.{source-size}
 
 -- ground and what is past the last node are in no area
 pub area-node : (N : Net) → NetSound N → (a : ℕ) → 1 ≤ a → (n : ℕ) → areaOf N n ≡ a → (1 ≤ n) × (n ≤ N .nodes)
@@ -49,9 +41,9 @@ module _ (N : Net) (s : NetSound N) (a k : ℕ) where
   with-vs n e =
       let o = some-at (fixes n) (N .rows) [] e in
       let r = rowAt N (o .place) in
-      let v : isVS r ≡ true = and-left (isVS r) (eqb (at r) n) (o .passes) in
-      let q : at r ≡ n = eqb-true (at r) n (and-right (isVS r) (eqb (at r) n) (o .passes)) in
-      let t = s .row (o .place) (o .within) .source (vs-source r v) in
+      let v : isFixing r ≡ true = and-left (isFixing r) (eqb (at r) n) (o .passes) in
+      let q : at r ≡ n = eqb-true (at r) n (and-right (isFixing r) (eqb (at r) n) (o .passes)) in
+      let t = s .row (o .place) (o .within) .source (fixing-source r v) in
       (omega (arith, q, t .atIn .least), omega (arith, q, t .atIn .most), rw (held-is N s k n (o .place) (o .within) (o .passes)) (le-trans (source-size N k r) (t .voltMost v)))
 
   without-vs : (n : ℕ) → fixed N n ≡ false → volt n ≡ z

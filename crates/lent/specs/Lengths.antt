@@ -1,10 +1,5 @@
 -- The four lengths, from their test. Assumes nothing.
-use mathlib.Core.Path.{_≡_}
-use mathlib.Core.Bool.{true, _&&_}
-use borrow.Author.Tests.{eqb-true}
-use lib.Dec.{eqb}
-use lib.ListN.{length}
-use Rattle.whole.specs.Lists.{Words}
+use Rattle.whole.specs.Plain.{_≡_, true, _&&_, eqb, length, eqb-true, Words}
 use Rattle.whole.specs.Folds.{and-left, and-right}
 use Rattle.paper.specs.Limits as Limits
 use Rattle.paper.specs.Advance.{Memory, fits}

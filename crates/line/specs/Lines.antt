@@ -1,29 +1,23 @@
 -- What is read of a line is what the paper says of it. Assumes nothing.
-use Prim.Native.Nat.{ℕ, zero, suc, _+_, _-_, _≤_, _<_}
-use native.Mathlib.Omega.{arith}
+use Rattle.whole.specs.Plain.{ℕ, zero, suc, _+_, _-_, _≤_, _<_, _≡_, refl, sym, _∙_, ap, Bool, true, false, not, _&&_}
+use Rattle.whole.specs.Plain.{_||_, false≢true, List, [], _∷_, _++_, tail, eqb, ℤ, pos, ltZ, getD, length, drop, set}
+use Rattle.whole.specs.Plain.{replicate, length-replicate, drop-drop, getD-drop, sets, sets-eq, eqb-true, le-leb}
+use Rattle.whole.specs.Plain.{lt-leb, ne-eqb, decLt, arith, Words, z, any, filled, sameBytes}
 use native.Mathlib.Numerals.{add-one, one-add}
-use mathlib.Core.Path.{_≡_, refl, sym, _∙_, ap, subst}
-use mathlib.Core.Bool.{Bool, true, false, not, cond, _&&_, _||_, false≢true}
-use mathlib.Core.List.{List, [], _∷_, _++_, tail}
-use borrow.Author.Tests.{eqb-true, eqb-false, leb-true, leb-false, ne-eqb, eq-eqb}
-use lib.Dec.{eqb, leb}
-use lib.IntN.{ℤ, pos}
-use lib.Signed.{ltZ}
-use lib.ListN.{getD, length, drop, take, set, replicate, length-replicate}
-use lib.Seq.{drop-drop, getD-drop, sets, sets-eq}
-use Rattle.whole.specs.Lists.{Words, z, any, filled, sameBytes}
 use Rattle.whole.specs.Truths.{and-false}
 use Rattle.whole.specs.Repeats.{drop-replicate}
-use Rattle.whole.specs.Folds.{and-left, and-right}
+use Rattle.whole.specs.Folds.{and-right}
 use Rattle.whole.specs.Turns.{run, turns}
 use Rattle.paper.specs.Rows.{Field, Kind, kinds, fieldsOf, noKind, signed}
+use Rattle.paper.specs.Classes.{kind-count}
 use Rattle.paper.specs.Text.{LF, TAB, split, spelt, allSpelt, numberOf, placeOf, lineKind}
+use Rattle.paper.specs.Kept.{either}
 use Rattle.kinds.specs.Table.{low}
 use Rattle.kinds.specs.Fields.{fields-few}
 use Rattle.words.specs.Numbers.{capZ, readNumber}
 use Rattle.line.specs.declared.Walk.{Walk}
 use Rattle.line.specs.Parts.{isLF, ends, lineOf, fieldOf, rest, ended, startsWith, fieldsFrom, stops, before, split-fields, rest-ended, rest-line, rest-stops}
-use Rattle.line.specs.Walks.{stopped, taken, fieldAt, fieldsAt, worded, closed, lineOfKind, lineAt}
+use Rattle.line.specs.Walks.{fieldAt, fieldsAt, worded, closed, lineOfKind, lineAt}
 
 -- the numbers of a line's fields, held
 unfoldable pub capped : List (List ℕ) → Words
@@ -55,14 +49,9 @@ module _ (s : List ℕ) (k : ℕ) where
     place : well u fs ≡ true → r .at ≡ w .at + length (lineOf u)
     row : well u fs ≡ true → r .row ≡ sets (w .row) (1 + i) (capped (fieldsFrom u))
 
-  -- one that has stopped, before fields that are not as they should be
-  halted : (w : Walk) (u : List ℕ) (fs : List Field) (i : ℕ) (r : Walk) → r .ok ≡ false → well u fs ≡ false → Walked w u fs i r
-  halted w u fs i r e f =
-      record {
-        verdict = rw (e, f);
-        place = λ t. absurd (false≢true (sym f ∙ t));
-        row = λ t. absurd (false≢true (sym f ∙ t));
-      }
+  -- one that has stopped or meets no LF, before fields that are not as they should be
+  halted : (w : Walk) (u : List ℕ) (fs : List Field) (i : ℕ) (r : Walk) → (r .ok && startsWith LF (drop (r .at) s)) ≡ false → well u fs ≡ false → Walked w u fs i r
+  halted w u fs i r e f = record { verdict = e ∙ sym f; place = λ t. absurd (false≢true (sym f ∙ t)); row = λ t. absurd (false≢true (sym f ∙ t)) }
 
   -- no field is left
   last-LF : (w : Walk) (i : ℕ) → w .ok ≡ true → (u : List ℕ) → drop (w .at) s ≡ 10 ∷ u → Walked w (10 ∷ u) [] i w
@@ -73,24 +62,14 @@ module _ (s : List ℕ) (k : ℕ) where
   unfolding any fieldsFrom allSpelt
   left-over u = rw (split-fields u) (and-false (any isLF u))
 
-  last-TAB : (w : Walk) (i : ℕ) → w .ok ≡ true → (u : List ℕ) → drop (w .at) s ≡ 9 ∷ u → Walked w (9 ∷ u) [] i w
-  last-TAB w i o u e =
-      record {
-        verdict = ap (λ (x : Bool). x && startsWith LF (drop (w .at) s)) o ∙ ap (startsWith LF) e ∙ sym (left-over u);
-        place = λ t. absurd (false≢true (sym (left-over u) ∙ t));
-        row = λ t. absurd (false≢true (sym (left-over u) ∙ t));
-      }
-
   last : (w : Walk) (i : ℕ) → w .ok ≡ true → (u : List ℕ) → drop (w .at) s ≡ u → stops u ≡ true → Walked w u [] i w
   unfolding any ends
-  last w i o [] e c = record { verdict = rw (o, e); place = λ t. absurd (false≢true t); row = λ t. absurd (false≢true t) }
-  last w i o (b ∷ u) e c = by-test (eqb b 9) refl
-    where
-      by-test : (x : Bool) → eqb b 9 ≡ x → Walked w (b ∷ u) [] i w
-      by-test true p = let q : b ≡ 9 = eqb-true b 9 p in subst (λ (a : ℕ). Walked w (a ∷ u) [] i w) (sym q) (last-TAB w i o u (e ∙ ap (λ (a : ℕ). a ∷ u) q))
-      by-test false p =
-          let q : b ≡ 10 = eqb-true b 10 (sym (ap (λ (x : Bool). x || eqb b 10) p) ∙ c) in
-          subst (λ (a : ℕ). Walked w (a ∷ u) [] i w) (sym q) (last-LF w i o u (e ∙ ap (λ (a : ℕ). a ∷ u) q))
+  last w i o [] e c = halted w [] [] i w (rw (o, e)) refl
+  last w i o (b ∷ u) e c =
+      elim (eqb b 9) as (λ x. eqb b 9 ≡ x → (x || eqb b 10) ≡ true → Walked w (b ∷ u) [] i w) [
+        | true ↦ λ p q. rw (eqb-true b 9 p) (halted w (9 ∷ u) [] i w (rw (o, e, eqb-true b 9 p)) (left-over u))
+        | false ↦ λ p q. rw (eqb-true b 10 q) (last-LF w i o u (rw (eqb-true b 10 q) at e))
+      ] refl c
 
   -- a tab, and a field after it
   module _ (w : Walk) (i : ℕ) (f : Field) (fs : List Field) (u : List ℕ) (o : w .ok ≡ true) (e : drop (w .at) s ≡ 9 ∷ u) (d : drop i (fieldsOf k) ≡ f ∷ fs) where
@@ -113,9 +92,6 @@ module _ (s : List ℕ) (k : ℕ) where
     unfolding any fieldsFrom allSpelt
     whole = rw (split-fields u)
 
-    bad : spelt f (fieldOf u) ≡ false → well (9 ∷ u) (f ∷ fs) ≡ false
-    bad p = whole ∙ rw p (and-false (ended u))
-
     good : spelt f (fieldOf u) ≡ true → well (9 ∷ u) (f ∷ fs) ≡ well (rest ends u) fs
     good p = whole ∙ rw (p, rest-ended u)
 
@@ -123,28 +99,22 @@ module _ (s : List ℕ) (k : ℕ) where
     unfolding readNumber spelt
     value p = rw p
 
-    next : 1 + suc i ≡ suc (1 + i)
-    next = omega arith
-
     on : spelt f (fieldOf u) ≡ true → (r : Walk) → Walked read (rest ends u) fs (suc i) r → Walked w (9 ∷ u) (f ∷ fs) i r
     unfolding fieldsFrom capped before
     on p r v =
         record {
           verdict = v .verdict ∙ sym (good p);
           place = λ t. v .place (sym (good p) ∙ t) ∙ omega (arith, rest-line u);
-          row = λ t. v .row (sym (good p) ∙ t) ∙ rw (split-fields u, value p) (ap (λ (j : ℕ). sets (set (w .row) (1 + i) (capZ (numberOf (fieldOf u)))) j (capped (fieldsFrom (rest ends u)))) next);
+          row = λ t. v .row (sym (good p) ∙ t) ∙ (let n : 1 + suc i ≡ suc (1 + i) = omega arith in rw (split-fields u, value p, n));
         }
 
     at-TAB : ((x : Walk) → x .ok ≡ true → (v : List ℕ) → drop (x .at) s ≡ v → stops v ≡ true → Walked x v fs (suc i) (run (length fs) (suc i) (fieldAt s k) x))
         → Walked w (9 ∷ u) (f ∷ fs) i (run (length fs) (suc i) (fieldAt s k) (fieldAt s k i w))
-    at-TAB ih = rw step (by-test (spelt f (fieldOf u)) refl)
-      where
-        further : drop (w .at + 1 + length (fieldOf u)) s ≡ rest ends u
-        further = sym (drop-drop (length (fieldOf u)) (w .at + 1) s) ∙ ap (drop (length (fieldOf u))) after
-
-        by-test : (t : Bool) → spelt f (fieldOf u) ≡ t → Walked w (9 ∷ u) (f ∷ fs) i (run (length fs) (suc i) (fieldAt s k) read)
-        by-test true p = on p _ (ih read p (rest ends u) further (rest-stops u))
-        by-test false p = halted w (9 ∷ u) (f ∷ fs) i _ (stays (length fs) (suc i) read p) (bad p)
+    at-TAB ih =
+        let further : drop (w .at + 1 + length (fieldOf u)) s ≡ rest ends u = sym (drop-drop (length (fieldOf u)) (w .at + 1) s) ∙ ap (drop (length (fieldOf u))) after in
+        rw step
+        (elim (spelt f (fieldOf u)) as (λ t. spelt f (fieldOf u) ≡ t → Walked w (9 ∷ u) (f ∷ fs) i (run (length fs) (suc i) (fieldAt s k) read))
+        [ true ↦ λ p. on p _ (ih read p (rest ends u) further (rest-stops u)) | false ↦ λ p. halted w (9 ∷ u) (f ∷ fs) i _ (rw (stays (length fs) (suc i) read p)) (whole ∙ rw p (and-false (ended u))) ] refl)
 
   -- no tab
   no-tab : (w : Walk) (i : ℕ) → startsWith TAB (drop (w .at) s) ≡ false → fieldAt s k i w .ok ≡ false
@@ -154,23 +124,17 @@ module _ (s : List ℕ) (k : ℕ) where
   at-LF : (w : Walk) (i : ℕ) (f : Field) (fs : List Field) (u : List ℕ) → drop (w .at) s ≡ 10 ∷ u
       → Walked w (10 ∷ u) (f ∷ fs) i (run (length fs) (suc i) (fieldAt s k) (fieldAt s k i w))
   unfolding any fieldsFrom allSpelt
-  at-LF w i f fs u e = halted w (10 ∷ u) (f ∷ fs) i _ (stays (length fs) (suc i) (fieldAt s k i w) (no-tab w i (ap (startsWith TAB) e))) refl
+  at-LF w i f fs u e = halted w (10 ∷ u) (f ∷ fs) i _ (rw (stays (length fs) (suc i) (fieldAt s k i w) (no-tab w i (ap (startsWith TAB) e)))) refl
 
   walk : (fs : List Field) (i : ℕ) → drop i (fieldsOf k) ≡ fs → (w : Walk) → w .ok ≡ true → (u : List ℕ) → drop (w .at) s ≡ u → stops u ≡ true → Walked w u fs i (run (length fs) i (fieldAt s k) w)
   unfolding run any ends
   walk [] i d w o u e c = last w i o u e c
-  walk (f ∷ fs) i d w o [] e c = halted w [] (f ∷ fs) i _ (stays (length fs) (suc i) (fieldAt s k i w) (no-tab w i (ap (startsWith TAB) e))) refl
-  walk (f ∷ fs) i d w o (b ∷ u) e c = by-test (eqb b 9) refl (walk fs (suc i) (rw add-one at (drop-more (fieldsOf k) i f fs d)))
-    where
-      by-test : (x : Bool) → eqb b 9 ≡ x
-          → ((x : Walk) → x .ok ≡ true → (v : List ℕ) → drop (x .at) s ≡ v → stops v ≡ true → Walked x v fs (suc i) (run (length fs) (suc i) (fieldAt s k) x))
-          → Walked w (b ∷ u) (f ∷ fs) i (run (length fs) (suc i) (fieldAt s k) (fieldAt s k i w))
-      by-test true p ih =
-          let q : b ≡ 9 = eqb-true b 9 p in
-          subst (λ (a : ℕ). Walked w (a ∷ u) (f ∷ fs) i (run (length fs) (suc i) (fieldAt s k) (fieldAt s k i w))) (sym q) (at-TAB w i f fs u o (e ∙ ap (λ (a : ℕ). a ∷ u) q) d ih)
-      by-test false p ih =
-          let q : b ≡ 10 = eqb-true b 10 (sym (ap (λ (x : Bool). x || eqb b 10) p) ∙ c) in
-          subst (λ (a : ℕ). Walked w (a ∷ u) (f ∷ fs) i (run (length fs) (suc i) (fieldAt s k) (fieldAt s k i w))) (sym q) (at-LF w i f fs u (e ∙ ap (λ (a : ℕ). a ∷ u) q))
+  walk (f ∷ fs) i d w o [] e c = halted w [] (f ∷ fs) i _ (rw (stays (length fs) (suc i) (fieldAt s k i w) (no-tab w i (ap (startsWith TAB) e)))) refl
+  walk (f ∷ fs) i d w o (b ∷ u) e c =
+      elim (eqb b 9) as (λ x. eqb b 9 ≡ x → (x || eqb b 10) ≡ true → Walked w (b ∷ u) (f ∷ fs) i (run (length fs) (suc i) (fieldAt s k) (fieldAt s k i w))) [
+        | true ↦ λ p q. rw (eqb-true b 9 p) (at-TAB w i f fs u o (rw (eqb-true b 9 p) at e) d (walk fs (suc i) (rw add-one at (drop-more (fieldsOf k) i f fs d))))
+        | false ↦ λ p q. rw (eqb-true b 10 q) (at-LF w i f fs u (rw (eqb-true b 10 q) at e))
+      ] refl c
 
 -- ---- a whole line
 
@@ -184,19 +148,12 @@ line-fields u = rw (split-fields u)
 
 kind-most : (n : ℕ) (ks : List Kind) (w : List ℕ) → n + length ks ≤ 8 → placeOf n ks w ≤ 8
 unfolding placeOf
-kind-most n [] w h = omega arith
-kind-most n (k ∷ ks) w h = by-test (sameBytes (k .spelt) w) (kind-most (suc n) ks w (omega arith))
-  where
-    by-test : (t : Bool) → placeOf (suc n) ks w ≤ 8 → cond t n (placeOf (suc n) ks w) ≤ 8
-    by-test true l = omega arith
-    by-test false l = l
+kind-most n [] w h = omega (arith, kind-count)
+kind-most n (k ∷ ks) w h = either (λ (p : ℕ). p ≤ 8) (sameBytes (k .spelt) w) _ _ (omega arith) (kind-most (suc n) ks w (omega arith))
 
 pub kinds-most : (w : List ℕ) → placeOf 0 kinds w ≤ 8
 unfolding kinds
-kinds-most w = kind-most 0 kinds w eight
-  where
-    eight : 0 + length kinds ≤ 8
-    eight = omega arith
+kinds-most w = kind-most 0 kinds w (omega arith)
 
 spelt-length : (fs : List Field) (ss : List (List ℕ)) → allSpelt fs ss ≡ true → length (capped ss) ≡ length fs
 unfolding allSpelt capped
@@ -225,16 +182,11 @@ module _ (s : List ℕ) (at : ℕ) where
   here = drop at s
 
   no-word : (k : ℕ) → k ≡ 8 → (r : Walk) → r .ok ≡ false → ReadsParts here at k (fieldsFrom (rest ends here)) r
-  no-word k e r f =
-      record {
-        verdict = f ∙ rw e (sym (and-false (ended here)));
-        place = λ t. absurd (false≢true (sym f ∙ t));
-        row = λ t. absurd (false≢true (sym f ∙ t));
-      }
+  no-word k e r f = record { verdict = f ∙ rw (e, kind-count) (sym (and-false (ended here))); place = λ t. absurd (false≢true (sym f ∙ t)); row = λ t. absurd (false≢true (sym f ∙ t)) }
 
   some-word : (k : ℕ) → k < 8 → (r : Walk) → Walked s k (worded s at k) (rest ends here) (fieldsOf k) 0 r → ReadsParts here at k (fieldsFrom (rest ends here)) (closed s r)
   some-word k h r v =
-      let n : eqb k 8 ≡ false = ne-eqb k 8 (λ (e : k ≡ 8). omega arith) in
+      let n : eqb k noKind ≡ false = ne-eqb k noKind (λ (e : k ≡ noKind). omega (arith, kind-count)) in
       record {
         verdict = v .verdict ∙ rw (n, rest-ended here);
         place = λ t. v .place (sym (v .verdict) ∙ t) ∙ omega (arith, rest-line here);
@@ -250,15 +202,10 @@ module _ (s : List ℕ) (at : ℕ) where
       rw e (walk s k (fieldsOf k) 0 refl (worded s at k) refl (rest ends here) (sym (drop-drop (length (fieldOf here)) at s)) (rest-stops here))
 
   of-kind : (k : ℕ) → k ≤ 8 → ReadsParts here at k (fieldsFrom (rest ends here)) (lineOfKind s at k)
-  of-kind k m = by-test (leb 8 k) refl
-    where
-      by-test : (t : Bool) → leb 8 k ≡ t → ReadsParts here at k (fieldsFrom (rest ends here)) (cond t (record { ok = false; at = at; row = replicate 8 z }) (closed s (fieldsAt s k (worded s at k))))
-      by-test true e = let l : 8 ≤ k = leb-true 8 k e in no-word k (omega arith) _ refl
-      by-test false e = let l : k < 8 = leb-false 8 k e in some-word k l (fieldsAt s k (worded s at k)) (walked k)
+  of-kind k m =
+      elim (decLt k 8)
+      [ yes l ↦ rw (lt-leb 8 k l) (some-word k l (fieldsAt s k (worded s at k)) (walked k)) | no l ↦ rw (le-leb 8 k (omega arith)) (no-word k (omega arith) _ refl) ]
 
   pub reads-line : ReadsLine here at (lineAt s at)
   unfolding lineAt
-  reads-line =
-      subst (λ (j : ℕ). ReadsParts here at j (tail (split TAB (lineOf here))) (lineAt s at)) (sym (line-kind here))
-      (subst (λ (ps : List (List ℕ)). ReadsParts here at (placeOf 0 kinds (fieldOf here)) ps (lineAt s at)) (sym (line-fields here))
-      (of-kind (placeOf 0 kinds (fieldOf here)) (kinds-most (fieldOf here))))
+  reads-line = rw (line-kind here, line-fields here) (of-kind (placeOf 0 kinds (fieldOf here)) (kinds-most (fieldOf here)))

@@ -1,15 +1,7 @@
 -- The lines of a text and the fields of a line, as a reader meets them: the bytes up to the next LF, or up to the next tab or LF. Assumes nothing.
-use Prim.Native.Nat.{ℕ, zero, suc, _+_, _≤_, _<_}
-use native.Mathlib.Omega.{arith}
+use Rattle.whole.specs.Plain.{ℕ, suc, _+_, _≤_, _<_, _≡_, refl, ap, Bool, true, false, cond, _||_, List, [], _∷_, eqb}
+use Rattle.whole.specs.Plain.{getD, length, drop, take, drop-cons, eqb-true, arith, any}
 use native.Mathlib.Numerals.{add-one}
-use mathlib.Core.Path.{_≡_, refl, sym, _∙_, ap}
-use mathlib.Core.Bool.{Bool, true, false, cond, _&&_, _||_}
-use mathlib.Core.List.{List, [], _∷_}
-use borrow.Author.Tests.{eqb-true}
-use lib.Dec.{eqb}
-use lib.ListN.{getD, length, drop, take}
-use lib.Seq.{drop-cons, drop-drop}
-use Rattle.whole.specs.Lists.{any}
 use Rattle.whole.specs.Folds.{or-left, or-right}
 use Rattle.paper.specs.Text.{LF, TAB, split, cut, push}
 
@@ -56,11 +48,7 @@ module _ (stop : ℕ → Bool) where
   pub before-length : (s : List ℕ) → length (before stop s) ≤ length s
   unfolding before
   before-length [] = omega arith
-  before-length (b ∷ t) = by-test (stop b) (before-length t)
-    where
-      by-test : (e : Bool) → length (before stop t) ≤ length t → length (kept e b (before stop t)) ≤ suc (length t)
-      by-test true h = omega arith
-      by-test false h = omega arith
+  before-length (b ∷ t) = elim (stop b) as (λ e. length (kept e b (before stop t)) ≤ suc (length t)) [ true ↦ omega arith | false ↦ omega (arith, before-length t) ]
 
   -- one byte more of a text
   pub before-here : (s : List ℕ) (i : ℕ) → i < length s → stop (getD s i 0) ≡ true → length (before stop (drop i s)) ≡ 0
@@ -74,23 +62,17 @@ module _ (stop : ℕ → Bool) where
   pub before-taken : (s : List ℕ) → take (length (before stop s)) s ≡ before stop s
   unfolding before
   before-taken [] = refl
-  before-taken (b ∷ t) = by-test (stop b) (before-taken t)
-    where
-      by-test : (e : Bool) → take (length (before stop t)) t ≡ before stop t → take (length (kept e b (before stop t))) (b ∷ t) ≡ kept e b (before stop t)
-      by-test true h = refl
-      by-test false h = ap (λ (l : List ℕ). b ∷ l) h
+  before-taken (b ∷ t) =
+      elim (stop b) as (λ e. take (length (kept e b (before stop t))) (b ∷ t) ≡ kept e b (before stop t)) [ true ↦ refl | false ↦ ap (λ (l : List ℕ). b ∷ l) (before-taken t) ]
 
 -- ---- lines
 
 pub split-ended : (s : List ℕ) → ended s ≡ true → split LF s ≡ lineOf s ∷ split LF (drop (suc (length (lineOf s))) s)
 unfolding any split before
 split-ended [] e = let c : _≡_ {A = ℕ} 0 1 = cc in absurd (omega arith)
-split-ended (b ∷ t) e = by-test (eqb b LF) refl (split-ended t)
-  where
-    by-test : (x : Bool) → eqb b LF ≡ x → (ended t ≡ true → split LF t ≡ lineOf t ∷ split LF (drop (suc (length (lineOf t))) t))
-        → cut (eqb b LF) b (split LF t) ≡ kept (eqb b LF) b (lineOf t) ∷ split LF (drop (length (kept (eqb b LF) b (lineOf t))) t)
-    by-test true f ih = rw f
-    by-test false f ih = let g : ended t ≡ true = sym (ap (λ (y : Bool). y || ended t) f) ∙ e in rw f (ap (push b) (ih g))
+split-ended (b ∷ t) e =
+    elim (eqb b LF) as (λ x. (x || ended t) ≡ true → cut x b (split LF t) ≡ kept x b (lineOf t) ∷ split LF (drop (length (kept x b (lineOf t))) t))
+    [ true ↦ λ g. refl | false ↦ λ g. ap (push b) (split-ended t g) ] e
 
 pub split-open : (s : List ℕ) → ended s ≡ false → split LF s ≡ s ∷ []
 unfolding any split
@@ -115,23 +97,16 @@ split-fields (b ∷ t) = by-test (eqb b TAB) refl (eqb b LF) refl (split-fields 
 pub rest-ended : (s : List ℕ) → ended (rest ends s) ≡ ended s
 unfolding any before ends
 rest-ended [] = refl
-rest-ended (b ∷ t) = by-test (eqb b TAB) (eqb b LF) refl (rest-ended t)
-  where
-    by-test : (x y : Bool) → eqb b LF ≡ y → ended (rest ends t) ≡ ended t → ended (drop (length (kept (x || y) b (fieldOf t))) (b ∷ t)) ≡ (eqb b LF || ended t)
-    by-test true y q ih = refl
-    by-test false true q ih = refl
-    by-test false false q ih = rw q ih
+rest-ended (b ∷ t) =
+    elim (ends b) as (λ x. ends b ≡ x → ended (drop (length (kept x b (fieldOf t))) (b ∷ t)) ≡ (eqb b LF || ended t))
+    [ true ↦ λ e. refl | false ↦ λ e. rw (or-right (eqb b TAB) (eqb b LF) e) (rest-ended t) ] refl
 
 pub rest-line : (s : List ℕ) → length (fieldOf s) + length (lineOf (rest ends s)) ≡ length (lineOf s)
 unfolding before ends
 rest-line [] = refl
-rest-line (b ∷ t) = by-test (eqb b TAB) (eqb b LF) refl (rest-line t)
-  where
-    by-test : (x y : Bool) → eqb b LF ≡ y → length (fieldOf t) + length (lineOf (rest ends t)) ≡ length (lineOf t)
-        → length (kept (x || y) b (fieldOf t)) + length (lineOf (drop (length (kept (x || y) b (fieldOf t))) (b ∷ t))) ≡ length (kept (eqb b LF) b (lineOf t))
-    by-test true y q ih = omega arith
-    by-test false true q ih = omega arith
-    by-test false false q ih = rw q (omega (arith, ih))
+rest-line (b ∷ t) =
+    elim (ends b) as (λ x. ends b ≡ x → length (kept x b (fieldOf t)) + length (lineOf (drop (length (kept x b (fieldOf t))) (b ∷ t))) ≡ length (kept (eqb b LF) b (lineOf t)))
+    [ true ↦ λ e. omega arith | false ↦ λ e. rw (or-right (eqb b TAB) (eqb b LF) e) (omega (arith, rest-line t)) ] refl
 
 -- and begins with a tab or an LF, or is empty
 abbrev pub stops : List ℕ → Bool
@@ -141,8 +116,5 @@ stops (b ∷ s) = ends b
 pub rest-stops : (s : List ℕ) → stops (rest ends s) ≡ true
 unfolding before
 rest-stops [] = refl
-rest-stops (b ∷ t) = by-test (ends b) refl (rest-stops t)
-  where
-    by-test : (x : Bool) → ends b ≡ x → stops (rest ends t) ≡ true → stops (drop (length (kept x b (fieldOf t))) (b ∷ t)) ≡ true
-    by-test true e ih = e
-    by-test false e ih = ih
+rest-stops (b ∷ t) =
+    elim (ends b) as (λ x. ends b ≡ x → stops (drop (length (kept x b (fieldOf t))) (b ∷ t)) ≡ true) [ true ↦ λ e. e | false ↦ λ e. rest-stops t ] refl

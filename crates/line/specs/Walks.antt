@@ -1,16 +1,8 @@
 -- A line, as far as it is read. Assumes nothing.
-use Prim.Native.Nat.{ℕ, zero, suc, _+_, _-_, _≤_, _<_}
-use native.Mathlib.Omega.{arith}
-use mathlib.Core.Path.{_≡_, refl, sym, _∙_, ap}
-use mathlib.Core.Bool.{Bool, true, false, not, cond, _&&_}
-use mathlib.Core.List.{List, [], _∷_}
-use borrow.Author.Tests.{le-leb, lt-leb, not-true, not-false}
-use lib.Dec.{leb, eqb}
-use lib.Seq.{drop-cons}
-use lib.IntN.{ℤ, pos}
-use lib.Signed.{ltZ}
-use lib.ListN.{getD, length, drop, take, set, replicate, length-drop, drop-of-length-le}
-use Rattle.whole.specs.Lists.{z}
+use Rattle.whole.specs.Plain.{ℕ, _+_, _-_, _≤_, _<_, _≡_, refl, sym, _∙_, ap, Bool, true, false, not, cond, _&&_}
+use Rattle.whole.specs.Plain.{false≢true, List, [], _∷_, leb, eqb, ℤ, pos, ltZ, getD, length, drop, take, set}
+use Rattle.whole.specs.Plain.{replicate, length-drop, drop-of-length-le, drop-cons, le-leb, lt-leb, not-true, not-false}
+use Rattle.whole.specs.Plain.{arith, z}
 use Rattle.whole.specs.Folds.{and-right}
 use Rattle.whole.specs.Turns.{turns}
 use Rattle.paper.specs.Rows.{kinds, fieldsOf}
@@ -55,22 +47,18 @@ lineAt s at = lineOfKind s at (placeOf 0 kinds (fieldOf (drop at s)))
 -- ---- the next byte stays within the text
 
 starts-in : (b : ℕ) (s : List ℕ) (at : ℕ) → startsWith b (drop at s) ≡ true → at < length s
-starts-in b s at e = some (drop at s) e (length-drop at s)
-  where
-    some : (u : List ℕ) → startsWith b u ≡ true → length u ≡ length s - at → at < length s
-    some [] e l = let c : _≡_ {A = ℕ} 0 1 = cc in absurd (omega arith)
-    some (c ∷ u) e l = omega arith
+starts-in b s at e =
+    elim (drop at s) as (λ u. startsWith b u ≡ true → length u ≡ length s - at → at < length s)
+    [ [] ↦ λ e l. absurd (false≢true e) | c ∷ u ↦ λ e l. omega arith ] e (length-drop at s)
 
 pub word-in : (s : List ℕ) (at : ℕ) → at ≤ length s → at + length (fieldOf (drop at s)) ≤ length s
 word-in s at h = omega (arith, before-length ends (drop at s), length-drop at s)
 
 pub field-in : (s : List ℕ) (k i : ℕ) (w : Walk) → w .at ≤ length s → fieldAt s k i w .at ≤ length s
 unfolding fieldAt
-field-in s k i w h = by-test (w .ok && startsWith TAB (drop (w .at) s)) refl
-  where
-    by-test : (t : Bool) → (w .ok && startsWith TAB (drop (w .at) s)) ≡ t → cond t (taken s k i w) (stopped w) .at ≤ length s
-    by-test true e = let l : w .at < length s = starts-in TAB s (w .at) (and-right (w .ok) (startsWith TAB (drop (w .at) s)) e) in word-in s (w .at + 1) (omega arith)
-    by-test false e = h
+field-in s k i w h =
+    elim (w .ok && startsWith TAB (drop (w .at) s)) as (λ t. (w .ok && startsWith TAB (drop (w .at) s)) ≡ t → cond t (taken s k i w) (stopped w) .at ≤ length s)
+    [ true ↦ λ e. word-in s (w .at + 1) (omega (arith, starts-in TAB s (w .at) (and-right (w .ok) (startsWith TAB (drop (w .at) s)) e))) | false ↦ λ e. h ] refl
 
 -- ---- the ways through the code
 

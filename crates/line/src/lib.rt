@@ -1,7 +1,6 @@
 // One line of the study text as a row: "Lines end in LF, the last one too; fields are parted by one tab."
-ghost use mathlib.Core.Path.{_≡_};
-ghost use Prim.Native.Nat.{_≤_, _<_, _+_};
-ghost use lib.ListN.{length, drop};
+ghost use Rattle.whole.specs.Plain.{_≤_, _<_, _+_, _≡_, length, drop};
+ghost use Rattle.whole.specs.Loans.{was};
 ghost use Rattle.line.specs.Parts.{ends, fieldOf, startsWith};
 ghost use Rattle.line.specs.Walks.{fieldAt, fieldsAt, lineAt};
 
@@ -21,7 +20,7 @@ fn is_end(b: u8) -> bool
 // The next tab or LF, or the text's end.
 fn end_of(text: &[u8], at: usize) -> usize
     requires { ⌜ at ≤ length (now text) ⌝ }
-    ensures { λ r. ⌜ r ≡ at + length (fieldOf (drop at (now (text .entry)))) ⌝ }
+    ensures { λ r. ⌜ r ≡ at + length (fieldOf (drop at (was text))) ⌝ }
 {
     let mut i = at;
     while i < text.len() {
@@ -34,7 +33,7 @@ fn end_of(text: &[u8], at: usize) -> usize
 }
 
 fn is_at(text: &[u8], at: usize, b: u8) -> bool
-    ensures { λ r. ⌜ r ≡ startsWith b (drop at (now (text .entry))) ⌝ }
+    ensures { λ r. ⌜ r ≡ startsWith b (drop at (was text)) ⌝ }
 {
     if at < text.len() {
         return text[at] == b;
@@ -45,7 +44,7 @@ fn is_at(text: &[u8], at: usize, b: u8) -> bool
 // The field i of a line of a kind: a tab and a number.
 fn field_at(text: &[u8], kind: usize, i: usize, walk: Walk) -> Walk
     requires { ⌜ (kind < 8) × ((i < 5) × (walk .at ≤ length (now text))) ⌝ }
-    ensures { λ r. ⌜ r ≡ fieldAt (now (text .entry)) kind i walk ⌝ }
+    ensures { λ r. ⌜ r ≡ fieldAt (was text) kind i walk ⌝ }
 {
     let at = walk.at;
     let mut row = walk.row;
@@ -67,7 +66,7 @@ fn field_at(text: &[u8], kind: usize, i: usize, walk: Walk) -> Walk
 
 fn fields_at(text: &[u8], kind: usize, first: Walk) -> Walk
     requires { ⌜ (kind < 8) × (first .at ≤ length (now text)) ⌝ }
-    ensures { λ r. ⌜ r ≡ fieldsAt (now (text .entry)) kind first ⌝ }
+    ensures { λ r. ⌜ r ≡ fieldsAt (was text) kind first ⌝ }
 {
     let n = kinds::fields(kind);
     let mut walk = first;
@@ -83,12 +82,12 @@ fn fields_at(text: &[u8], kind: usize, first: Walk) -> Walk
 // The line that begins at a place, up to its LF.
 pub fn line_at(text: &[u8], at: usize) -> Walk
     requires { ⌜ at ≤ length (now text) ⌝ }
-    ensures { λ r. ⌜ r ≡ lineAt (now (text .entry)) at ⌝ }
+    ensures { λ r. ⌜ r ≡ lineAt (was text) at ⌝ }
 {
     let end = end_of(text, at);
     let kind = words::kind_of(&text[at..end]);
     let mut row = [0i64; 8];
-    if 8 <= kind {
+    if paper::kinds::COUNT <= kind {
         return Walk { ok: false, at, row };
     }
     row[0] = kind as i64;

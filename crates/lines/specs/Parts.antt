@@ -14,25 +14,13 @@ field x = TAB ∷ shown x
 unfoldable pub countsOf : ℕ → ℕ → List ℕ
 countsOf a b = field (pos a) ++ field (pos b)
 
--- a letter and two numbers: what every line of a step begins with
-unfoldable pub headOf : ℕ → ℕ → ℕ → List ℕ
-headOf letter k n = (letter ∷ []) ++ countsOf k n
-
 pub field-count : (n : ℕ) → Parts (field (pos n)) (TAB ∷ []) (shownNat n)
 unfolding field shown
 field-count n = record { is = refl }
 
-pub field-is : (x : ℤ) → Parts (field x) (TAB ∷ []) (shown x)
-unfolding field
-field-is x = record { is = refl }
-
 pub counts-are : (a b : ℕ) → Parts (countsOf a b) (field (pos a)) (field (pos b))
 unfolding countsOf
 counts-are a b = record { is = refl }
-
-pub head-is : (letter k n : ℕ) → Parts (headOf letter k n) (letter ∷ []) (countsOf k n)
-unfolding headOf
-head-is letter k n = record { is = refl }
 
 pub fields-next : (x : ℤ) (xs : List ℤ) → Parts (shownAll (x ∷ xs)) (field x) (shownAll xs)
 unfolding shownAll field
@@ -45,10 +33,6 @@ fields-last x = record { is = refl }
 pub counts-next : (a b : ℕ) (xs : List ℤ) → Parts (shownAll (pos a ∷ pos b ∷ xs)) (countsOf a b) (shownAll xs)
 unfolding shownAll field countsOf
 counts-next a b xs = record { is = simp append-assoc }
-
-pub line-next : (letter k n : ℕ) (xs : List ℤ) → Parts (lineOf (letter ∷ []) (pos k ∷ pos n ∷ xs)) (headOf letter k n) (shownAll xs)
-unfolding headOf shownAll field countsOf
-line-next letter k n xs = record { is = simp append-assoc }
 
 pub line-word : (w : List ℕ) (xs : List ℤ) → Parts (lineOf w xs) w (shownAll xs)
 line-word w xs = record { is = refl }

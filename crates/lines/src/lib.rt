@@ -7,7 +7,7 @@ ghost use lib.ListN.{length};
 ghost use Rattle.paper.specs.Rows.{bytes};
 ghost use Rattle.paper.specs.Listing.{shownAll, lineOf};
 ghost use Rattle.digits.specs.Puts.{Puts};
-ghost use Rattle.lines.specs.Parts.{field, countsOf, headOf};
+ghost use Rattle.lines.specs.Parts.{field, countsOf};
 
 // ---- parts of a line
 
@@ -31,20 +31,12 @@ fn put_word(out: &mut [u8], at: usize, word: &[u8]) -> usize
     at + i
 }
 
-fn put_field(out: &mut [u8], at: usize, x: i64) -> usize
-    requires { ⌜ at + length (field x) ≤ length (now out) ⌝ }
-    ensures { λ r. ⌜ Puts (now (out .entry)) at (field x) r (now (out .exit)) ⌝ }
-{
-    let next = put_byte(out, at, b'\t');
-    digits::put_number(out, next, x)
-}
-
 fn put_count(out: &mut [u8], at: usize, n: u64) -> usize
     requires { ⌜ at + length (field (pos n)) ≤ length (now out) ⌝ }
     ensures { λ r. ⌜ Puts (now (out .entry)) at (field (pos n)) r (now (out .exit)) ⌝ }
 {
     let next = put_byte(out, at, b'\t');
-    digits::put_natural(out, next, n)
+    numerals::put_natural(out, next, n)
 }
 
 fn put_counts(out: &mut [u8], at: usize, a: u64, b: u64) -> usize
@@ -53,30 +45,6 @@ fn put_counts(out: &mut [u8], at: usize, a: u64, b: u64) -> usize
 {
     let next = put_count(out, at, a);
     put_count(out, next, b)
-}
-
-fn put_head(out: &mut [u8], at: usize, letter: u8, step: u64, number: u64) -> usize
-    requires { ⌜ at + length (headOf letter step number) ≤ length (now out) ⌝ }
-    ensures { λ r. ⌜ Puts (now (out .entry)) at (headOf letter step number) r (now (out .exit)) ⌝ }
-{
-    let next = put_byte(out, at, letter);
-    put_counts(out, next, step, number)
-}
-
-fn put_last_field(out: &mut [u8], at: usize, x: i64) -> usize
-    requires { ⌜ at + length (shownAll (x ∷ [])) ≤ length (now out) ⌝ }
-    ensures { λ r. ⌜ Puts (now (out .entry)) at (shownAll (x ∷ [])) r (now (out .exit)) ⌝ }
-{
-    let next = put_field(out, at, x);
-    put_byte(out, next, b'\n')
-}
-
-fn put_last_fields(out: &mut [u8], at: usize, x: i64, y: i64) -> usize
-    requires { ⌜ at + length (shownAll (x ∷ y ∷ [])) ≤ length (now out) ⌝ }
-    ensures { λ r. ⌜ Puts (now (out .entry)) at (shownAll (x ∷ y ∷ [])) r (now (out .exit)) ⌝ }
-{
-    let next = put_field(out, at, x);
-    put_last_field(out, next, y)
 }
 
 fn put_last_count(out: &mut [u8], at: usize, n: u64) -> usize
@@ -97,32 +65,6 @@ fn put_last_counts(out: &mut [u8], at: usize, a: u64, b: u64) -> usize
 
 // ---- whole lines
 
-// "`v`, step, node, voltage" or "`i`, step, branch, current"
-pub fn put_row(out: &mut [u8], at: usize, letter: u8, step: u64, number: u64, x: i64) -> usize
-    requires { ⌜ at + length (lineOf (letter ∷ []) (pos step ∷ pos number ∷ x ∷ [])) ≤ length (now out) ⌝ }
-    ensures { λ r. ⌜ Puts (now (out .entry)) at (lineOf (letter ∷ []) (pos step ∷ pos number ∷ x ∷ [])) r (now (out .exit)) ⌝ }
-{
-    let next = put_head(out, at, letter, step, number);
-    put_last_field(out, next, x)
-}
-
-// "for a line a fifth field, the to-end current"
-pub fn put_line_row(
-    out: &mut [u8],
-    at: usize,
-    letter: u8,
-    step: u64,
-    number: u64,
-    x: i64,
-    y: i64,
-) -> usize
-    requires { ⌜ at + length (lineOf (letter ∷ []) (pos step ∷ pos number ∷ x ∷ y ∷ [])) ≤ length (now out) ⌝ }
-    ensures { λ r. ⌜ Puts (now (out .entry)) at (lineOf (letter ∷ []) (pos step ∷ pos number ∷ x ∷ y ∷ [])) r (now (out .exit)) ⌝ }
-{
-    let next = put_head(out, at, letter, step, number);
-    put_last_fields(out, next, x, y)
-}
-
 // "It ends with `done` and the step count"
 pub fn put_done(out: &mut [u8], at: usize, steps: u64) -> usize
     requires { ⌜ at + length (lineOf (bytes "done") (pos steps ∷ [])) ≤ length (now out) ⌝ }
@@ -142,8 +84,10 @@ fn put_last_four(out: &mut [u8], at: usize, a: u64, b: u64, c: u64, d: u64) -> u
 
 // "or `stop`, step, area, number, node-or-branch"
 pub fn put_stop(out: &mut [u8], at: usize, step: u64, area: u64, number: u64, place: u64) -> usize
-    requires { ⌜ at + length (lineOf (bytes "stop") (pos step ∷ pos area ∷ pos number ∷ pos place ∷ [])) ≤ length (now out) ⌝ }
-    ensures { λ r. ⌜ Puts (now (out .entry)) at (lineOf (bytes "stop") (pos step ∷ pos area ∷ pos number ∷ pos place ∷ [])) r (now (out .exit)) ⌝ }
+    requires { ⌜ at + length (lineOf (bytes "stop") (pos step ∷ pos area ∷ pos number ∷ pos place ∷ [])) ≤ length
+        (now out) ⌝ }
+    ensures { λ r. ⌜ Puts (now (out .entry)) at
+        (lineOf (bytes "stop") (pos step ∷ pos area ∷ pos number ∷ pos place ∷ [])) r (now (out .exit)) ⌝ }
 {
     let next = put_word(out, at, b"stop");
     put_last_four(out, next, step, area, number, place)
@@ -152,7 +96,8 @@ pub fn put_stop(out: &mut [u8], at: usize, step: u64, area: u64, number: u64, pl
 // "a refused text gives `bad`, line, number"
 pub fn put_bad(out: &mut [u8], at: usize, line: u64, number: u64) -> usize
     requires { ⌜ at + length (lineOf (bytes "bad") (pos line ∷ pos number ∷ [])) ≤ length (now out) ⌝ }
-    ensures { λ r. ⌜ Puts (now (out .entry)) at (lineOf (bytes "bad") (pos line ∷ pos number ∷ [])) r (now (out .exit)) ⌝ }
+    ensures { λ r. ⌜ Puts (now (out .entry)) at (lineOf (bytes "bad") (pos line ∷ pos number ∷ [])) r
+        (now (out .exit)) ⌝ }
 {
     let next = put_word(out, at, b"bad");
     put_last_counts(out, next, line, number)

@@ -1,10 +1,7 @@
 -- What all lines of a step begin with, and how it is put. Assumes nothing.
-use Prim.Native.Nat.{ℕ, _+_, _-_, _/_, _≤_}
-use mathlib.Core.Path.{_≡_, sym, ap, _∙_}
-use mathlib.Core.List.{List, [], _∷_, _++_}
-use native.Mathlib.Omega.{arith}
-use lib.ListN.{length, set, take, drop, length-append, length-set}
-use lib.Seq.{sets, sets-eq, set-set, take-at, take-all, length-take-le}
+use Rattle.whole.specs.Plain.{ℕ, _+_, _-_, _/_, _≤_, _≡_, sym, ap, _∙_, List, [], _∷_, _++_, length, set, take, drop}
+use Rattle.whole.specs.Plain.{length-append, length-set, sets, sets-eq, set-set, take-at, take-all, length-take-le}
+use Rattle.whole.specs.Plain.{arith}
 use Rattle.paper.specs.Limits as Limits
 use Rattle.paper.specs.Text.{TAB}
 use Rattle.paper.specs.Listing.{shownNat}

@@ -1,11 +1,7 @@
 -- Four bytes as one number, and a text put four bytes at a time, some of them twice. Assumes nothing.
-use Prim.Native.Nat.{ℕ, suc, _+_, _*_, _-_, _/_, _%_, _≤_, _<_}
-use mathlib.Core.Path.{_≡_, refl, sym, ap, _∙_}
-use mathlib.Core.List.{List, [], _∷_}
-use native.Mathlib.Omega.{arith}
-use native.Mathlib.Nat.{div-div-eq-div-mul}
-use lib.ListN.{length, getD, set, take, drop, length-take}
-use lib.Seq.{sets, set-set, set-comm, drop-cons, take-add, length-take-le, getD-take}
+use Rattle.whole.specs.Plain.{ℕ, suc, _+_, _*_, _-_, _/_, _%_, _≤_, _<_, _≡_, refl, sym, ap, _∙_, List, [], _∷_, length}
+use Rattle.whole.specs.Plain.{getD, set, take, drop, length-take, sets, set-set, set-comm, drop-cons, take-add}
+use Rattle.whole.specs.Plain.{length-take-le, getD-take, div-div-eq-div-mul, arith}
 use Rattle.digits.specs.Puts.{sets-append}
 
 -- the first byte counts least

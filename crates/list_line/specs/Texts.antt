@@ -1,8 +1,5 @@
 -- The lines of a step in parts. Assumes nothing.
-use Prim.Native.Nat.{ℕ}
-use mathlib.Core.Path.{refl}
-use mathlib.Core.List.{List, [], _∷_, _++_, append-assoc}
-use lib.IntN.{ℤ, pos}
+use Rattle.whole.specs.Plain.{ℕ, refl, List, [], _∷_, _++_, append-assoc, ℤ, pos}
 use Rattle.paper.specs.Text.{LF, TAB}
 use Rattle.paper.specs.Listing.{shownNat, shown, shownAll, lineOf}
 use Rattle.digits.specs.Puts.{Parts}

@@ -1,10 +1,6 @@
 // One line of a full step: "`v`, step, node, voltage" or "`i`, step, branch, current". What the lines of a step begin with is the same in all of them, and is
 // spelt once.
-ghost use mathlib.Core.Path.{_≡_};
-ghost use mathlib.Core.List.{[], _∷_};
-ghost use Prim.Native.Nat.{_+_, _^_, _≤_, _<_};
-ghost use lib.ListN.{length};
-ghost use lib.Seq.{sets};
+ghost use Rattle.whole.specs.Plain.{_+_, _^_, _≤_, _<_, _≡_, [], _∷_, length, sets};
 ghost use Rattle.whole.specs.Loans.{was, is};
 ghost use Rattle.paper.specs.Limits as Limits;
 ghost use Rattle.digits.specs.Puts.{Puts};
@@ -57,7 +53,7 @@ pub fn spell(pairs: &Pairs, step: u64, text: &mut [u8]) -> usize
     ensures { λ r. ⌜ Spelt (is text) step r ⌝ }
 {
     text[1] = b'\t';
-    let next = digits::put_natural_by(pairs, text, 2, step);
+    let next = numerals::put_natural_by(pairs, text, 2, step);
     text[next] = b'\t';
     next + 1
 }
@@ -108,7 +104,7 @@ fn put_ended(pairs: &Pairs, x: i64, end: u8, out: &mut [u8], at: usize) -> usize
     requires { ⌜ (now pairs ≡ allPairs) × (at + length (endedText x end) ≤ length (now out)) ⌝ }
     ensures { λ r. ⌜ Puts (was out) at (endedText x end) r (is out) ⌝ }
 {
-    let next = digits::put_number_by(pairs, out, at, x);
+    let next = numerals::put_number_by(pairs, out, at, x);
     out[next] = end;
     next + 1
 }

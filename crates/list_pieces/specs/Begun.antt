@@ -1,13 +1,8 @@
 -- What a piece begins from: a study in step, and the tables of its areas, with nothing prepared for any; and how far it has come. Assumes nothing.
-use Prim.Native.Nat.{ℕ, suc, _+_, _≤_, _<_}
-use native.Mathlib.Omega.{arith}
+use Rattle.whole.specs.Plain.{ℕ, suc, _+_, _≤_, _<_, _≡_, sym, ap, _∙_, List, length, arith, Words}
 use native.Mathlib.Numerals.{add-one}
-use mathlib.Core.Path.{_≡_, sym, ap, _∙_}
-use mathlib.Core.List.{List}
 use lib.Ieee.{Float}
-use lib.ListN.{length}
 use Rattle.paper.specs.declared.Listing.{Listing}
-use Rattle.whole.specs.Lists.{Words}
 use Rattle.paper.specs.Limits as Limits
 use Rattle.paper.specs.Rows.{steps}
 use Rattle.paper.specs.Advance.{Memory, memory}

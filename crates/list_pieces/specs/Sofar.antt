@@ -1,17 +1,9 @@
 -- A piece so far: the bytes in the buffer, and the steps that are left, which lead to the piece as it is to be. Assumes nothing.
-use Prim.Native.Nat.{ℕ, suc, _+_, _-_, _≤_, _<_}
-use native.Mathlib.Omega.{arith}
+use Rattle.whole.specs.Plain.{ℕ, suc, _+_, _≤_, _<_, _≡_, refl, sym, ap, _∙_, Bool, true, false, List, [], _∷_, _++_}
+use Rattle.whole.specs.Plain.{leb, pos, length, le-leb, lt-leb, arith, Words}
 use native.Mathlib.Numerals.{add-one}
-use mathlib.Core.Path.{_≡_, refl, sym, ap, _∙_}
-use mathlib.Core.Bool.{Bool, true, false}
-use mathlib.Core.List.{List, [], _∷_, _++_}
-use borrow.Author.Tests.{le-leb, lt-leb}
-use lib.Dec.{leb}
-use lib.IntN.{pos}
-use lib.ListN.{length}
 use Rattle.paper.specs.declared.Listing.{Listing}
 use Rattle.paper.specs.declared.Listing.the-variants.{More, Done, Stopped}
-use Rattle.whole.specs.Lists.{Words}
 use Rattle.whole.specs.Turns.{turns, turns-more, turns-done}
 use Rattle.paper.specs.Limits as Limits
 use Rattle.paper.specs.Rows.{steps}

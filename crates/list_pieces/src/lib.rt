@@ -1,10 +1,8 @@
 // The listing by pieces: full step after full step into a lent buffer, until the next might not fit, an area is refused or the study is done.
-ghost use mathlib.Core.Path.{_≡_};
-ghost use Prim.Native.Nat.{_≤_};
-ghost use lib.ListN.{length};
+ghost use Rattle.whole.specs.Plain.{_≤_, _≡_, length};
 ghost use Rattle.whole.specs.Loans.{was, is};
 ghost use Rattle.paper.specs.Limits as Limits;
-ghost use Rattle.paper.specs.Advance.{memory};
+ghost use Rattle.paper.specs.Lent.{before, after};
 ghost use Rattle.list_turn.specs.Turned.{placeOf};
 ghost use Rattle.list_pieces.specs.Begun.{stepOf, Beginning, Pieces};
 use list_round::Step;
@@ -62,9 +60,11 @@ pub fn steps_on(
     tos: &mut [i64],
     out: &mut [u8],
 ) -> Piece
-    requires { ⌜ Beginning (now plan) totals (now owns) (now legs) (now nodes) (now sources) (now records) (now froms) (now tos) ⌝ }
+    requires { ⌜ Beginning (now plan) totals (now owns) (now legs) (now nodes) (now sources) (now records) (now froms)
+        (now tos) ⌝ }
     requires { ⌜ Limits.stepBytes ≤ length (now out) ⌝ }
-    ensures { λ r. ⌜ Pieces (was plan) totals (was owns) (was legs) (was nodes) (was sources) (memory (was records) (was froms) (was tos)) (was out) (r .answer) (r .count) (is out) (memory (is records) (is froms) (is tos)) ⌝ }
+    ensures { λ r. ⌜ Pieces (was plan) totals (was owns) (was legs) (was nodes) (was sources) (before records froms tos)
+        (was out) (r .answer) (r .count) (is out) (after records froms tos) ⌝ }
 {
     let pairs = digits::pairs();
     let mut factors = [[0.0; 32]; 32];

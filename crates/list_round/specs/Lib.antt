@@ -1,3 +1,2 @@
 pub mod Round
-pub mod Turn
 pub mod Passed

@@ -1,12 +1,7 @@
 -- The areas' turns in one step: the piece that they come to, and the state and the tables that they start from. Assumes nothing.
-use Prim.Native.Nat.{ℕ, suc, _+_, _<_}
-use mathlib.Core.Path.{_≡_}
-use mathlib.Core.Bool.{true}
-use mathlib.Core.List.{List, _++_}
-use lib.IntN.{pos}
+use Rattle.whole.specs.Plain.{ℕ, suc, _+_, _<_, _≡_, true, List, _++_, pos, Words}
 use lib.Ieee.{Float}
 use Rattle.paper.specs.declared.Listing.the-variants.{Stopped}
-use Rattle.whole.specs.Lists.{Words}
 use Rattle.whole.specs.Turns.{turns}
 use Rattle.paper.specs.Rows.{steps}
 use Rattle.paper.specs.Rows as Rows

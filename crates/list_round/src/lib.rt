@@ -1,9 +1,8 @@
 // One step of all areas, in rising order: "advances areas in rising order step by step".
-ghost use mathlib.Core.Path.{_≡_};
-ghost use Prim.Native.Nat.{_<_};
+ghost use Rattle.whole.specs.Plain.{_<_, _≡_};
 ghost use Rattle.whole.specs.Loans.{was, is};
 ghost use Rattle.paper.specs.Limits as Limits;
-ghost use Rattle.paper.specs.Advance.{memory};
+ghost use Rattle.paper.specs.Lent.{before, after};
 ghost use Rattle.list_round.specs.Round.{turnOf, Startable, Runs};
 use paper::Advance;
 use plan_own::Owns;
@@ -51,8 +50,10 @@ pub fn all_areas(
     tos: &mut [i64],
     step: Step,
 ) -> Round
-    requires { ⌜ Startable step (now plan) (now owns) (now legs) (now nodes) (now sources) (now factors) (now records) (now froms) (now tos) ⌝ }
-    ensures { λ r. ⌜ Runs step (was plan) (was nodes) (was sources) (was owns) (was legs) (was factors) (memory (was records) (was froms) (was tos)) r (is owns) (is legs) (is factors) (memory (is records) (is froms) (is tos)) ⌝ }
+    requires { ⌜ Startable step (now plan) (now owns) (now legs) (now nodes) (now sources) (now factors) (now records)
+        (now froms) (now tos) ⌝ }
+    ensures { λ r. ⌜ Runs step (was plan) (was nodes) (was sources) (was owns) (was legs) (was factors)
+        (before records froms tos) r (is owns) (is legs) (is factors) (after records froms tos) ⌝ }
 {
     let mut area = 1;
     while area <= step.areas {

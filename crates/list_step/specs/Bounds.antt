@@ -1,19 +1,14 @@
 -- How long the lines of a full step are at most: 23 bytes for a node, 53 for a branch; and a last line. Assumes nothing.
-use Prim.Native.Nat.{ℕ, zero, suc, _+_, _*_, _≤_, _<_}
-use native.Mathlib.Omega.{arith}
+use Rattle.whole.specs.Plain.{ℕ, zero, suc, _+_, _-_, _*_, _≤_, _<_, _≡_, refl, sym, ap, Bool, true, false, cond}
+use Rattle.whole.specs.Plain.{true≢false, List, [], _∷_, _++_, ℤ, pos, natAbs, length, length-append, arith, Words}
+use Rattle.whole.specs.Plain.{word, numbers}
 use native.Mathlib.Numerals.{add-one}
-use mathlib.Core.Path.{_≡_, refl, sym, ap}
-use mathlib.Core.Bool.{Bool, true, false, cond, true≢false}
-use mathlib.Core.List.{List, [], _∷_, _++_}
-use borrow.Author.Tests.{eqb-true}
-use lib.IntN.{ℤ, pos, natAbs}
-use lib.ListN.{length, length-append}
 use Rattle.paper.specs.declared.Advance.{Advance}
-use Rattle.whole.specs.Lists.{Words, word, numbers}
 use Rattle.paper.specs.Limits as Limits
-use Rattle.paper.specs.Rows.{bytes, kind, isBranch, isLine}
+use Rattle.paper.specs.Rows.{bytes, isBranch, isLine}
+use Rattle.paper.specs.Classes.{line-branch}
 use Rattle.paper.specs.Areas.{Net, branchNumber}
-use Rattle.paper.specs.Records.{voltAt, currentAt, toCurrentAt}
+use Rattle.paper.specs.Records.{voltages, currentAt, toCurrentAt}
 use Rattle.paper.specs.Listing.{shown, shownAll, lineOf, voltLines, currentLine, currentLines, stepLines, stopLine}
 use Rattle.paper.specs.Answers.{advanceNumber, advancePlace}
 use Rattle.facts.specs.Nets.{NetSound, rowAt, branch-number-most}
@@ -23,7 +18,7 @@ use Rattle.list_step.specs.Joined.{joined, joined-next, voltLine, voltsT
 
 -- the words that are listed are in range
 pub record Small (nodes rows : ℕ) (recs : Words) : Type 0 where
-  pub volts : (n : ℕ) → 1 ≤ n → n ≤ nodes → natAbs (word recs (voltAt n)) ≤ Limits.voltageEnd
+  pub volts : (n : ℕ) → 1 ≤ n → n ≤ nodes → natAbs (word recs (voltages .start + n - 1)) ≤ Limits.voltageEnd
   pub froms : (i : ℕ) → i < rows → natAbs (word recs (currentAt i)) ≤ Limits.currentEnd
   pub tos : (i : ℕ) → i < rows → natAbs (word recs (toCurrentAt i)) ≤ Limits.currentEnd
 
@@ -60,7 +55,7 @@ module _ {N : Net} (s : NetSound N) {recs : Words} (f : Small (N .nodes) (length
   volts-short zero q = omega arith
   volts-short (suc i) q =
       let line = voltLine recs k in
-      let x = word recs (voltAt (1 + i)) in
+      let x = word recs (voltages .start + (1 + i) - 1) in
       let v = f .volts (1 + i) (omega arith) (omega arith) in
       let j : joined line (numbers 1 (suc i)) ≡ joined line (numbers 1 i) ++ line (1 + i) = rw (add-one i) at (joined-next line 1 i) in
       omega (
@@ -93,7 +88,7 @@ module _ {N : Net} (s : NetSound N) {recs : Words} (f : Small (N .nodes) (length
       let v = f .tos i q in
       let from = whole-length 17 x (omega arith) (omega arith) in
       let to = whole-length 17 y (omega arith) (omega arith) in
-      either (lineOf (bytes "i") (pos k ∷ b ∷ x ∷ y ∷ [])) (lineOf (bytes "i") (pos k ∷ b ∷ x ∷ [])) (isLine r) (isBranch r) (λ e. rw (eqb-true (kind r) 4 e))
+      either (lineOf (bytes "i") (pos k ∷ b ∷ x ∷ y ∷ [])) (lineOf (bytes "i") (pos k ∷ b ∷ x ∷ [])) (isLine r) (isBranch r) (line-branch r)
       (omega (arith, line-five (bytes "i") (pos k) b x y, step-short, n, from, to))
       (omega (arith, line-four (bytes "i") (pos k) b x, step-short, n, from))
 
@@ -113,8 +108,8 @@ module _ {N : Net} (s : NetSound N) {recs : Words} (f : Small (N .nodes) (length
       let m = numbers 0 (length (N .rows)) in
       omega (
         arith,
-        length-append (voltLines recs k n) (currentLines N recs k m),
-        ap length (volts-joined recs k n),
+        length-append (voltLines N recs k n) (currentLines N recs k m),
+        ap length (volts-joined N recs k n),
         ap length (currents-joined N recs k m),
         volts-short (N .nodes) (omega arith),
         currents-short (length (N .rows)) (omega arith),

@@ -1,14 +1,6 @@
 -- A row's line by the plan, and the paper's lines of every network that the plan is of. Assumes nothing.
-use Prim.Native.Nat.{ℕ, suc, _≤_, _<_}
-use mathlib.Core.Path.{_≡_, sym, ap}
-use mathlib.Core.Bool.{true, false, cond}
-use mathlib.Core.List.{List, [], _∷_, _++_}
-use native.Mathlib.Omega.{arith}
-use borrow.Author.Tests.{ne-eqb}
-use lib.Dec.{eqb}
-use lib.IntN.{pos}
-use lib.ListN.{length}
-use Rattle.whole.specs.Lists.{Words, word, numbers}
+use Rattle.whole.specs.Plain.{ℕ, suc, _≤_, _<_, _≡_, sym, ap, true, false, cond, List, [], _∷_, _++_, eqb, pos, length}
+use Rattle.whole.specs.Plain.{ne-eqb, arith, Words, word, numbers}
 use Rattle.paper.specs.Rows.{bytes}
 use Rattle.paper.specs.Areas.{Net}
 use Rattle.paper.specs.Records.{currentAt, toCurrentAt}
@@ -17,7 +9,7 @@ use Rattle.facts.specs.Nets.{branch-number-most}
 use Rattle.digits.specs.Puts.{Parts}
 use Rattle.plan_rows.specs.declared.Row.{Row}
 use Rattle.plan_rows.specs.declared.Totals.{Totals}
-use Rattle.plan_rows.specs.ByKind.{branchKind}
+use Rattle.paper.specs.Rows.{branchKind}
 use Rattle.plan_rows.specs.Planned.{rowIn, rowOf}
 use Rattle.plan_net.specs.Of.{Of}
 use Rattle.list_step.specs.Joined.{joined, joined-same, voltsText, volts-joined, currents-joined}
@@ -82,6 +74,6 @@ module _ {N : Net} {plan : List (List ℕ)} {totals : Totals} (o : Of N plan tot
   step-parts recs k =
       record {
         is =
-            rw (nodes-are, rows-are, volts-joined recs k (numbers 1 (N .nodes)), currents-joined N recs k (numbers 0 (length (N .rows))))
+            rw (nodes-are, rows-are, volts-joined N recs k (numbers 1 (N .nodes)), currents-joined N recs k (numbers 0 (length (N .rows))))
             (ap (λ (l : List ℕ). voltsText recs k (N .nodes) ++ l) (sym (joined-same (length (N .rows)) (line-by recs k))));
       }

@@ -1,16 +1,11 @@
 -- Lines one after another, by number: the lines so far, one more, and all. Assumes nothing.
-use Prim.Native.Nat.{ℕ, zero, suc, _+_, _-_, _≤_, _<_}
-use mathlib.Core.Path.{_≡_, refl, sym, ap, _∙_}
-use mathlib.Core.List.{List, [], _∷_, _++_, append-assoc, append-nil}
-use native.Mathlib.Omega.{arith}
+use Rattle.whole.specs.Plain.{ℕ, zero, suc, _+_, _-_, _≤_, _<_, _≡_, refl, sym, ap, _∙_, List, [], _∷_, _++_}
+use Rattle.whole.specs.Plain.{append-assoc, append-nil, pos, length, length-append, arith, Words, word, numbers}
 use native.Mathlib.Numerals.{add-one}
-use lib.ListN.{length, length-append}
-use lib.IntN.{pos}
-use Rattle.whole.specs.Lists.{Words, word, numbers}
 use Rattle.whole.specs.Folds.{numbers-append, numbers-more}
 use Rattle.paper.specs.Rows.{bytes}
 use Rattle.paper.specs.Areas.{Net}
-use Rattle.paper.specs.Records.{voltAt}
+use Rattle.paper.specs.Records.{voltages}
 use Rattle.paper.specs.Listing.{lineOf, voltLines, currentLine, currentLines}
 use Rattle.digits.specs.Puts.{Puts, puts-then, puts-as, puts-room}
 
@@ -55,15 +50,15 @@ joined-same {f} {g} (suc n) h =
 -- ---- the paper's lines
 
 unfoldable pub voltLine : Words → ℕ → ℕ → List ℕ
-voltLine recs k n = lineOf (bytes "v") (pos k ∷ pos n ∷ word recs (voltAt n) ∷ [])
+voltLine recs k n = lineOf (bytes "v") (pos k ∷ pos n ∷ word recs (voltages .start + n - 1) ∷ [])
 
 abbrev pub voltsText : Words → ℕ → ℕ → List ℕ
 voltsText recs k nodes = joined (voltLine recs k) (numbers 1 nodes)
 
-pub volts-joined : (recs : Words) (k : ℕ) (ns : List ℕ) → voltLines recs k ns ≡ joined (voltLine recs k) ns
+pub volts-joined : (N : Net) (recs : Words) (k : ℕ) (ns : List ℕ) → voltLines N recs k ns ≡ joined (voltLine recs k) ns
 unfolding voltLines joined voltLine
-volts-joined recs k [] = refl
-volts-joined recs k (n ∷ ns) = ap (λ (l : List ℕ). voltLine recs k n ++ l) (volts-joined recs k ns)
+volts-joined N recs k [] = refl
+volts-joined N recs k (n ∷ ns) = ap (λ (l : List ℕ). voltLine recs k n ++ l) (volts-joined N recs k ns)
 
 pub currents-joined : (N : Net) (recs : Words) (k : ℕ) (is : List ℕ) → currentLines N recs k is ≡ joined (currentLine N recs k) is
 unfolding currentLines joined

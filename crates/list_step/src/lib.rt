@@ -1,7 +1,5 @@
 // The lines of a full step: "`v`, step, node, voltage for each node, then `i`, step, branch, current for each branch".
-ghost use mathlib.Core.Path.{_≡_};
-ghost use Prim.Native.Nat.{_+_, _^_, _≤_, _<_};
-ghost use lib.ListN.{length};
+ghost use Rattle.whole.specs.Plain.{_+_, _^_, _≤_, _<_, _≡_, length};
 ghost use Rattle.whole.specs.Loans.{was, is};
 ghost use Rattle.paper.specs.Limits as Limits;
 ghost use Rattle.paper.specs.Areas.{Net};
@@ -17,15 +15,9 @@ ghost use Rattle.list_step.specs.Bounds.{Small};
 use digits::Pairs;
 use list_line::Head;
 use paper::kinds;
+use paper::sections;
 use plan_rows::Table;
 use plan_rows::Totals;
-
-// Where the records' sections are: node n's voltage at VOLTAGES + n, n from 1; the words of the row in place i, from 0, at the others + i.
-const VOLTAGES: usize = 31;
-
-const CURRENTS: usize = 64;
-
-const TO_CURRENTS: usize = 144;
 
 fn put_volts(
     pairs: &Pairs,
@@ -48,7 +40,7 @@ fn put_volts(
             pairs,
             head,
             node as u64,
-            records[VOLTAGES + node],
+            records[sections::VOLTS + node - 1],
             out,
             next,
         );
@@ -74,19 +66,19 @@ fn put_current(
 {
     let r = plan_rows::row_at(plan, i);
     let number = r.number as u64;
-    let from = records[CURRENTS + i];
+    let from = records[sections::CURRENTS + i];
     if r.kind == kinds::LINE {
         return list_line::put_line_row(
             pairs,
             head,
             number,
             from,
-            records[TO_CURRENTS + i],
+            records[sections::TO_CURRENTS + i],
             out,
             at,
         );
     }
-    if plan_rows::is_branch(r.kind) {
+    if kinds::is_branch(r.kind) {
         return list_line::put_row(pairs, head, number, from, out, at);
     }
     at
@@ -128,7 +120,8 @@ pub fn put_step_by(
     requires { ⌜ (now pairs ≡ allPairs) × OfSome (now plan) totals × (step ≤ Limits.stepsEnd) ⌝ }
     requires { ⌜ (length (now records) ≡ Limits.recordWords) × Small (totals .nodes) (totals .rows) (now records) ⌝ }
     requires { ⌜ at + Limits.stepBytes ≤ length (now out) ⌝ }
-    ensures { λ r. ⌜ ((N : Net) → Of N (was plan) totals → Puts (was out) at (stepLines N (was records) step) r (is out)) ⌝ }
+    ensures { λ r. ⌜ ((N : Net) → Of N (was plan) totals
+        → Puts (was out) at (stepLines N (was records) step) r (is out)) ⌝ }
 {
     let mut text = [0; 16];
     let size = list_line::spell(pairs, step, &mut text);
@@ -136,21 +129,4 @@ pub fn put_step_by(
     let next = put_volts(pairs, volts, records, totals.nodes, out, at);
     let currents = list_line::head_of(&mut text, b'i', step, size);
     put_currents(pairs, currents, plan, records, totals.rows, out, next)
-}
-
-pub fn put_step(
-    plan: &Table,
-    totals: Totals,
-    records: &[i64],
-    step: u64,
-    out: &mut [u8],
-    at: usize,
-) -> usize
-    requires { ⌜ OfSome (now plan) totals × (step ≤ Limits.stepsEnd) ⌝ }
-    requires { ⌜ (length (now records) ≡ Limits.recordWords) × Small (totals .nodes) (totals .rows) (now records) ⌝ }
-    requires { ⌜ at + Limits.stepBytes ≤ length (now out) ⌝ }
-    ensures { λ r. ⌜ ((N : Net) → Of N (was plan) totals → Puts (was out) at (stepLines N (was records) step) r (is out)) ⌝ }
-{
-    let pairs = digits::pairs();
-    put_step_by(&pairs, plan, totals, records, step, out, at)
 }

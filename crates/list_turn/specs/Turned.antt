@@ -1,24 +1,16 @@
 -- A step of all areas and what it lists: its lines, or the stop line. Assumes nothing.
-use Prim.Native.Nat.{ℕ, suc, _≤_, _<_}
-use native.Mathlib.Omega.{arith}
-use native.Mathlib.Nat.{le-trans}
-use mathlib.Core.Path.{_≡_, refl, sym, ap, _∙_}
-use mathlib.Core.Bool.{Bool, true, false, cond}
-use mathlib.Core.List.{List, _++_}
-use lib.Dec.{lit≤}
-use lib.ListN.{length}
+use Rattle.whole.specs.Plain.{ℕ, suc, _+_, _-_, _≤_, _<_, _≡_, refl, sym, ap, _∙_, List, _++_, lit≤, length, le-trans}
+use Rattle.whole.specs.Plain.{arith, Words}
 use Rattle.paper.specs.declared.Listing.the-variants.{Stopped}
-use Rattle.whole.specs.Lists.{Words}
 use Rattle.paper.specs.Limits as Limits
-use Rattle.paper.specs.Rows.{isBranch, isLine, steps}
+use Rattle.paper.specs.Rows.{steps}
 use Rattle.paper.specs.Areas.{Net}
-use Rattle.paper.specs.Records.{voltAt, currentAt, toCurrentAt}
+use Rattle.paper.specs.Records.{currentAt, toCurrentAt}
+use Rattle.paper.specs.Apart.{voltages-in, currents-in, toCurrents-in, end-most, record-end}
 use Rattle.paper.specs.Advance.{Memory}
 use Rattle.paper.specs.Listing.{stepLines, stopLine}
 use Rattle.paper.specs.Pieces.{Piece, writing, ended, listed, fullStep, stepPiece}
-use Rattle.facts.specs.Nets.{NetSound, netIn, net-sound, rowAt}
-use Rattle.local.specs.Sound.{sound}
-use Rattle.stays.specs.Formed.{formed, end-volt, end-current, end-to}
+use Rattle.facts.specs.Nets.{NetSound, netIn, net-sound}
 use Rattle.digits.specs.Puts.{Puts}
 use Rattle.plan_rows.specs.declared.Totals.{Totals}
 use Rattle.plan_net.specs.Of.{Of}
@@ -31,19 +23,17 @@ use Rattle.list_turn.specs.declared.Turn.the-variants.{On, Over}
 
 -- ---- a state in step has its words in range
 
-either : (b : Bool) → cond b Limits.currentEnd 0 ≤ Limits.currentEnd
-either true = omega arith
-either false = omega arith
-
 pub small : {net : Words} {k : ℕ} {m : Memory} → InStep net k m → Small (netIn net .nodes) (length (netIn net .rows)) (m .records)
 small {net} {k} {m} v =
     let N = netIn net in
-    let s = sound N (net-sound net (v .network)) in
-    let f = formed N m (v .level .inv .good) in
+    let s = net-sound net (v .network) in
+    let f = record-end N (m .records) (m .froms) (m .tos) (v .level .inv .good) in
     record {
-      volts = λ n l h. rw (end-volt N s n l h) at (f .records (voltAt n));
-      froms = λ i h. le-trans (f .records (currentAt i)) (rw (end-current N s i h) (either (isBranch (rowAt N i))));
-      tos = λ i h. le-trans (f .records (toCurrentAt i)) (rw (end-to N s i h) (either (isLine (rowAt N i))));
+      volts = λ n l h.
+          let e : 32 + n - 1 ≡ 32 + (n - 1) = omega arith in
+          rw e (le-trans (f (32 + (n - 1))) (end-most N voltages-in (n - 1) (omega (arith, s .nodeMost))));
+      froms = λ i h. le-trans (f (currentAt i)) (end-most N currents-in i (omega (arith, s .rowMost)));
+      tos = λ i h. le-trans (f (toCurrentAt i)) (end-most N toCurrents-in i (omega (arith, s .rowMost)));
     }
 
 -- ---- what is listed

@@ -1,7 +1,5 @@
 // What a step of all areas lists: the lines of a full step; or, where an area was refused, the stop line.
-ghost use mathlib.Core.Path.{_≡_};
-ghost use Prim.Native.Nat.{suc, _+_, _≤_};
-ghost use lib.ListN.{length};
+ghost use Rattle.whole.specs.Plain.{suc, _+_, _≤_, _≡_, length};
 ghost use Rattle.whole.specs.Loans.{was, is};
 ghost use Rattle.paper.specs.Limits as Limits;
 ghost use Rattle.paper.specs.Areas.{Net};
@@ -32,7 +30,8 @@ pub fn put_turn(
 ) -> Turn
     requires { ⌜ (now pairs ≡ allPairs) × Listable (now plan) totals (now records) taken round ⌝ }
     requires { ⌜ at + Limits.stepBytes ≤ length (now out) ⌝ }
-    ensures { λ r. ⌜ ((N : Net) → Of N (was plan) totals → PutTurn N (suc taken) (was records) round (was out) at r (is out)) ⌝ }
+    ensures { λ r. ⌜ ((N : Net) → Of N (was plan) totals
+        → PutTurn N (suc taken) (was records) round (was out) at r (is out)) ⌝ }
 {
     let step = (taken + 1) as u64;
     match round {

@@ -1,29 +1,22 @@
 -- "Over two well-formed states, an advance depends on nothing but the network, its own area's records, the far counts and the far values it
 -- reads." Assumes nothing.
-use Prim.Native.Nat.{ℕ, zero, suc, _+_, _-_, _≤_, _<_}
-use native.Mathlib.Omega.{arith}
-use mathlib.Core.Path.{_≡_, refl, sym, ap, _∙_, subst}
-use mathlib.Core.Logic.{inl}
-use mathlib.Core.Bool.{Bool, true, false, cond, _&&_, _||_}
-use mathlib.Core.List.{List, [], _∷_}
-use lib.ListN.{length, getD}
-use lib.Dec.{leb, ltb}
-use lib.IntN.{ℤ}
-use borrow.Author.Tests.{leb-true, ltb-true, eqb-true}
+use Rattle.whole.specs.Plain.{ℕ, zero, suc, _+_, _-_, _≤_, _<_, _≡_, refl, sym, ap, _∙_, subst, inl, Bool, true, false}
+use Rattle.whole.specs.Plain.{cond, _&&_, _||_, List, [], _∷_, leb, ltb, ℤ, length, getD, leb-true, ltb-true, eqb-true}
+use Rattle.whole.specs.Plain.{arith, Words, z, word, nat}
 use Rattle.paper.specs.declared.Advance.{Advance}
 use Rattle.paper.specs.declared.Advance.the-variants.{Wait}
-use Rattle.whole.specs.Lists.{Words, z, word, nat}
 use Rattle.whole.specs.Folds.{and-left, and-right}
 use Rattle.whole.specs.Places.{place}
-use Rattle.paper.specs.Rows.{Row, isLine, from, to}
-use Rattle.paper.specs.Areas.{Net, areaOf, areaCount, branchNumber}
-use Rattle.paper.specs.Records.{countAt, countOf, wellFormed}
+use Rattle.paper.specs.Rows.{Row, isLine, from, to, isL, isC}
+use Rattle.paper.specs.Areas.{Net, areaOf, areaCount, branchNumber, rowArea}
+use Rattle.paper.specs.Records.{countAt, countOf, wellFormed, historyAt, ownerOf}
 use Rattle.paper.specs.Legs.{Branch, Heard, here, sentTo, sentAt, heardBy, heard, legsOf}
+use Rattle.paper.specs.Apart.{histories-in, end-of, owner-of, unused-zero}
 use Rattle.paper.specs.Solve.{Step, stop, move, solve}
 use Rattle.paper.specs.Advance.{Memory, Advanced, advanced, written, finish, takeStep, ready, late, waitsFor, firstLate, onNext, onNet}
 use Rattle.facts.specs.Nets.{rowAt}
 use Rattle.local.specs.Sound.{Sound}
-use Rattle.local.specs.Own.{ownerOf, own-count, legs-same, map-same}
+use Rattle.local.specs.Own.{own-count, legs-same, map-same}
 use Rattle.local.specs.Slots.{slotOf, delayAt}
 use Rattle.local.specs.Waits.{countAtNode, late-place}
 use Rattle.local.specs.Outcome.{stepOf, legsNow, isArea, isDone}
@@ -44,12 +37,13 @@ pub record SameLengths (m m′ : Memory) : Type 0 where
 refused-both : (x : Advance) (m m′ : Memory) → SameOut m m′ (advanced x m) (advanced x m′)
 refused-both x m m′ = record { answer = refl; records = λ j. inl (refl, refl); froms = λ j. inl (refl, refl); tos = λ j. inl (refl, refl) }
 
-finish-both : (N : Net) (a k : ℕ) (m m′ : Memory) (s : Step) → SameLengths m m′ → SameOut m m′ (finish N a k m s) (finish N a k m′ s)
+finish-both : (N : Net) (a k : ℕ) (m m′ : Memory) (s : Step) → 1 ≤ a → SameLengths m m′ → ((j : ℕ) → ownerOf N j ≡ a → word (m .records) j ≡ word (m′ .records) j)
+    → SameOut m m′ (finish N a k m s) (finish N a k m′ s)
 unfolding written
-finish-both N a k m m′ (stop x) l = refused-both x m m′
-finish-both N a k m m′ (move bs v) l = record {
+finish-both N a k m m′ (stop x) one l own = refused-both x m m′
+finish-both N a k m m′ (move bs v) one l own = record {
   answer = refl;
-  records = λ j. records-touch N a k bs v (m .records) (m′ .records) j (l .records);
+  records = λ j. records-touch N a k bs v (m .records) (m′ .records) j one (l .records) own;
   froms = λ j. store-touch N k (λ b. b .fromEnd) bs v (m .froms) (m′ .froms) j (l .froms);
   tos = λ j. store-touch N k (λ b. b .toEnd) bs v (m .tos) (m′ .tos) j (l .tos);
 }
@@ -59,11 +53,27 @@ finish-both N a k m m′ (move bs v) l = record {
 module _ (N : Net) (a : ℕ) (m m′ : Memory) (f : Sound N) (l : SameLengths m m′)
     (good : wellFormed N (m .records) (m .froms) (m .tos) ≡ true) (good′ : wellFormed N (m′ .records) (m′ .froms) (m′ .tos) ≡ true)
     (own : (j : ℕ) → ownerOf N j ≡ a → word (m .records) j ≡ word (m′ .records) j) where
+  first-area : isArea N a m ≡ true → 1 ≤ a
+  first-area e = leb-true 1 a (and-left (leb 1 a) (leb a (areaCount N)) e)
+
   pub same-count : isArea N a m ≡ true → countOf (m .records) a ≡ countOf (m′ .records) a
   same-count e =
-      let one : 1 ≤ a = leb-true 1 a (and-left (leb 1 a) (leb a (areaCount N)) e) in
       let most : a ≤ areaCount N = leb-true a (areaCount N) (and-right (leb 1 a) (leb a (areaCount N)) e) in
-      ap nat (own (countAt a) (own-count N a one (omega (arith, f .areas))))
+      ap nat (own (countAt a) (own-count N a (first-area e) (omega (arith, f .areas)) most))
+
+  -- an L or a C of the area holds its own word; any other row holds 0
+  same-held : (i : ℕ) → i < length (N .rows) → rowArea N (rowAt N i) ≡ a → word (m .records) (historyAt i) ≡ word (m′ .records) (historyAt i)
+  same-held i h o = go (isL (rowAt N i) || isC (rowAt N i)) refl
+    where
+      room : i < 80
+      room = omega (arith, f .rows)
+
+      none : (n : Memory) → wellFormed N (n .records) (n .froms) (n .tos) ≡ true → isL (rowAt N i) || isC (rowAt N i) ≡ false → word (n .records) (historyAt i) ≡ z
+      none n g e = unused-zero N (n .records) (n .froms) (n .tos) g (historyAt i) (end-of N histories-in i room ∙ rw e)
+
+      go : (b : Bool) → isL (rowAt N i) || isC (rowAt N i) ≡ b → word (m .records) (historyAt i) ≡ word (m′ .records) (historyAt i)
+      go true e = own (historyAt i) (owner-of N histories-in i room ∙ rw e o)
+      go false e = none m good e ∙ sym (none m′ good′ e)
 
   abbrev k : ℕ
   k = stepOf N a m
@@ -78,8 +88,8 @@ module _ (N : Net) (a : ℕ) (m m′ : Memory) (f : Sound N) (l : SameLengths m 
       by-late zero e q r =
           rw (good, good′, q, r, ← same-count q, r, late q r, e)
           (subst (λ (bs : List Branch). SameOut m m′ (finish N a k m (solve N a k (legsNow N a m))) (finish N a k m′ (solve N a k bs)))
-          (legs-same N a k (m .records) (m′ .records) _ f own ∙ ap (legsOf N a k (m′ .records)) (hears q r))
-          (finish-both N a k m m′ (solve N a k (legsNow N a m)) l))
+          (legs-same N a k (m .records) (m′ .records) _ same-held ∙ ap (legsOf N a k (m′ .records)) (hears q r))
+          (finish-both N a k m m′ (solve N a k (legsNow N a m)) (first-area q) l own))
       by-late (suc n) e q r = rw (good, good′, q, r, ← same-count q, r, late q r, e) (refused-both (Wait (branchNumber N (suc n))) m m′)
 
       by-done : (b : Bool) → isDone N a m ≡ b → isArea N a m ≡ true → SameOut m m′ (onNet N a m) (onNet N a m′)

@@ -1,11 +1,5 @@
 -- The nodes of an area, as the step lists them. Assumes nothing.
-use Prim.Native.Nat.{ℕ, _≤_}
-use native.Mathlib.Omega.{arith}
-use mathlib.Core.Path.{_≡_}
-use mathlib.Core.Bool.{false, not}
-use lib.Dec.{eqb}
-use borrow.Author.Tests.{eqb-true, eq-eqb, not-true}
-use Rattle.whole.specs.Lists.{numbers}
+use Rattle.whole.specs.Plain.{ℕ, _≤_, _≡_, false, not, eqb, eqb-true, eq-eqb, not-true, arith, numbers}
 use Rattle.whole.specs.Members.{Among, among-keep, keep-among, among-numbers, numbers-among}
 use Rattle.paper.specs.Areas.{Net, areaOf, nodesOf, fixed, freeOf}
 

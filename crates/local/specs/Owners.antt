@@ -1,26 +1,18 @@
 -- "An area's advance writes only the slots of its own line ends": whose each word of a line store is, and that a call leaves every word of the
 -- records and stores that is not its area's. Assumes nothing.
-use Prim.Native.Nat.{ℕ, zero, suc, _+_, _%_, _≤_, _<_}
-use native.Mathlib.Nat.{mod-lt}
-use native.Mathlib.Omega.{arith}
-use mathlib.Core.Path.{_≡_, refl, ap, _∙_}
-use mathlib.Core.Logic.{_≢_}
-use mathlib.Core.Bool.{true, cond, _&&_}
-use mathlib.Core.List.{List, [], _∷_}
-use lib.ListN.{length, getD, take}
-use lib.Dec.{leb, ltb}
-use borrow.Author.Tests.{leb-true, lt-ltb, le-ltb, le-leb}
-use Rattle.whole.specs.Lists.{Words, word, sum}
+use Rattle.whole.specs.Plain.{ℕ, zero, suc, _+_, _%_, _≤_, _<_, _≡_, refl, ap, _∙_, _≢_, true, cond, _&&_, List, []}
+use Rattle.whole.specs.Plain.{_∷_, leb, ltb, length, getD, take, leb-true, lt-ltb, le-ltb, le-leb, mod-lt, arith, Words}
+use Rattle.whole.specs.Plain.{word, sum}
 use Rattle.whole.specs.Folds.{and-left, and-right}
 use Rattle.paper.specs.Rows.{Row, isLine, from, to}
 use Rattle.paper.specs.Faults.{slots}
-use Rattle.paper.specs.Areas.{Net, areaOf, areaCount, step}
-use Rattle.paper.specs.Records.{offset, wellFormed}
+use Rattle.paper.specs.Areas.{Net, areaOf, areaCount}
+use Rattle.paper.specs.Records.{offset, ownerOf, wellFormed}
 use Rattle.paper.specs.Legs.{Heard, heard}
 use Rattle.paper.specs.Advance.{Memory, Advanced, written, onNet}
 use Rattle.facts.specs.Nets.{rowAt}
 use Rattle.local.specs.Sound.{Sound}
-use Rattle.local.specs.Own.{ownerOf, from-own, to-own}
+use Rattle.local.specs.Own.{from-own, to-own}
 use Rattle.local.specs.Written.{records-keep}
 use Rattle.local.specs.Slots.{slotsAt, slotOf, some-slots, sent-other}
 use Rattle.local.specs.Outcome.{stepOf, legsNow, voltsOf, Outcome, no-area, done, waits, stops, takes, outcome}
@@ -74,7 +66,7 @@ step-own : (N : Net) (a : ℕ) (m : Memory) → Sound N → 1 ≤ a → a ≤ ar
     → OnlyOwn N a m (written N a (stepOf N a m) (legsNow N a m) (voltsOf N a (stepOf N a m) (legsNow N a m)) m)
 unfolding written
 step-own N a m f one most = record {
-  records = λ j n. records-keep N a k (m .records) ears v f one (omega (arith, f .areas)) (m .records) j n;
+  records = λ j n. records-keep N a k (legsNow N a m) v (m .records) j n;
   froms = λ j n. sent-other N a k (m .records) ears v (λ b. b .fromEnd) j
       (λ i h o e. n (rw e (sends-own N a k from i f h (and-left (isLine (rowAt N i)) _ o)
       (rw (and-left (isLine (rowAt N i)) _ o) at (from-own N a k (m .records) ears i (and-right (isLine (rowAt N i)) _ o)))))) (m .froms);

@@ -1,15 +1,7 @@
 -- Turns that each write some words: what they leave, and what the last one to write a word puts there. Assumes nothing.
-use Prim.Native.Nat.{ℕ, zero, suc, _+_, _-_, _<_}
-use native.Mathlib.Omega.{arith}
-use native.Mathlib.Decide.{ℕ-discrete}
-use mathlib.Core.Path.{_≡_, refl, sym, ap, _∙_}
-use mathlib.Core.Logic.{_≢_}
-use mathlib.Core.Bool.{Bool, true, false, true≢false}
-use mathlib.Core.List.{[], _∷_}
-use lib.ListN.{length, set, length-set}
-use lib.Seq.{getD-set-same, getD-set-other}
-use lib.IntN.{ℤ}
-use Rattle.whole.specs.Lists.{Words, z, word}
+use Rattle.whole.specs.Plain.{ℕ, zero, suc, _+_, _-_, _<_, _≡_, refl, sym, ap, _∙_, _≢_, Bool, true, false, true≢false}
+use Rattle.whole.specs.Plain.{[], _∷_, ℤ, length, set, length-set, getD-set-same, getD-set-other, ℕ-discrete, arith}
+use Rattle.whole.specs.Plain.{Words, z, word}
 use Rattle.whole.specs.Turns.{turns}
 use Rattle.whole.specs.TurnLaws.{turns-keeps, turns-join, turns-last}
 use Rattle.paper.specs.Advance.{putIf}

@@ -1,15 +1,8 @@
 -- What an area is about to hear is not touched by another area's step, where neither waits: "Each line end keeps its last 2d sent values".
 -- Assumes nothing.
-use Prim.Native.Nat.{ℕ, suc, _+_, _-_, _%_, _≤_, _<_}
-use native.Mathlib.Nat.{mod-lt}
-use native.Mathlib.Omega.{arith}
-use mathlib.Core.Path.{_≡_, subst}
-use mathlib.Core.Logic.{_≢_}
-use mathlib.Core.Bool.{true}
-use mathlib.Core.List.{List}
-use lib.ListN.{length}
+use Rattle.whole.specs.Plain.{ℕ, suc, _+_, _-_, _%_, _≤_, _<_, _≡_, subst, _≢_, true, List, length, mod-lt, arith}
+use Rattle.whole.specs.Plain.{Words, word}
 use Rattle.order.specs.Ring.{ring-apart}
-use Rattle.whole.specs.Lists.{Words, word}
 use Rattle.whole.specs.Folds.{and-left, and-right}
 use Rattle.paper.specs.Rows.{Row, isLine, from, to}
 use Rattle.paper.specs.Areas.{Net, areaOf}

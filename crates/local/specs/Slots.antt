@@ -1,16 +1,7 @@
 -- "Each line end keeps its last 2d sent values in a store of its own; slots stand in table order, step s in place s mod 2d": no two lines share a
 -- slot, and a step writes one slot of each of its own line ends. Assumes nothing.
-use Prim.Native.Nat.{ℕ, _+_, _*_, _%_, _≤_, _<_}
-use native.Mathlib.Nat.{mod-lt, add-left-cancel}
-use native.Mathlib.Decide.{decLt}
-use native.Mathlib.Omega.{arith}
-use mathlib.Core.Path.{_≡_, refl, sym, ap, _∙_}
-use mathlib.Core.Logic.{_≢_}
-use mathlib.Core.Bool.{Bool, true, _&&_}
-use mathlib.Core.List.{List}
-use lib.ListN.{length}
-use lib.IntN.{ℤ}
-use Rattle.whole.specs.Lists.{Words, word}
+use Rattle.whole.specs.Plain.{ℕ, _+_, _*_, _%_, _≤_, _<_, _≡_, refl, sym, ap, _∙_, _≢_, Bool, true, _&&_, List, ℤ}
+use Rattle.whole.specs.Plain.{length, mod-lt, add-left-cancel, decLt, arith, Words, word}
 use Rattle.whole.specs.Folds.{and-left}
 use Rattle.paper.specs.Rows.{isLine}
 use Rattle.paper.specs.Faults.{delay, depth, slots}

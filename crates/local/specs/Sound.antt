@@ -1,14 +1,9 @@
 -- What an area's advance needs of its network: a part of what every network that passes refusal 8 has. Assumes nothing.
-use Prim.Native.Nat.{ℕ, _≤_, _<_}
-use native.Mathlib.Decide.{decLt}
-use native.Mathlib.Omega.{arith}
-use mathlib.Core.Path.{_≡_, sym, ap, _∙_}
-use mathlib.Core.Bool.{true, true≢false}
-use mathlib.Core.List.{[]}
-use borrow.Author.Tests.{eqb-true}
-use lib.ListN.{length, List·getD-eq-default}
+use Rattle.whole.specs.Plain.{ℕ, _≤_, _<_, _≡_, sym, ap, _∙_, true, true≢false, [], length, List·getD-eq-default, decLt}
+use Rattle.whole.specs.Plain.{arith}
 use Rattle.paper.specs.Limits as Limits
-use Rattle.paper.specs.Rows.{Row, kind, isBranch, isLine, from, to}
+use Rattle.paper.specs.Rows.{kinds, branchKind, isBranch, isLine, from, to}
+use Rattle.paper.specs.Classes.{line-branch}
 use Rattle.paper.specs.Faults.{delay}
 use Rattle.paper.specs.Areas.{Net, areaOf, areaCount, step}
 use Rattle.paper.specs.Records.{slotCount}
@@ -26,14 +21,12 @@ pub record Sound (N : Net) : Type 0 where
 
 -- a row that is there: past the table no word is of a kind
 pub row-there : (N : Net) (i : ℕ) → isBranch (rowAt N i) ≡ true → i < length (N .rows)
+unfolding branchKind kinds
 row-there N i e = go (decLt i (length (N .rows)))
   where
     go : Dec (i < length (N .rows)) → i < length (N .rows)
     go (yes h) = h
     go (no h) = absurd (true≢false (sym e ∙ ap isBranch (List·getD-eq-default (N .rows) [] (omega arith))))
-
-pub line-branch : (r : Row) → isLine r ≡ true → isBranch r ≡ true
-line-branch r e = rw (eqb-true (kind r) 4 e)
 
 pub sound : (N : Net) → NetSound N → Sound N
 sound N s = record {

@@ -1,20 +1,15 @@
 -- Two memories over which the same step writes: each word of them is left alone in both, or is the same in both afterwards. Assumes nothing.
-use Prim.Native.Nat.{ℕ, zero, suc, _-_}
-use native.Mathlib.Nat.{suc-inj, suc-ne-zero}
-use native.Mathlib.Decide.{ℕ-discrete}
-use mathlib.Core.Path.{_≡_, refl, sym, _∙_}
-use mathlib.Core.Logic.{_⊎_, inl, inr}
-use mathlib.Core.Bool.{Bool, true, false}
-use mathlib.Core.List.{List, [], _∷_}
-use lib.ListN.{length, set, length-set}
-use lib.Seq.{getD-set-other}
-use lib.IntN.{ℤ, pos}
-use Rattle.whole.specs.Lists.{Words, z, word, fold}
+use Rattle.whole.specs.Plain.{ℕ, zero, suc, _-_, _≤_, _<_, _≡_, refl, sym, _∙_, _⊎_, inl, inr, Bool, true, false, List}
+use Rattle.whole.specs.Plain.{[], _∷_, ℤ, length, set, length-set, getD-set-other, suc-inj, suc-ne-zero, ℕ-discrete}
+use Rattle.whole.specs.Plain.{decLt, arith, Words, z, word}
+use Rattle.whole.specs.Members.{Among, All, all-among}
 use Rattle.whole.specs.Turns.{run, turns}
-use Rattle.paper.specs.Areas.{Net, nodesOf}
-use Rattle.paper.specs.Records.{countAt, voltAt}
+use Rattle.paper.specs.Areas.{Net}
+use Rattle.paper.specs.Records.{Section, sections, ownerOf, nextOf}
+use Rattle.paper.specs.Apart.{next-of, owned}
 use Rattle.paper.specs.Legs.{End, Branch}
-use Rattle.paper.specs.Advance.{putIf, putRow, putVolts, newRecords, putSent, newStore}
+use Rattle.paper.specs.Advance.{putIf, found, newRecords, putSent, newStore}
+use Rattle.local.specs.Written.{records-keep, records-own, records-past}
 
 -- word j of w and of w′, before, and of u and of u′, after
 abbrev pub Touch : Words → Words → Words → Words → ℕ → Type 0
@@ -55,15 +50,6 @@ module _ (w w′ : Words) (j : ℕ) where
   run-alike f h zero i u u′ a = a
   run-alike f h (suc k) i u u′ a = run-alike f h k (suc i) (f i u) (f i u′) (h i u u′ a)
 
-  volts-alike : (v : Words) (ns : List ℕ) (u u′ : Words) → Alike u u′ → Alike (putVolts v ns u) (putVolts v ns u′)
-  unfolding putVolts fold
-  volts-alike v [] u u′ a = a
-  volts-alike v (n ∷ ns) u u′ a = volts-alike v ns (set u (voltAt n) (word v n)) (set u′ (voltAt n) (word v n)) (set-alike u u′ (voltAt n) (word v n) a)
-
-  row-alike : (bs : List Branch) (v : Words) (i : ℕ) (u u′ : Words) → Alike u u′ → Alike (putRow bs v i u) (putRow bs v i u′)
-  unfolding putRow
-  row-alike bs v i u u′ a = put-alike _ _ _ _ _ (put-alike _ _ _ _ _ (put-alike _ u u′ _ _ a))
-
   sent-alike : (N : Net) (k : ℕ) (end : Branch → End) (bs : List Branch) (v : Words) (i : ℕ) (u u′ : Words) → Alike u u′ → Alike (putSent N k end bs v i u) (putSent N k end bs v i u′)
   unfolding putSent
   sent-alike N k end bs v i u u′ a = put-alike _ u u′ _ _ a
@@ -71,11 +57,25 @@ module _ (w w′ : Words) (j : ℕ) where
 untouched : (w w′ : Words) (j : ℕ) → length w ≡ length w′ → Alike w w′ j w w′
 untouched w w′ j e = record { long = e; touch = inl (refl, refl) }
 
-pub records-touch : (N : Net) (a k : ℕ) (bs : List Branch) (v w w′ : Words) (j : ℕ) → length w ≡ length w′ → Touch w (newRecords N a k bs v w) w′ (newRecords N a k bs v w′) j
-unfolding newRecords turns
-records-touch N a k bs v w w′ j e =
-    run-alike w w′ j (putRow bs v) (row-alike w w′ j bs v) (length bs - 0) 0 _ _
-    (volts-alike w w′ j v (nodesOf N a) _ _ (set-alike w w′ j w w′ (countAt a) (pos k) (untouched w w′ j e))) .touch
+-- what a step writes is made of its area's own words
+next-same : (N : Net) (a k : ℕ) (bs : List Branch) (v w w′ : Words) → ((j : ℕ) → ownerOf N j ≡ a → word w j ≡ word w′ j)
+    → {s : Section} → Among s sections → (i : ℕ) → s .next N (found k bs v w) i ≡ s .next N (found k bs v w′) i
+unfolding sections All
+next-same N a k bs v w w′ own =
+    all-among (λ s. (i : ℕ) → s .next N (found k bs v w) i ≡ s .next N (found k bs v w′) i) sections (λ i. refl, (λ i. refl, (λ i. refl, (λ i. refl, (λ i. refl, tt)))))
+
+pub records-touch : (N : Net) (a k : ℕ) (bs : List Branch) (v w w′ : Words) (j : ℕ) → 1 ≤ a → length w ≡ length w′ → ((j : ℕ) → ownerOf N j ≡ a → word w j ≡ word w′ j)
+    → Touch w (newRecords N a k bs v w) w′ (newRecords N a k bs v w′) j
+records-touch N a k bs v w w′ j one e own = go (ℕ-discrete (ownerOf N j) a) (decLt j (length w))
+  where
+    go : Dec (ownerOf N j ≡ a) → Dec (j < length w) → Touch w (newRecords N a k bs v w) w′ (newRecords N a k bs v w′) j
+    go (no n) l = inl (records-keep N a k bs v w j n, records-keep N a k bs v w′ j n)
+    go (yes o) (yes l) =
+        let s = owned N a j one o .at in
+        let same : nextOf N (found k bs v w) j ≡ nextOf N (found k bs v w′) j =
+        rw (s .is, next-of N (s .among) (s .place) (s .inside) (found k bs v w), next-of N (s .among) (s .place) (s .inside) (found k bs v w′)) (next-same N a k bs v w w′ own (s .among) (s .place)) in
+        inr (records-own N a k bs v w j l o ∙ same ∙ sym (records-own N a k bs v w′ j (omega arith) o))
+    go (yes o) (no l) = inr (records-past N a k bs v w j (omega arith) ∙ sym (records-past N a k bs v w′ j (omega arith)))
 
 pub store-touch : (N : Net) (k : ℕ) (end : Branch → End) (bs : List Branch) (v w w′ : Words) (j : ℕ) → length w ≡ length w′ → Touch w (newStore N k end bs v w) w′ (newStore N k end bs v w′) j
 unfolding newStore turns

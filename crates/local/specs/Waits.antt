@@ -1,13 +1,7 @@
 -- 13 WAIT: "a far area's count is below k - d". Assumes nothing.
-use Prim.Native.Nat.{ℕ, suc, _+_, _≤_, _<_}
-use native.Mathlib.Omega.{arith}
-use mathlib.Core.Path.{_≡_, refl, sym, _∙_}
-use mathlib.Core.Logic.{_⊎_, inl, inr}
-use mathlib.Core.Bool.{Bool, true, false, _&&_, _||_, or-true, true≢false}
-use mathlib.Core.List.{List, [], _∷_}
-use lib.ListN.{length}
-use borrow.Author.Tests.{ltb-true, ltb-false, lt-ltb, eqb-true, eq-eqb}
-use Rattle.whole.specs.Lists.{Words}
+use Rattle.whole.specs.Plain.{ℕ, suc, _+_, _≤_, _<_, _≡_, refl, sym, _∙_, _⊎_, inl, inr, Bool, true, false, _&&_, _||_}
+use Rattle.whole.specs.Plain.{or-true, true≢false, List, [], _∷_, length, ltb-true, ltb-false, lt-ltb, eqb-true, eq-eqb}
+use Rattle.whole.specs.Plain.{arith, Words}
 use Rattle.whole.specs.Places.{place, place-none, none-place}
 use Rattle.paper.specs.Rows.{Row, isLine, from, to}
 use Rattle.paper.specs.Areas.{Net, areaOf}

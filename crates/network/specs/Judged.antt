@@ -1,11 +1,7 @@
 -- What is judged of a lent network record: each row by its eight words after what is seen of those before, and the words that no row has.
 -- Assumes nothing.
-use Prim.Native.Nat.{ℕ, suc, _+_, _*_}
-use mathlib.Core.Bool.{Bool, _&&_, _||_}
-use mathlib.Core.List.{List, [], _∷_}
-use lib.Dec.{leb, ltb, eqb}
-use lib.ListN.{length, take, drop}
-use Rattle.whole.specs.Lists.{Words, z, word, every, upTo}
+use Rattle.whole.specs.Plain.{ℕ, _+_, _*_, Bool, _&&_, _||_, [], _∷_, leb, ltb, eqb, length, take, drop, Words, z, word}
+use Rattle.whole.specs.Plain.{every, upTo}
 use Rattle.paper.specs.Rows.{kind, fieldsOf}
 use Rattle.faults.specs.declared.Seen.{Seen}
 use Rattle.faults.specs.Seen.{seenFault}

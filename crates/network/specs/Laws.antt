@@ -1,33 +1,23 @@
 -- The judgement is refusal 8's, both ways. Assumes nothing.
-use Prim.Native.Nat.{ℕ, zero, suc, _+_, _*_, _-_, _/_, _%_, _≤_, _<_}
-use native.Mathlib.Omega.{arith}
-use native.Mathlib.Nat.{mod-lt, mod-add-div'}
-use native.Mathlib.Decide.{decLt, ℕ-discrete}
+use Rattle.whole.specs.Plain.{ℕ, suc, _+_, _*_, _-_, _/_, _%_, _≤_, _<_, _≡_, refl, sym, ap, _∙_, Bool, true, false}
+use Rattle.whole.specs.Plain.{_&&_, [], _∷_, _++_, leb, eqb, pos, negsuc, length, take, drop, length-take, length-drop}
+use Rattle.whole.specs.Plain.{length-append, List·getD-append, List·getD-eq-default, take-all, getD-take, getD-drop}
+use Rattle.whole.specs.Plain.{getD-at, length-take-le, ext-getD, leb-true, le-leb, eqb-true, eq-eqb, ne-eqb, decLt}
+use Rattle.whole.specs.Plain.{ℕ-discrete, arith, Words, z, word, nat, between, every, upTo, same, sameWords, empty}
+use Rattle.whole.specs.Plain.{fold}
 use native.Mathlib.Numerals.{add-one}
-use mathlib.Core.Path.{_≡_, refl, sym, ap, _∙_, subst}
-use mathlib.Core.Bool.{Bool, true, false, cond, _&&_, _||_, true≢false}
-use mathlib.Core.List.{List, [], _∷_, _++_}
-use lib.Dec.{leb, ltb, eqb, eqb-refl}
-use lib.ListN.{length, getD, take, drop, length-take, length-drop, length-append, List·getD-append, List·getD-eq-default}
-use lib.Seq.{take-length, take-all, getD-take, getD-drop, getD-at, length-take-le, ext-getD}
-use lib.IntN.{ℤ, pos, negsuc}
-use borrow.Author.Tests.{leb-true, le-leb, eqb-true, eq-eqb, ne-eqb}
-use Rattle.whole.specs.Lists.{Words, z, word, nat, between, every, upTo, same, sameWords, filled, empty, fold}
-use Rattle.whole.specs.Folds.{and-left, and-right, both, every-at, every-if}
+use Rattle.whole.specs.Folds.{and-left, and-right, both, every-at}
 use Rattle.whole.specs.Filled.{getD-filled, length-filled}
 use Rattle.paper.specs.Limits as Limits
-use Rattle.paper.specs.Rows.{Row, fieldsOf, kind, noKind, isStudy}
-use Rattle.paper.specs.Faults.{rowFault}
-use Rattle.paper.specs.Network.{Table, passes, sound, laid, networkOf, rowOfWords, rowCount, tableOf, isNetwork}
-use Rattle.facts.specs.Passing.{Taken, passes-at, taken}
-use Rattle.facts.specs.Fields.{Within, within}
+use Rattle.paper.specs.Rows.{Row, fieldsOf, kind, isStudy}
+use Rattle.paper.specs.Network.{passes, laid, networkOf, rowOfWords, rowCount, tableOf, isNetwork}
 use Rattle.facts.specs.Layout as Layout
 use Rattle.faults.specs.declared.Seen.{Seen}
 use Rattle.faults.specs.Seen.{seenFault, seenAfter, nothingSeen}
-use Rattle.faults.specs.Stands.{Stands, stands-none, row-kind, fault-is}
+use Rattle.faults.specs.Stands.{Stands, stands-none}
 use Rattle.faults.specs.After.{stands-after}
 use Rattle.network.specs.Judged.{wordsOf, studyWords, spareZero, knownRow, goodRow, blank}
-use Rattle.network.specs.Replayed.{zero-word, word-zero, passes-more, sound-row, fault-none, row-back, arity-least, table-at, table-long, table-next, words-long, words-at}
+use Rattle.network.specs.Replayed.{zero-word, passes-more, sound-row, row-back, arity-least, table-at, table-long, table-next, words-long, words-at}
 
 -- what cannot be so is false
 pub never : (b : Bool) → (b ≡ true → ⊥) → b ≡ false
@@ -112,39 +102,25 @@ module _ (net : Words) (rows : ℕ) (z₀ : Sized net rows) where
     pub good-known : kind w < 8
     good-known = omega (arith, good-kind .1)
 
-    row-study : isStudy w ≡ false
-    row-study = ne-eqb (kind w) 0 (λ e. omega (arith, good-kind .0))
-
     long : length w ≡ 8
     long = words-long net i (omega (arith, rows-are)) (omega (arith, rows-are, z₀ .few)) (z₀ .long)
 
     pub replayed-next : Replayed net i s → Replayed net (i + 1) (seenAfter s w)
     replayed-next r =
         let t = take (suc i) (tableOf net) in
-        let e : empty t ≡ isStudy w = not-empty i ∙ sym row-study in
+        let e : empty t ≡ isStudy w = not-empty i ∙ sym (ne-eqb (kind w) 0 (λ e. omega (arith, good-kind .0))) in
         let n = table-next net i (omega (arith, rows-are)) in
         rw (add-one i)
         (record {
           stands = rw n (stands-after s w (omega (arith, long)) good-known t (r .stands) e good-fault);
           pass = rw n (passes-more t (rowOfWords w) (r .pass) (sound-row w long good-known s t (r .stands) e good-fault));
-          known = λ k u. here k u (ℕ-discrete k i);
-          spare = λ k u. there k u (ℕ-discrete k i);
+          known = λ k u. elim (ℕ-discrete k i) [ yes q ↦ rw q good-known | no q ↦ r .known k (omega arith) ];
+          spare = λ k u. elim (ℕ-discrete k i) [ yes q ↦ rw q good-spare | no q ↦ r .spare k (omega arith) ];
         })
-      where
-        here : (k : ℕ) → k < suc i → Dec (k ≡ i) → kind (wordsOf net k) < 8
-        here k u (yes q) = rw q good-known
-        here k u (no q) = r .known k (omega arith)
-
-        there : (k : ℕ) → k < suc i → Dec (k ≡ i) → spareZero (wordsOf net k) ≡ true
-        there k u (yes q) = rw q good-spare
-        there k u (no q) = r .spare k (omega arith)
 
   -- ---- all rows
 
   module _ (s : Seen) (b : blank net rows ≡ true) (r : Replayed net rows s) where
-    all-rows : take (suc rows) (tableOf net) ≡ tableOf net
-    all-rows = take-all (suc rows) (tableOf net) (omega (arith, table-long net, rows-are))
-
     rows-long : length (Layout.rowsIn net) ≡ rows
     unfolding tableOf
     rows-long = Layout.length-rows (nat (rowCount net)) (drop 8 net) ∙ rows-are
@@ -166,21 +142,17 @@ module _ (net : Words) (rows : ℕ) (z₀ : Sized net rows) where
         sym v ∙ zero-word _ (every-at (upTo 0) (drop m net) z (k - m) (and-right (every (upTo 0) (take 4 (drop 4 net))) (every (upTo 0) (drop m net)) b) (rw length-drop (omega arith)))
 
     head-same : (k : ℕ) → k < 8 → word net k ≡ word (networkOf (tableOf net)) k
-    head-same k h = go (decLt k 3) (decLt 3 k) ∙ sym (Layout.out-head net k h ∙ getD-filled 8 z front k)
-      where
-        front : Words
-        front = take 3 net ++ (pos (length (Layout.rowsIn net)) ∷ [])
-
-        long : length (take 3 net) ≡ 3
-        long = length-take-le 3 net (omega (arith, z₀ .long))
-
-        go : Dec (k < 3) → Dec (3 < k) → word net k ≡ word front k
-        go (yes u) d = sym (List·getD-append (take 3 net) (pos (length (Layout.rowsIn net)) ∷ []) z k (omega (arith, long)) ∙ getD-take 3 net k z u)
-        go (no u) (yes v) =
-            head-blank k (omega arith) h ∙ sym (List·getD-eq-default front z (rw length-append (omega (arith, long))))
-        go (no u) (no v) =
-            let e : k ≡ 3 = omega arith in
-            rw e (z₀ .count ∙ ap pos (sym rows-long) ∙ sym (getD-at (take 3 net) (pos (length (Layout.rowsIn net))) [] z 3 long))
+    head-same k h =
+        let front = take 3 net ++ (pos (length (Layout.rowsIn net)) ∷ []) in
+        let long : length (take 3 net) ≡ 3 = length-take-le 3 net (omega (arith, z₀ .long)) in
+        let here : word net k ≡ word front k = elim (decLt k 3) [
+          | yes u ↦ sym (List·getD-append (take 3 net) (pos (length (Layout.rowsIn net)) ∷ []) z k (omega arith) ∙ getD-take 3 net k z u)
+          | no u ↦ elim (decLt 3 k) [
+            | yes v ↦ head-blank k (omega arith) h ∙ sym (List·getD-eq-default front z (rw length-append (omega arith)))
+            | no v ↦ let e : k ≡ 3 = omega arith in rw e (z₀ .count ∙ ap pos (sym rows-long) ∙ sym (getD-at (take 3 net) (pos (length (Layout.rowsIn net))) [] z 3 long))
+          ]
+        ] in
+        here ∙ sym (Layout.out-head net k h ∙ getD-filled 8 z front k)
 
     row-same : (i j : ℕ) → i < rows → j < 8 → word net (8 + 8 * i + j) ≡ word (laid (Layout.rowsIn net)) (8 * i + j)
     unfolding tableOf
@@ -193,22 +165,17 @@ module _ (net : Words) (rows : ℕ) (z₀ : Sized net rows) where
         ∙ sym (Layout.laid-word (Layout.rowsIn net) (Layout.rows-in-short net) i j (omega (arith, rows-long)) k)
 
     rest-same : (k : ℕ) → 8 ≤ k → k < length net → word net k ≡ word (networkOf (tableOf net)) k
-    rest-same k l h = go (decLt (k - 8) (8 * rows)) ∙ sym (ap (word (networkOf (tableOf net))) e ∙ Layout.out-after net (k - 8))
-      where
-        e : k ≡ 8 + (k - 8)
-        e = omega arith
-
-        by-row : (i j : ℕ) → i < rows → j < 8 → j + 8 * i ≡ k - 8 → word net k ≡ word (laid (Layout.rowsIn net)) (k - 8)
-        by-row i j u v q =
-            let a : k ≡ 8 + 8 * i + j = omega arith in
-            let c : 8 * i + j ≡ k - 8 = omega arith in
-            ap (word net) a ∙ row-same i j u v ∙ ap (word (laid (Layout.rowsIn net))) c
-
-        go : Dec (k - 8 < 8 * rows) → word net k ≡ word (laid (Layout.rowsIn net)) (k - 8)
-        go (yes u) = by-row ((k - 8) / 8) ((k - 8) % 8) (omega arith) (omega arith) (omega arith)
-        go (no u) =
-            rest-blank k (omega arith) h
-            ∙ sym (List·getD-eq-default (laid (Layout.rowsIn net)) z (omega (arith, Layout.length-laid (Layout.rowsIn net) (Layout.rows-in-short net), rows-long)))
+    rest-same k l h =
+        let e : k ≡ 8 + (k - 8) = omega arith in
+        let here : word net k ≡ word (laid (Layout.rowsIn net)) (k - 8) = elim (decLt (k - 8) (8 * rows)) [
+          | yes u ↦
+              let a : k ≡ 8 + 8 * ((k - 8) / 8) + (k - 8) % 8 = omega arith in
+              let c : 8 * ((k - 8) / 8) + (k - 8) % 8 ≡ k - 8 = omega arith in
+              ap (word net) a ∙ row-same ((k - 8) / 8) ((k - 8) % 8) (omega arith) (omega arith) ∙ ap (word (laid (Layout.rowsIn net))) c
+          | no u ↦ rest-blank k (omega arith) h
+              ∙ sym (List·getD-eq-default (laid (Layout.rowsIn net)) z (omega (arith, Layout.length-laid (Layout.rowsIn net) (Layout.rows-in-short net), rows-long)))
+        ] in
+        here ∙ sym (ap (word (networkOf (tableOf net))) e ∙ Layout.out-after net (k - 8))
 
     out-long : length (networkOf (tableOf net)) ≡ Limits.networkWords
     out-long =
@@ -217,18 +184,11 @@ module _ (net : Words) (rows : ℕ) (z₀ : Sized net rows) where
         (rw length-append (omega (arith, Layout.head-long net, Layout.length-laid (Layout.rowsIn net) (Layout.rows-in-short net), rows-long, z₀ .few)))
 
     written : net ≡ networkOf (tableOf net)
-    written = ext-getD z net (networkOf (tableOf net)) (z₀ .long ∙ sym out-long) place
-      where
-        place : (k : ℕ) → k < length net → word net k ≡ word (networkOf (tableOf net)) k
-        place k h = go (decLt k 8)
-          where
-            go : Dec (k < 8) → word net k ≡ word (networkOf (tableOf net)) k
-            go (yes u) = head-same k u
-            go (no u) = rest-same k (omega arith) h
+    written = ext-getD z net (networkOf (tableOf net)) (z₀ .long ∙ sym out-long) (λ k h. elim (decLt k 8) [ yes u ↦ head-same k u | no u ↦ rest-same k (omega arith) h ])
 
     -- a record whose rows pass and whose other words are 0 is one that the reader could write
     pub judged-true : true ≡ isNetwork net
     unfolding isNetwork between
     judged-true =
         let c : between z (pos Limits.rowEnd) (rowCount net) ≡ true = rw (z₀ .count) (both (le-leb 0 rows (omega arith)) (le-leb rows Limits.rowEnd (z₀ .few))) in
-        sym (both (both c (rw all-rows at (r .pass))) (ap (sameWords net) (sym written) ∙ same-refl net))
+        sym (both (both c (rw (take-all (suc rows) (tableOf net) (omega (arith, table-long net, rows-are))) at (r .pass))) (ap (sameWords net) (sym written) ∙ same-refl net))

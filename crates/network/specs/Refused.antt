@@ -1,21 +1,13 @@
 -- The other way: a record that passes refusal 8 passes each test of the judgement, so one that fails a test is refused. Assumes nothing.
-use Prim.Native.Nat.{ℕ, zero, suc, _+_, _*_, _≤_, _<_}
-use native.Mathlib.Omega.{arith}
-use mathlib.Core.Path.{_≡_, refl, sym, ap, _∙_}
-use mathlib.Core.Bool.{Bool, true, false, cond, _&&_, _||_, Bool·beq, true≢false}
-use mathlib.Core.List.{List, [], _∷_}
-use lib.Dec.{leb, ltb, eqb}
-use lib.ListN.{length, getD, take, drop, length-take, length-drop}
-use lib.Seq.{getD-take, getD-drop}
-use lib.IntN.{ℤ, pos, negsuc}
-use lib.Signed.{leZ, ltZ}
-use borrow.Author.Tests.{leb-true, le-leb, le-ltb, ltb-true, ltb-false, eqb-true, eq-eqb, ne-eqb}
-use Rattle.whole.specs.Lists.{Words, z, word, nat, between, every, upTo, empty}
-use Rattle.whole.specs.Folds.{and-left, and-right, both, every-if}
+use Rattle.whole.specs.Plain.{ℕ, suc, _+_, _*_, _≤_, _<_, _≡_, refl, sym, ap, _∙_, true, false, _&&_, _||_, Bool·beq}
+use Rattle.whole.specs.Plain.{true≢false, [], _∷_, leb, ltb, eqb, ℤ, pos, negsuc, ltZ, length, getD, take, drop}
+use Rattle.whole.specs.Plain.{length-take, length-drop, getD-take, getD-drop, le-leb, le-ltb, ltb-false, eqb-true}
+use Rattle.whole.specs.Plain.{eq-eqb, ne-eqb, arith, Words, z, word, nat, upTo, empty}
+use Rattle.whole.specs.Folds.{and-right, both, every-if}
 use Rattle.paper.specs.Limits as Limits
 use Rattle.paper.specs.Rows.{Row, fieldsOf, kind, noKind, isStudy}
 use Rattle.paper.specs.Faults.{rowFault}
-use Rattle.paper.specs.Network.{Table, passes, sound, rowOfWords, rowCount, tableOf, isNetwork}
+use Rattle.paper.specs.Network.{Table, sound, rowOfWords, tableOf, isNetwork}
 use Rattle.facts.specs.Passing.{passes-at}
 use Rattle.facts.specs.Layout.{recorded, arity-most}
 use Rattle.facts.specs.Nets as Nets
@@ -35,36 +27,17 @@ sound-fault : (t : Table) (r : Row) → sound t r ≡ true → rowFault t r ≡ 
 unfolding sound
 sound-fault t r e = eqb-true (rowFault t r) 0 (and-right (leb (suc (kind r)) noKind && Bool·beq (empty t) (isStudy r)) (eqb (rowFault t r) 0) e)
 
--- a number of rows that a record may have
-not-negative : (x : ℤ) → ltZ x (pos 0) ≡ true → between z (pos Limits.rowEnd) x ≡ true → ⊥
-unfolding between
-not-negative (pos n) e f = true≢false (sym e ∙ le-ltb n 0 (omega arith))
-not-negative (negsuc n) e f = true≢false (sym f)
-
-not-more : (x : ℤ) → Limits.rowEnd < nat x → between z (pos Limits.rowEnd) x ≡ true → ⊥
-unfolding between
-not-more (pos n) l f =
-    let h : n ≤ Limits.rowEnd = leb-true n Limits.rowEnd (and-right (leb 0 n) (leb n Limits.rowEnd) f) in
-    omega arith
-not-more (negsuc n) l f = true≢false (sym f)
-
 -- a word that is no negative number
 pub count-word : (x : ℤ) → ltZ x (pos 0) ≡ false → x ≡ pos (nat x)
 count-word (pos n) e = refl
 count-word (negsuc n) e = absurd (true≢false e)
 
 module _ (net : Words) where
-  count-in : isNetwork net ≡ true → between z (pos Limits.rowEnd) (word net 3) ≡ true
-  unfolding isNetwork
-  count-in e =
-      and-left (between z (pos Limits.rowEnd) (rowCount net)) (passes (tableOf net))
-      (and-left (between z (pos Limits.rowEnd) (rowCount net) && passes (tableOf net)) _ e)
-
   pub negative-refused : ltZ (word net 3) (pos 0) ≡ true → false ≡ isNetwork net
-  negative-refused e = sym (never (isNetwork net) (λ q. not-negative (word net 3) e (count-in q)))
+  negative-refused e = sym (never (isNetwork net) (λ q. true≢false (sym (rw (recorded net q .few .isNat) at e) ∙ le-ltb (nat (word net 3)) 0 (omega arith))))
 
   pub more-refused : Limits.rowEnd < nat (word net 3) → false ≡ isNetwork net
-  more-refused e = sym (never (isNetwork net) (λ q. not-more (word net 3) e (count-in q)))
+  more-refused e = sym (never (isNetwork net) (λ q. omega (arith, recorded net q .few .most)))
 
 module _ (net : Words) (rows : ℕ) (z₀ : Sized net rows) where
   -- ---- the tests that a record passes
@@ -125,11 +98,9 @@ module _ (net : Words) (rows : ℕ) (z₀ : Sized net rows) where
           word-zero (word w j) (same-word j k ∙ Nets.row-beyond net e i j at-row (omega arith))
 
       orSpare : (m j : ℕ) → m < j → j < 8 → (ltb m (length (fieldsOf (kind w))) || upTo 0 (word w j)) ≡ true
-      orSpare m j l k = go (ltb m (length (fieldsOf (kind w)))) refl
-        where
-          go : (b : Bool) → ltb m (length (fieldsOf (kind w))) ≡ b → (b || upTo 0 (word w j)) ≡ true
-          go true q = refl
-          go false q = spare j (omega (arith, ltb-false m (length (fieldsOf (kind w))) q)) k
+      orSpare m j l k =
+          elim (ltb m (length (fieldsOf (kind w)))) as (λ b. ltb m (length (fieldsOf (kind w))) ≡ b → (b || upTo 0 (word w j)) ≡ true)
+          [ true ↦ λ q. refl | false ↦ λ q. spare j (omega (arith, ltb-false m (length (fieldsOf (kind w))) q)) k ] refl
 
       spare-passes : spareZero w ≡ true
       unfolding spareZero

@@ -1,28 +1,20 @@
 -- A record's rows, replayed one by one. Assumes nothing.
-use Prim.Native.Nat.{ℕ, zero, suc, _+_, _*_, _-_, _≤_, _<_}
-use native.Mathlib.Omega.{arith}
-use native.Mathlib.Numerals.{add-one}
-use native.Mathlib.Decide.{decLt, ℕ-discrete}
-use mathlib.Core.Path.{_≡_, refl, sym, ap, _∙_, subst}
-use mathlib.Core.Bool.{Bool, true, false, cond, _&&_, _||_, Bool·beq, true≢false}
-use mathlib.Core.List.{List, [], _∷_, _++_, append-assoc, append-nil}
-use lib.Dec.{leb, ltb, eqb, lit≤}
-use lib.ListN.{length, getD, take, drop, length-take, length-drop, List·getD-eq-default}
-use lib.Seq.{take-suc, drop-drop, getD-take, getD-drop, ext-getD}
-use lib.Signed.{leZ}
-use lib.IntN.{ℤ, pos, negsuc, natAbs}
-use borrow.Author.Tests.{leb-true, eq-eqb, le-leb, le-ltb}
-use Rattle.whole.specs.Lists.{Words, z, word, nat, upTo, empty, fold}
-use Rattle.whole.specs.Folds.{and-left, and-right, or-left, both, fold-append}
+use Rattle.whole.specs.Plain.{ℕ, zero, suc, _+_, _*_, _-_, _≤_, _<_, _≡_, refl, sym, ap, _∙_, true, false, _&&_, _||_}
+use Rattle.whole.specs.Plain.{Bool·beq, [], _∷_, _++_, append-assoc, append-nil, ltb, lit≤, ℤ, pos, negsuc, leZ, length}
+use Rattle.whole.specs.Plain.{getD, take, drop, length-take, length-drop, List·getD-eq-default, take-suc, drop-drop}
+use Rattle.whole.specs.Plain.{getD-take, getD-drop, ext-getD, leb-true, eq-eqb, le-leb, le-ltb, decLt, arith, Words, z}
+use Rattle.whole.specs.Plain.{word, nat, upTo, empty, fold}
+use Rattle.whole.specs.Folds.{and-left, and-right, both, fold-append}
 use Rattle.paper.specs.Rows.{Row, kinds, fieldsOf, kind, noKind, isStudy}
+use Rattle.paper.specs.Classes.{kind-count}
 use Rattle.paper.specs.Faults.{rowFault}
 use Rattle.paper.specs.Network.{Table, Replay, replayed, passes, sound, rowOfWords, rowsOf, tableOf}
 use Rattle.facts.specs.Layout.{length-rows}
+use Rattle.kinds.specs.Fields.{each}
 use Rattle.faults.specs.declared.Seen.{Seen}
-use Rattle.faults.specs.Seen.{seenFault, seenAfter, nothingSeen}
-use Rattle.faults.specs.Stands.{Stands, stands-none, row-kind, fault-is}
-use Rattle.faults.specs.After.{stands-after}
-use Rattle.network.specs.Judged.{wordsOf, studyWords, spareZero, knownRow, goodRow}
+use Rattle.faults.specs.Seen.{seenFault}
+use Rattle.faults.specs.Stands.{Stands, row-kind, fault-is}
+use Rattle.network.specs.Judged.{wordsOf, spareZero, knownRow}
 
 -- ---- zero words
 
@@ -59,11 +51,7 @@ module _ (w : Words) (long : length w ≡ 8) (k : kind w < 8) where
   unfolding sound
   sound-row s t h e f =
       let q : kind (rowOfWords w) ≡ kind w = row-kind w few k in
-      both (both (le-leb (suc (kind (rowOfWords w))) noKind (omega arith)) (rw (q, e) (same (isStudy w)))) (eq-eqb (rowFault t (rowOfWords w)) 0 (sym (fault-is s w few k t h e) ∙ f))
-    where
-      same : (b : Bool) → Bool·beq b b ≡ true
-      same true = refl
-      same false = refl
+      both (both (le-leb (suc (kind (rowOfWords w))) noKind (omega (arith, kind-count))) (rw (q, e) (elim (isStudy w) as (λ b. Bool·beq b b ≡ true) [ true ↦ refl | false ↦ refl ]))) (eq-eqb (rowFault t (rowOfWords w)) 0 (sym (fault-is s w few k t h e) ∙ f))
 
   pub fault-none : (s : Seen) (t : Table) → Stands s t → empty t ≡ isStudy w → rowFault t (rowOfWords w) ≡ 0 → seenFault s w ≡ 0
   fault-none s t h e f = fault-is s w few k t h e ∙ f
@@ -71,52 +59,24 @@ module _ (w : Words) (long : length w ≡ 8) (k : kind w < 8) where
   -- the row has the words of its kind, and the others are 0
   pub row-back : spareZero w ≡ true → 3 ≤ length (fieldsOf (kind w)) → (j : ℕ) → j < 8 → word (rowOfWords w) j ≡ word w j
   unfolding rowOfWords spareZero
-  row-back e l j h = go (decLt j (suc (length (fieldsOf (kind w)))))
-    where
-      f : ℕ
-      f = length (fieldsOf (kind w))
-
-      a : Bool
-      a = upTo 0 (word w 7)
-
-      b : Bool
-      b = upTo 0 (word w 6)
-
-      c : Bool
-      c = ltb 4 f || upTo 0 (word w 5)
-
-      d : Bool
-      d = ltb 3 f || upTo 0 (word w 4)
-
-      other : (m n : ℕ) (x : ℤ) → (ltb m n || upTo 0 x) ≡ true → n ≤ m → x ≡ z
-      other m n x q u = zero-word x (rw (le-ltb m n u) at q)
-
-      spare : (j : ℕ) → suc f ≤ j → j < 8 → word w j ≡ z
-      spare zero u v = absurd (omega (arith, l))
-      spare (suc zero) u v = absurd (omega (arith, l))
-      spare (suc (suc zero)) u v = absurd (omega (arith, l))
-      spare (suc (suc (suc zero))) u v = absurd (omega (arith, l))
-      spare (suc (suc (suc (suc zero)))) u v = other 3 f (word w 4) (and-right (a && b && c) d e) (omega (arith, u))
-      spare (suc (suc (suc (suc (suc zero))))) u v = other 4 f (word w 5) (and-right (a && b) c (and-left (a && b && c) d e)) (omega (arith, u))
-      spare (suc (suc (suc (suc (suc (suc zero)))))) u v = zero-word (word w 6) (and-right a b (and-left (a && b) c (and-left (a && b && c) d e)))
-      spare (suc (suc (suc (suc (suc (suc (suc zero))))))) u v = zero-word (word w 7) (and-left a b (and-left (a && b) c (and-left (a && b && c) d e)))
-      spare (suc (suc (suc (suc (suc (suc (suc (suc j)))))))) u v = absurd (omega arith)
-
-      go : Dec (j < suc f) → word (rowOfWords w) j ≡ word w j
-      go (yes u) = getD-take (suc f) w j z u
-      go (no u) = List·getD-eq-default (take (suc f) w) z (rw length-take (omega arith)) ∙ sym (spare j (omega arith) h)
+  row-back e l j h =
+      let f = length (fieldsOf (kind w)) in
+      let a = upTo 0 (word w 7) in
+      let b = upTo 0 (word w 6) in
+      let c = ltb 4 f || upTo 0 (word w 5) in
+      let p = and-left (a && b && c) (ltb 3 f || upTo 0 (word w 4)) e in
+      let q = and-left (a && b) c p in
+      let other : (m : ℕ) (x : ℤ) → (ltb m f || upTo 0 x) ≡ true → f ≤ m → x ≡ z = λ m x o u. zero-word x (rw (le-ltb m f u) at o) in
+      let none : (i : ℕ) → i < 4 → suc f ≤ i → word w i ≡ z = λ i u v. absurd (omega arith) in
+      let spare = each (λ j. suc f ≤ j → word w j ≡ z) (none 0 (lit≤ tt)) (none 1 (lit≤ tt)) (none 2 (lit≤ tt)) (none 3 (lit≤ tt))
+      (λ u. other 3 (word w 4) (and-right (a && b && c) _ e) (omega arith)) (λ u. other 4 (word w 5) (and-right (a && b) c p) (omega arith))
+      (λ u. zero-word (word w 6) (and-right a b q)) (λ u. zero-word (word w 7) (and-left a b q)) in
+      elim (decLt j (suc f))
+      [ yes u ↦ getD-take (suc f) w j z u | no u ↦ List·getD-eq-default (take (suc f) w) z (rw length-take (omega arith)) ∙ sym (spare j h (omega arith)) ]
 
 pub arity-least : (k : ℕ) → k < 8 → 3 ≤ length (fieldsOf k)
 unfolding fieldsOf kinds
-arity-least zero h = lit≤ tt
-arity-least (suc zero) h = lit≤ tt
-arity-least (suc (suc zero)) h = lit≤ tt
-arity-least (suc (suc (suc zero))) h = lit≤ tt
-arity-least (suc (suc (suc (suc zero)))) h = lit≤ tt
-arity-least (suc (suc (suc (suc (suc zero))))) h = lit≤ tt
-arity-least (suc (suc (suc (suc (suc (suc zero)))))) h = lit≤ tt
-arity-least (suc (suc (suc (suc (suc (suc (suc zero))))))) h = lit≤ tt
-arity-least (suc (suc (suc (suc (suc (suc (suc (suc k)))))))) h = absurd (omega arith)
+arity-least = each (λ k. 3 ≤ length (fieldsOf k)) (lit≤ tt) (lit≤ tt) (lit≤ tt) (lit≤ tt) (lit≤ tt) (lit≤ tt) (lit≤ tt) (lit≤ tt)
 
 -- ---- the record's table, row by row
 
@@ -152,21 +112,13 @@ module _ (net : Words) where
   -- the eight, written out
   pub words-are : (i : ℕ) → 16 + 8 * i ≤ length net
       → (let b = 8 + 8 * i in word net b ∷ word net (b + 1) ∷ word net (b + 2) ∷ word net (b + 3) ∷ word net (b + 4) ∷ word net (b + 5) ∷ word net (b + 6) ∷ word net (b + 7) ∷ []) ≡ wordsOf net i
-  words-are i h = ext-getD z _ (wordsOf net i) (sym (rw (length-take, length-drop) (omega arith))) place
-    where
-      b : ℕ
-      b = 8 + 8 * i
-
-      place : (j : ℕ) → j < 8 → word (word net b ∷ word net (b + 1) ∷ word net (b + 2) ∷ word net (b + 3) ∷ word net (b + 4) ∷ word net (b + 5) ∷ word net (b + 6) ∷ word net (b + 7) ∷ []) j ≡ word (wordsOf net i) j
-      place zero k = let e : b ≡ b + 0 = omega arith in ap (word net) e ∙ sym (words-at i 0 k)
-      place (suc zero) k = sym (words-at i 1 k)
-      place (suc (suc zero)) k = sym (words-at i 2 k)
-      place (suc (suc (suc zero))) k = sym (words-at i 3 k)
-      place (suc (suc (suc (suc zero)))) k = sym (words-at i 4 k)
-      place (suc (suc (suc (suc (suc zero))))) k = sym (words-at i 5 k)
-      place (suc (suc (suc (suc (suc (suc zero)))))) k = sym (words-at i 6 k)
-      place (suc (suc (suc (suc (suc (suc (suc zero))))))) k = sym (words-at i 7 k)
-      place (suc (suc (suc (suc (suc (suc (suc (suc j)))))))) k = absurd (omega arith)
+  words-are i h =
+      let b = 8 + 8 * i in
+      let all : Words = word net b ∷ word net (b + 1) ∷ word net (b + 2) ∷ word net (b + 3) ∷ word net (b + 4) ∷ word net (b + 5) ∷ word net (b + 6) ∷ word net (b + 7) ∷ [] in
+      let is : (j : ℕ) → j < 8 → word net (b + j) ≡ word (wordsOf net i) j = λ j k. sym (words-at i j k) in
+      let first : word net b ≡ word (wordsOf net i) 0 = let e : b ≡ b + 0 = omega arith in ap (word net) e ∙ is 0 (lit≤ tt) in
+      ext-getD z all (wordsOf net i) (sym (rw (length-take, length-drop) (omega arith)))
+      (each (λ j. word all j ≡ word (wordsOf net i) j) first (is 1 (lit≤ tt)) (is 2 (lit≤ tt)) (is 3 (lit≤ tt)) (is 4 (lit≤ tt)) (is 5 (lit≤ tt)) (is 6 (lit≤ tt)) (is 7 (lit≤ tt)))
 
 -- eight words that are eight others, one by one
 pub eight : {a b c d e f g h a′ b′ c′ d′ e′ f′ g′ h′ : ℤ} → a ≡ a′ → b ≡ b′ → c ≡ c′ → d ≡ d′ → e ≡ e′ → f ≡ f′ → g ≡ g′ → h ≡ h′
@@ -175,6 +127,7 @@ eight p q r s t u v w = λ i. p i ∷ q i ∷ r i ∷ s i ∷ t i ∷ u i ∷ v 
 
 -- a kind from 1 to 7, by the word
 pub known-word : (w : Words) → (leZ (pos 1) (word w 0) && leZ (word w 0) (pos 7)) ≡ knownRow w
+unfolding kinds
 known-word [] = refl
 known-word (pos k ∷ w) = refl
 known-word (negsuc k ∷ w) = refl

@@ -1,8 +1,6 @@
 // 8 NETWORK: "lent network record not one the reader could write". The rows are replayed through the one function of faults that the reader goes by.
-ghost use mathlib.Core.Path.{_≡_};
-ghost use mathlib.Core.Bool.{true};
-ghost use Prim.Native.Nat.{_≤_, _<_};
-ghost use lib.ListN.{length};
+ghost use Rattle.whole.specs.Plain.{_≤_, _<_, _≡_, true, length};
+ghost use Rattle.whole.specs.Loans.{was};
 ghost use Rattle.paper.specs.Rows.{kind};
 ghost use Rattle.paper.specs.Network.{isNetwork};
 ghost use Rattle.faults.specs.Seen.{Held};
@@ -15,7 +13,7 @@ use paper::Room;
 // the eight words of row i
 fn row_at(net: &[i64], i: usize) -> [i64; 8]
     requires { ⌜ (length (now net) ≡ 1024) × (i < 80) ⌝ }
-    ensures { λ r. ⌜ r ≡ wordsOf (now (net .entry)) i ⌝ }
+    ensures { λ r. ⌜ r ≡ wordsOf (was net) i ⌝ }
 {
     let b = 8 + 8 * i;
     [
@@ -32,7 +30,7 @@ fn row_at(net: &[i64], i: usize) -> [i64; 8]
 
 fn study_row(net: &[i64]) -> [i64; 8]
     requires { ⌜ length (now net) ≡ 1024 ⌝ }
-    ensures { λ r. ⌜ r ≡ studyWords (now (net .entry)) ⌝ }
+    ensures { λ r. ⌜ r ≡ studyWords (was net) ⌝ }
 {
     [0, net[0], net[1], net[2], 0, 0, 0, 0]
 }
@@ -72,7 +70,7 @@ fn good(seen: Seen, row: [i64; 8]) -> bool
 // the words that no row has
 fn blank(net: &[i64], rows: usize) -> bool
     requires { ⌜ (length (now net) ≡ 1024) × (rows ≤ 80) ⌝ }
-    ensures { λ r. ⌜ r ≡ Judged.blank (now (net .entry)) rows ⌝ }
+    ensures { λ r. ⌜ r ≡ Judged.blank (was net) rows ⌝ }
 {
     let end = 8 + 8 * rows;
     whole::all_zero(&net[4..8]) & whole::all_zero(&net[end..])
@@ -82,7 +80,7 @@ fn blank(net: &[i64], rows: usize) -> bool
 fn rows_pass(net: &[i64], rows: usize, first: Seen) -> bool
     requires { ⌜ Sized (now net) rows ⌝ }
     requires { ⌜ (Judged.blank (now net) rows ≡ true) × Replayed (now net) 0 first ⌝ }
-    ensures { λ r. ⌜ r ≡ isNetwork (now (net .entry)) ⌝ }
+    ensures { λ r. ⌜ r ≡ isNetwork (was net) ⌝ }
 {
     let mut seen = first;
     let mut i = 0;
@@ -102,7 +100,7 @@ fn rows_pass(net: &[i64], rows: usize, first: Seen) -> bool
 fn table_passes(net: &[i64], rows: usize) -> bool
     requires { ⌜ Sized (now net) rows ⌝ }
     requires { ⌜ Judged.blank (now net) rows ≡ true ⌝ }
-    ensures { λ r. ⌜ r ≡ isNetwork (now (net .entry)) ⌝ }
+    ensures { λ r. ⌜ r ≡ isNetwork (was net) ⌝ }
 {
     let none = faults::nothing_seen();
     let row = study_row(net);
@@ -115,7 +113,7 @@ fn table_passes(net: &[i64], rows: usize) -> bool
 
 pub fn is_network(net: &[i64]) -> bool
     requires { ⌜ length (now net) ≡ 1024 ⌝ }
-    ensures { λ r. ⌜ r ≡ isNetwork (now (net .entry)) ⌝ }
+    ensures { λ r. ⌜ r ≡ isNetwork (was net) ⌝ }
 {
     let count = net[3];
     if count < 0 {

@@ -1,12 +1,7 @@
 -- What each exported function answers and writes, on all inputs. Assumes nothing.
-use Prim.Native.Nat.{ℕ}
-use mathlib.Core.Bool.{Bool, true, false, cond, _&&_}
-use mathlib.Core.List.{List}
-use lib.Dec.{leb, eqb}
-use lib.IntN.{ℤ, pos, natAbs}
-use lib.Signed.{nonNeg, ltZ, quotZ}
+use Rattle.whole.specs.Plain.{ℕ, Bool, true, false, cond, _&&_, List, leb, eqb, ℤ, pos, natAbs, nonNeg, ltZ, quotZ}
+use Rattle.whole.specs.Plain.{every, upTo}
 use lib.Ieee.{Float}
-use Rattle.whole.specs.Lists.{every, upTo}
 use Rattle.whole.specs.Rounding.{nearest}
 use Rattle.paper.specs.declared.Rounded.{Rounded}
 use Rattle.paper.specs.declared.Rounded.the-variants.{Whole, Outside}

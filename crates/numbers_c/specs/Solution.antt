@@ -1,13 +1,7 @@
 -- What `numbers_solve` writes: the stated solution of the system whose pivots are the diagonal, and past it the right sides. Assumes nothing.
-use Prim.Native.Nat.{ℕ, _+_, _≤_, _<_}
-use mathlib.Core.Path.{_≡_, refl, ap, _∙_}
-use mathlib.Core.List.{List, map}
-use native.Mathlib.Omega.{arith}
-use borrow.Author.Tests.{le-leb}
-use lib.ListN.{getD, length, take, length-map}
-use lib.Seq.{getD-set-other}
+use Rattle.whole.specs.Plain.{ℕ, _+_, _≤_, _<_, _≡_, refl, ap, _∙_, List, map, getD, length, take, length-map}
+use Rattle.whole.specs.Plain.{getD-set-other, le-leb, arith, numbers}
 use lib.Ieee.{Float, nan}
-use Rattle.whole.specs.Lists.{numbers}
 use Rattle.whole.specs.Folds.{getD-map, getD-numbers, length-numbers}
 use Rattle.whole.specs.TurnLaws.{turns-keeps, downs-keeps}
 use Rattle.paper.specs.declared.Equation.{Equation}

@@ -1,5 +1,5 @@
 // The numbers layer for programs in C. No function requires anything: what a callee requires is tested here.
-ghost use mathlib.Core.Path.{_≡_};
+ghost use Rattle.whole.specs.Plain.{_≡_};
 ghost use Rattle.whole.specs.Loans.{was, is};
 ghost use Rattle.paper.specs.Doubles.{double, nearestOf};
 ghost use Rattle.numbers_c.specs.Outcomes.{wordsJudged, quotientOf, partOf, out, rounded, solution};

@@ -53,12 +53,11 @@ put-le′ true false x y l m q = omega arith
 put-le′ false h x y l m q = q
 
 not-both : (b a c : ℕ) (h : Bool) → a ≢ c → same b c && (same b a && h) ≡ false
-not-both b a c h n = go (same b c) (same b a) refl refl
-  where
-    go : (x y : Bool) → same b c ≡ x → same b a ≡ y → x && (y && h) ≡ false
-    go true true p q = absurd (n (sym (same-eq b a q) ∙ same-eq b c p))
-    go true false p q = refl
-    go false y p q = refl
+not-both b a c h n =
+    elim (same b c) as (λ x. same b c ≡ x → x && (same b a && h) ≡ false) [
+      | true ↦ λ p. elim (same b a) as (λ y. same b a ≡ y → y && h ≡ false) [ true ↦ λ q. absurd (n (sym (same-eq b a q) ∙ same-eq b c p)) | false ↦ λ q. refl ] refl
+      | false ↦ λ p. refl
+    ] refl
 
 module _ (M : Moves) where
   open Moves M using (S, Ans, call, after, acc, firm)
@@ -87,14 +86,12 @@ module _ (M : Moves) where
     pub strip-all : (w : List ℕ) (s : S) → Good (strip w s) s × (run (strip w s) s ≡ run w s) × ((a : ℕ) → told a (strip w s) s ≡ told a w s)
     unfolding C.run C.told C.strip
     strip-all [] s = (tt, refl, λ a. refl)
-    strip-all (c ∷ w) s = go (acc (call c s)) refl (strip-all w (after c s))
-      where
-        go : (x : Bool) → acc (call c s) ≡ x
-            → Good (strip w (after c s)) (after c s) × (run (strip w (after c s)) (after c s) ≡ run w (after c s)) × ((a : ℕ) → told a (strip w (after c s)) (after c s) ≡ told a w (after c s))
-            → Good (put x c (strip w (after c s))) s × (run (put x c (strip w (after c s))) s ≡ run w (after c s))
-            × ((a : ℕ) → told a (put x c (strip w (after c s))) s ≡ put (x && same a c) (call c s) (told a w (after c s)))
-        go true e h = ((e, h .0), h .1, λ a. rw (e, h .2 a))
-        go false e h = rw (stay c s e) (rw (stay c s e) at h)
+    strip-all (c ∷ w) s =
+        let h = strip-all w (after c s) in
+        let v = strip w (after c s) in
+        elim (acc (call c s)) as (λ x. acc (call c s) ≡ x → Good (put x c v) s × (run (put x c v) s ≡ run w (after c s))
+        × ((a : ℕ) → told a (put x c v) s ≡ put (x && same a c) (call c s) (told a w (after c s))))
+        [ true ↦ λ e. ((e, h .0), h .1, λ a. rw (e, h .2 a)) | false ↦ λ e. rw (stay c s e) (rw (stay c s e) at h) ] refl
 
     abbrev fin : ℕ → Bool → S → S
     fin a true t = t
@@ -107,70 +104,54 @@ module _ (M : Moves) where
     pull : (a : ℕ) (w : List ℕ) (s : S) → Inv s → acc (call a s) ≡ true → Good w s → Pulled (has a w) a w (erase a w) s
     unfolding C.run C.told has erase
     pull a [] s i ok g = (tt, refl, λ b. rw and-false)
-    pull a (c ∷ w) s i ok g = go (same a c) refl (pull a w (after c s) (keep c s i))
-      where
-        go : (x : Bool) → same a c ≡ x
-            → (acc (call a (after c s)) ≡ true → Good w (after c s) → Pulled (has a w) a w (erase a w) (after c s))
-            → Pulled (x || has a w) a (c ∷ w) (cut x c w (erase a w)) s
-        go true e ih =
-            rw (same-eq a c e) (g .1, refl, λ b. rw (g .0, and-true))
-        go false e ih =
-            let n : a ≢ c = same-ne a c e in
-            let hc : call c (after a s) ≡ call c s = hold a c s i n ok (acc-firm _ (g .0)) in
-            let ha : call a (after c s) ≡ call a s = hold c a s i (λ q. n (sym q)) (g .0) (acc-firm _ ok) in
-            let sw : after c (after a s) ≡ after a (after c s) = swap a c s i n ok (g .0) in
-            let p : Pulled (has a w) a w (erase a w) (after c s) = ih (rw ha ok) (g .1) in (
-              (rw hc (g .0), rw sw (p .0)),
-              ap (run (erase a w)) sw ∙ p .1,
-              λ b. rw (hc, g .0, p .2 b, ha, sw) (put-comm (same b c) (same b a && has a w) (call c s) (call a s) _ (not-both b a c (has a w) n)),
-            )
+    pull a (c ∷ w) s i ok g =
+        elim (same a c) as (λ x. same a c ≡ x → Pulled (x || has a w) a (c ∷ w) (cut x c w (erase a w)) s) [
+          | true ↦ λ e. rw (same-eq a c e) (g .1, refl, λ b. rw (g .0, and-true))
+          | false ↦ λ e.
+              let n : a ≢ c = same-ne a c e in
+              let hc : call c (after a s) ≡ call c s = hold a c s i n ok (acc-firm _ (g .0)) in
+              let ha : call a (after c s) ≡ call a s = hold c a s i (λ q. n (sym q)) (g .0) (acc-firm _ ok) in
+              let sw : after c (after a s) ≡ after a (after c s) = swap a c s i n ok (g .0) in
+              let p : Pulled (has a w) a w (erase a w) (after c s) = pull a w (after c s) (keep c s i) (rw ha ok) (g .1) in (
+                (rw hc (g .0), rw sw (p .0)),
+                ap (run (erase a w)) sw ∙ p .1,
+                λ b. rw (hc, g .0, p .2 b, ha, sw) (put-comm (same b c) (same b a && has a w) (call c s) (call a s) _ (not-both b a c (has a w) n)),
+              )
+        ] refl
 
     -- a firm answer stays while others move
-    persist : (a : ℕ) (w : List ℕ) (s : S) → Inv s → firm (call a s) ≡ true → Good w s → has a w ≡ false
-        → (call a (run w s) ≡ call a s)
+    persist : (a : ℕ) (w : List ℕ) (s : S) → Inv s → firm (call a s) ≡ true → Good w s → has a w ≡ false → call a (run w s) ≡ call a s
     unfolding C.run has
     persist a [] s i f g h = refl
-    persist a (c ∷ w) s i f g h = go (same a c) refl h (persist a w (after c s) (keep c s i))
-      where
-        go : (x : Bool) → same a c ≡ x → x || has a w ≡ false
-            → (firm (call a (after c s)) ≡ true → Good w (after c s) → has a w ≡ false → call a (run w (after c s)) ≡ call a (after c s))
-            → call a (run w (after c s)) ≡ call a s
-        go true e h ih = absurd (true≢false h)
-        go false e h ih =
-            let ha : call a (after c s) ≡ call a s = hold c a s i (λ q. same-ne a c e (sym q)) (g .0) f in
-            ih (rw ha f) (g .1) h ∙ ha
+    persist a (c ∷ w) s i f g h =
+        elim (same a c) as (λ x. same a c ≡ x → x || has a w ≡ false → call a (run w (after c s)) ≡ call a s) [
+          | true ↦ λ e q. absurd (true≢false q)
+          | false ↦ λ e q. let ha : call a (after c s) ≡ call a s = hold c a s i (λ o. same-ne a c e (sym o)) (g .0) f in persist a w (after c s) (keep c s i) (rw ha f) (g .1) q ∙ ha
+        ] refl h
 
     -- an area that is firmly refused is in no accepted run
     stuck : (a : ℕ) (w : List ℕ) (s : S) → Inv s → firm (call a s) ≡ true → acc (call a s) ≡ false → Good w s → has a w ≡ false
     unfolding has
     stuck a [] s i f r g = refl
-    stuck a (c ∷ w) s i f r g = go (same a c) refl (stuck a w (after c s) (keep c s i))
-      where
-        go : (x : Bool) → same a c ≡ x → (firm (call a (after c s)) ≡ true → acc (call a (after c s)) ≡ false → Good w (after c s) → has a w ≡ false)
-            → x || has a w ≡ false
-        go true e ih = absurd (true≢false (sym (g .0) ∙ rw (same-eq a c e) at r))
-        go false e ih =
-            let ha : call a (after c s) ≡ call a s = hold c a s i (λ q. same-ne a c e (sym q)) (g .0) f in
-            ih (rw ha f) (rw ha r) (g .1)
+    stuck a (c ∷ w) s i f r g =
+        elim (same a c) as (λ x. same a c ≡ x → x || has a w ≡ false) [
+          | true ↦ λ e. absurd (true≢false (sym (g .0) ∙ rw (same-eq a c e) at r))
+          | false ↦ λ e. let ha : call a (after c s) ≡ call a s = hold c a s i (λ q. same-ne a c e (sym q)) (g .0) f in stuck a w (after c s) (keep c s i) (rw ha f) (rw ha r) (g .1)
+        ] refl
 
     untold : (a : ℕ) (w : List ℕ) (s : S) → has a w ≡ false → told a w s ≡ []
     unfolding has C.told
     untold a [] s h = refl
-    untold a (c ∷ w) s h = go (same a c) refl h (untold a w (after c s))
-      where
-        go : (x : Bool) → same a c ≡ x → x || has a w ≡ false → (has a w ≡ false → told a w (after c s) ≡ [])
-            → put (acc (call c s) && same a c) (call c s) (told a w (after c s)) ≡ []
-        go true e h ih = absurd (true≢false h)
-        go false e h ih = rw (e, and-false, ih h)
+    untold a (c ∷ w) s h =
+        elim (same a c) as (λ x. x || has a w ≡ false → put (acc (call c s) && x) (call c s) (told a w (after c s)) ≡ [])
+        [ true ↦ λ q. absurd (true≢false q) | false ↦ λ q. rw (and-false, untold a w (after c s) q) ] h
 
     has-told : (a : ℕ) (w : List ℕ) (s : S) → Good w s → length (told a w s) ≡ 0 → has a w ≡ false
     unfolding has C.told
     has-told a [] s g l = refl
-    has-told a (c ∷ w) s g l = go (same a c) refl (rw (g .0) at l) (has-told a w (after c s) (g .1))
-      where
-        go : (x : Bool) → same a c ≡ x → length (put (same a c) (call c s) (told a w (after c s))) ≡ 0 → (length (told a w (after c s)) ≡ 0 → has a w ≡ false) → x || has a w ≡ false
-        go true e l ih = let l′ : suc (length (told a w (after c s))) ≡ 0 = rw e at l in absurd (omega arith)
-        go false e l ih = ih (rw e at l)
+    has-told a (c ∷ w) s g l =
+        elim (same a c) as (λ x. length (put x (call c s) (told a w (after c s))) ≡ 0 → x || has a w ≡ false)
+        [ true ↦ λ l. absurd (omega arith) | false ↦ λ l. has-told a w (after c s) (g .1) l ] (rw (g .0) at l)
 
     pub keep-run : (w : List ℕ) (s : S) → Inv s → Inv (run w s)
     unfolding C.run
@@ -182,27 +163,22 @@ module _ (M : Moves) where
     agree-good [] [] s i g k l = (refl, λ a. refl)
     agree-good [] (c ∷ v) s i g k l =
         let l′ : 0 ≡ suc (length (told c v (after c s))) = rw (k .0, same-refl c) at (l c) in absurd (omega arith)
-    agree-good (a ∷ w) v s i g k l = go (has a v) refl (pull a v s i (g .0) k) (agree-good w (erase a v) (after a s) (keep a s i) (g .1))
-      where
-        go : (h : Bool) → has a v ≡ h → Pulled h a v (erase a v) s
-            → (Good (erase a v) (after a s) → ((b : ℕ) → length (told b w (after a s)) ≡ length (told b (erase a v) (after a s))) → Agree w (erase a v) (after a s))
-            → (run w (after a s) ≡ run v s) × ((b : ℕ) → put (acc (call a s) && same b a) (call a s) (told b w (after a s)) ≡ told b v s)
-        go true e p ih =
-            let q : Agree w (erase a v) (after a s) = ih (p .0) (λ b. put-len (same b a) (call a s) (call a s) _ _ (rw (g .0, p .2 b, and-true) at (l b))) in
-            (q .0 ∙ p .1, λ b. rw (g .0, p .2 b, and-true, q .1 b))
-        go false e p ih =
-            let l′ : suc (length (told a w (after a s))) ≡ 0 = rw (g .0, same-refl a, untold a v s e) at (l a) in absurd (omega arith)
+    agree-good (a ∷ w) v s i g k l =
+        elim (has a v) as (λ h. has a v ≡ h → Pulled h a v (erase a v) s → Agree (a ∷ w) v s) [
+          | true ↦ λ e p.
+              let q = agree-good w (erase a v) (after a s) (keep a s i) (g .1) (p .0) (λ b. put-len (same b a) (call a s) (call a s) _ _ (rw (g .0, p .2 b, and-true) at (l b))) in
+              (q .0 ∙ p .1, λ b. rw (g .0, p .2 b, and-true, q .1 b))
+          | false ↦ λ e p. let l′ : suc (length (told a w (after a s))) ≡ 0 = rw (g .0, same-refl a, untold a v s e) at (l a) in absurd (omega arith)
+        ] refl (pull a v s i (g .0) k)
 
     pub most : (w v : List ℕ) (s : S) → Inv s → Good w s → Good v s → Full (run v s) → (b : ℕ) → length (told b w s) ≤ length (told b v s)
     unfolding C.run C.told
     most [] v s i g k f b = omega arith
-    most (a ∷ w) v s i g k f b = go (has a v) refl (pull a v s i (g .0) k) (most w (erase a v) (after a s) (keep a s i) (g .1))
-      where
-        go : (h : Bool) → has a v ≡ h → Pulled h a v (erase a v) s
-            → (Good (erase a v) (after a s) → Full (run (erase a v) (after a s)) → (b : ℕ) → length (told b w (after a s)) ≤ length (told b (erase a v) (after a s)))
-            → length (put (acc (call a s) && same b a) (call a s) (told b w (after a s))) ≤ length (told b v s)
-        go true e p ih = rw (g .0, p .2 b, and-true) (put-le (same b a) (call a s) (call a s) _ _ (ih (p .0) (rw (p .1) f) b))
-        go false e p ih = absurd (true≢false (sym (g .0) ∙ ap acc (sym (persist a v s i (acc-firm _ (g .0)) k e)) ∙ f a))
+    most (a ∷ w) v s i g k f b =
+        elim (has a v) as (λ h. has a v ≡ h → Pulled h a v (erase a v) s → length (told b (a ∷ w) s) ≤ length (told b v s)) [
+          | true ↦ λ e p. rw (g .0, p .2 b, and-true) (put-le (same b a) (call a s) (call a s) _ _ (most w (erase a v) (after a s) (keep a s i) (g .1) (p .0) (rw (p .1) f) b))
+          | false ↦ λ e p. absurd (true≢false (sym (g .0) ∙ ap acc (sym (persist a v s i (acc-firm _ (g .0)) k e)) ∙ f a))
+        ] refl (pull a v s i (g .0) k)
 
     -- a firm refusal of a bounds the accepted advances of a in every order
     pub stop-good : (a : ℕ) (w v : List ℕ) (s : S) → Inv s → Good w s → Good v s → firm (call a (run w s)) ≡ true → acc (call a (run w s)) ≡ false
@@ -218,27 +194,16 @@ module _ (M : Moves) where
         → firm (call a (run w s)) ≡ true → firm (call a (run v s)) ≡ true → call a (run v s) ≡ call a (run w s)
     unfolding C.run C.told
     meet-good a [] v s i g k l f f′ = persist a v s i f k (has-told a v s k (sym l))
-    meet-good a (b ∷ w) v s i g k l f f′ = go (has b v) refl (pull b v s i (g .0) k) (meet-good a w (erase b v) (after b s) (keep b s i) (g .1))
-      where
-        Goal : Type 0
-        Goal = call a (run v s) ≡ call a (run w (after b s))
-
-        other : (x : Bool) → same a b ≡ x → has b v ≡ false → Pulled false b v (erase b v) s
-            → (Good (erase b v) (after b s) → length (told a w (after b s)) ≡ length (told a (erase b v) (after b s)) → firm (call a (run w (after b s))) ≡ true
-            → firm (call a (run (erase b v) (after b s))) ≡ true → call a (run (erase b v) (after b s)) ≡ call a (run w (after b s)))
-            → Goal
-        other true e h p ih =
-            let l′ : suc (length (told a w (after b s))) ≡ 0 = rw (g .0, e, untold a v s (rw (same-eq a b e) h)) at l in absurd (omega arith)
-        other false e h p ih =
-            let hb : call b (run v s) ≡ call b s = persist b v s i (acc-firm _ (g .0)) k h in
-            let ha : call a (after b (run v s)) ≡ call a (run v s) = hold b a (run v s) (keep-run v s i) (λ q. same-ne a b e (sym q)) (rw hb (g .0)) f′ in
-            let ha′ : call a (run (erase b v) (after b s)) ≡ call a (run v s) = rw (p .1) ha in
-            sym ha′ ∙ ih (p .0) (rw (g .0, p .2 a, e) at l) f (rw ha′ f′)
-
-        go : (h : Bool) → has b v ≡ h → Pulled h b v (erase b v) s
-            → (Good (erase b v) (after b s) → length (told a w (after b s)) ≡ length (told a (erase b v) (after b s)) → firm (call a (run w (after b s))) ≡ true
-            → firm (call a (run (erase b v) (after b s))) ≡ true → call a (run (erase b v) (after b s)) ≡ call a (run w (after b s)))
-            → Goal
-        go true e p ih =
-            rw (p .1) at (ih (p .0) (put-len (same a b) (call b s) (call b s) _ _ (rw (g .0, p .2 a, and-true) at l)) f (rw (p .1) f′))
-        go false e p ih = other (same a b) refl e p ih
+    meet-good a (b ∷ w) v s i g k l f f′ =
+        elim (has b v) as (λ h. has b v ≡ h → Pulled h b v (erase b v) s → call a (run v s) ≡ call a (run w (after b s))) [
+          | true ↦ λ h p.
+              rw (p .1) at (meet-good a w (erase b v) (after b s) (keep b s i) (g .1) (p .0) (put-len (same a b) (call b s) (call b s) _ _ (rw (g .0, p .2 a, and-true) at l)) f (rw (p .1) f′))
+          | false ↦ λ h p. elim (same a b) as (λ x. same a b ≡ x → call a (run v s) ≡ call a (run w (after b s))) [
+            | true ↦ λ e. let l′ : suc (length (told a w (after b s))) ≡ 0 = rw (g .0, e, untold a v s (rw (same-eq a b e) h)) at l in absurd (omega arith)
+            | false ↦ λ e.
+                let hb : call b (run v s) ≡ call b s = persist b v s i (acc-firm _ (g .0)) k h in
+                let ha : call a (after b (run v s)) ≡ call a (run v s) = hold b a (run v s) (keep-run v s i) (λ q. same-ne a b e (sym q)) (rw hb (g .0)) f′ in
+                let ha′ : call a (run (erase b v) (after b s)) ≡ call a (run v s) = rw (p .1) ha in
+                sym ha′ ∙ meet-good a w (erase b v) (after b s) (keep b s i) (g .1) (p .0) (rw (g .0, p .2 a, e) at l) f (rw ha′ f′)
+          ] refl
+        ] refl (pull b v s i (g .0) k)

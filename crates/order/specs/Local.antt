@@ -43,12 +43,9 @@ module _ (M : Moves) (Inv : M .S → Type 0) (L : Local M Inv) where
   swap a b s i n ok ok′ = ext _ _ (keep b _ (keep a s i)) (keep a _ (keep b s i)) λ c. by-owner c (ℕ-discrete (owner c) a) (ℕ-discrete (owner c) b)
     where
       by-owner : (c : Cell) → Dec (owner c ≡ a) → Dec (owner c ≡ b) → at (after b (after a s)) c ≡ at (after a (after b s)) c
-      by-owner c (yes p) d =
-          writes b (after a s) c (keep a s i) (λ q. n (sym p ∙ q)) ∙ sym (beside b a s i (λ q. n (sym q)) ok′ (acc-firm _ ok) .1 c p)
-      by-owner c (no p) (yes q) =
-          beside a b s i n ok (acc-firm _ ok′) .1 c q ∙ sym (writes a (after b s) c (keep b s i) p)
-      by-owner c (no p) (no q) =
-          writes b (after a s) c (keep a s i) q ∙ writes a s c i p ∙ sym (writes b s c i q) ∙ sym (writes a (after b s) c (keep b s i) p)
+      by-owner c (yes p) d = writes b (after a s) c (keep a s i) (λ q. n (sym p ∙ q)) ∙ sym (beside b a s i (λ q. n (sym q)) ok′ (acc-firm _ ok) .1 c p)
+      by-owner c (no p) (yes q) = beside a b s i n ok (acc-firm _ ok′) .1 c q ∙ sym (writes a (after b s) c (keep b s i) p)
+      by-owner c (no p) (no q) = writes b (after a s) c (keep a s i) q ∙ writes a s c i p ∙ sym (writes b s c i q) ∙ sym (writes a (after b s) c (keep b s i) p)
 
   pub laws : Laws M Inv
   laws = record { acc-firm = acc-firm; stay = stay; keep = keep; hold = λ a b s i n ok f. beside a b s i n ok f .0; swap = swap }

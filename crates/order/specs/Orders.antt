@@ -16,12 +16,6 @@ module _ (M : Moves) where
   abbrev run : List ℕ → S → S
   run = C.run M
 
-  abbrev told : ℕ → List ℕ → S → List Ans
-  told = C.told M
-
-  abbrev Good : List ℕ → S → Type 0
-  Good = C.Good M
-
   abbrev strip : List ℕ → S → List ℕ
   strip = C.strip M
 

@@ -11,11 +11,11 @@ use lib.IntN.{ℤ, pos}
 
 -- two steps less than m apart stand in different places of a ring of m
 pub ring-apart : (x y m : ℕ) → x < y → y < x + m → x % m ≢ y % m
-ring-apart x y m l u e = go (decLe (y / m) (x / m))
-  where
-    go : Dec (y / m ≤ x / m) → ⊥
-    go (yes q) = let h : y / m * m ≤ x / m * m = mul-le-mul-right m q in omega (arith, mod-add-div' x m, mod-add-div' y m)
-    go (no q) = let h : suc (x / m) * m ≤ y / m * m = mul-le-mul-right m (omega arith) in omega (arith, mod-add-div' x m, mod-add-div' y m)
+ring-apart x y m l u e =
+    elim (decLe (y / m) (x / m)) [
+      | yes q ↦ let h : y / m * m ≤ x / m * m = mul-le-mul-right m q in omega (arith, mod-add-div' x m, mod-add-div' y m)
+      | no q ↦ let h : suc (x / m) * m ≤ y / m * m = mul-le-mul-right m (omega arith) in omega (arith, mod-add-div' x m, mod-add-div' y m)
+    ]
 
 -- d values on their way, d for a lead of the reader, and the older ones that are read
 abbrev pub places : ℕ → ℕ → ℕ
@@ -37,12 +37,12 @@ holds-still st su off m c Sent Sent′ m0 h more old = record { holds = λ x p q
 pub holds-sent : (st su : List ℤ) (off m c : ℕ) (Sent Sent′ : ℕ → ℤ → Type 0) → 0 < m → Holds st off m c Sent
     → ((x : ℕ) (y : ℤ) → Sent x y → Sent′ x y) → Sent′ (suc c) (slot su off m (suc c))
     → ((r : ℕ) → r < m → r ≢ suc c % m → getD su (off + r) (pos 0) ≡ getD st (off + r) (pos 0)) → Holds su off m (suc c) Sent′
-holds-sent st su off m c Sent Sent′ m0 h more new old = record { holds = λ x p q r. go x p q r (ℕ-discrete x (suc c)) }
-  where
-    go : (x : ℕ) → 0 < x → x ≤ suc c → suc c < x + m → Dec (x ≡ suc c) → Sent′ x (slot su off m x)
-    go x p q r (yes e) = subst (λ (x : ℕ). Sent′ x (slot su off m x)) (sym e) new
-    go x p q r (no e) =
-        subst (Sent′ x) (sym (old (x % m) (mod-lt x m0) (ring-apart x (suc c) m (omega arith) (omega arith)))) (more x _ (h .holds x p (omega arith) (omega arith)))
+holds-sent st su off m c Sent Sent′ m0 h more new old = record {
+  holds = λ x p q r. elim (ℕ-discrete x (suc c)) [
+    | yes e ↦ subst (λ (x : ℕ). Sent′ x (slot su off m x)) (sym e) new
+    | no e ↦ rw (old (x % m) (mod-lt x m0) (ring-apart x (suc c) m (omega arith) (omega arith))) (more x _ (h .holds x p (omega arith) (omega arith)))
+  ];
+}
 
 -- its reader, at its step k and not waiting, the counts within d: what was sent at step k - d, and at the `deep` steps before it, is in its slot
 pub holds-read : (st : List ℤ) (off d deep far own : ℕ) (Sent : ℕ → ℤ → Type 0) → 0 < d → Holds st off (places d deep) far Sent

@@ -1,21 +1,16 @@
 -- An area's advance. "Advancing: 9, 8, then 10 to 17"; "Every refusal leaves all lent memory unchanged." Assumes nothing.
-use Prim.Native.Nat.{ℕ, zero, suc, _+_, _%_}
-use mathlib.Core.Bool.{Bool, true, false, cond, not, _&&_, _||_}
-use mathlib.Core.List.{List, [], _∷_}
-use lib.ListN.{getD, set, length}
-use lib.Dec.{leb, ltb, eqb}
-use lib.IntN.{ℤ, pos}
+use Rattle.whole.specs.Plain.{ℕ, zero, suc, _+_, _%_, Bool, true, false, cond, not, _&&_, _||_, List, [], _∷_, leb, ltb}
+use Rattle.whole.specs.Plain.{eqb, ℤ, set, length, Words}
 use Rattle.paper.specs.declared.Advance.{Advance}
 use Rattle.paper.specs.declared.Advance.the-variants.{Took, Network, Store, State, Area, Done, Wait}
-use Rattle.whole.specs.Lists.{Words, z, word, first, numbers, fold}
 use Rattle.whole.specs.Turns.{turns}
 use Rattle.paper.specs.Limits as Limits
-use Rattle.paper.specs.Rows.{Row, isLine, isL, isC, from, to, steps}
+use Rattle.paper.specs.Rows.{Row, isLine, from, to, steps}
 use Rattle.paper.specs.Faults.{delay, slots}
 use Rattle.paper.specs.Network.{isNetwork, tableOf}
-use Rattle.paper.specs.Areas.{Net, netOf, areaOf, areaCount, nodesOf, branchNumber, step}
-use Rattle.paper.specs.Records.{countAt, voltAt, currentAt, toCurrentAt, historyAt, countOf, offset, wellFormed}
-use Rattle.paper.specs.Legs.{End, Branch, branch, otherEnd, here, heard, legsOf, current, passedOn}
+use Rattle.paper.specs.Areas.{Net, netOf, areaOf, areaCount, branchNumber, step}
+use Rattle.paper.specs.Records.{Found, countOf, offset, ownerOf, nextOf, wellFormed}
+use Rattle.paper.specs.Legs.{End, Branch, branchIn, here, heard, legsOf, passedOn}
 use Rattle.paper.specs.Solve.{Step, stop, move, solve}
 
 -- what is lent to be written
@@ -54,22 +49,16 @@ unfoldable pub putIf : Bool → Words → ℕ → ℤ → Words
 putIf true w i x = set w i x
 putIf false w i x = w
 
-abbrev pub branchIn : List Branch → ℕ → Branch
-branchIn bs i = getD bs i (branch [] otherEnd otherEnd)
+-- the words of the area's own, and no others
+unfoldable pub renewed : Net → ℕ → Found → ℕ → Words → Words
+renewed N a f j [] = []
+renewed N a f j (x ∷ w) = cond (eqb (ownerOf N j) a) (nextOf N f j) x ∷ renewed N a f (suc j) w
 
--- a row's currents and history
-unfoldable pub putRow : List Branch → Words → ℕ → Words → Words
-putRow bs v i w =
-    let b = branchIn bs i in
-    let w₁ = putIf (b .fromEnd .own) w (currentAt i) (current v (b .fromEnd .wire)) in
-    let w₂ = putIf (isLine (b .row) && b .toEnd .own) w₁ (toCurrentAt i) (current v (b .toEnd .wire)) in
-    putIf ((isL (b .row) || isC (b .row)) && b .fromEnd .own) w₂ (historyAt i) (passedOn v (b .row) (b .fromEnd .wire))
-
-unfoldable pub putVolts : Words → List ℕ → Words → Words
-putVolts v nodes w = fold (λ u n. set u (voltAt n) (word v n)) w nodes
+abbrev pub found : ℕ → List Branch → Words → Words → Found
+found k bs v w = record { step = k; legs = bs; volts = v; before = w }
 
 unfoldable pub newRecords : Net → ℕ → ℕ → List Branch → Words → Words → Words
-newRecords N a k bs v w = turns 0 (length bs) (putRow bs v) (putVolts v (nodesOf N a) (set w (countAt a) (pos k)))
+newRecords N a k bs v w = renewed N a (found k bs v w) 0 w
 
 -- "An area's advance writes only the slots of its own line ends."
 unfoldable pub putSent : Net → ℕ → (Branch → End) → List Branch → Words → ℕ → Words → Words

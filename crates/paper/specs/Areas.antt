@@ -1,13 +1,9 @@
 -- "Areas." and what else follows from the rows alone. Assumes nothing.
-use Prim.Native.Nat.{ℕ, zero, suc, _+_, max}
-use mathlib.Core.Bool.{Bool, true, false, cond, not, _&&_, _||_}
-use mathlib.Core.List.{List, [], _∷_, tail, map}
-use lib.ListN.{getD, take, length}
-use lib.Dec.{leb, ltb, eqb}
-use Rattle.whole.specs.Lists.{Words, any, count, keep, fold, numbers}
+use Rattle.whole.specs.Plain.{ℕ, suc, max, Bool, cond, not, _&&_, List, [], tail, map, eqb, getD, take, any, count}
+use Rattle.whole.specs.Plain.{keep, fold, numbers}
 use Rattle.paper.specs.Rows.{Row, isBranch, isSource, isLine, from, to, at, stepLength}
 use Rattle.paper.specs.Faults.{fixes}
-use Rattle.paper.specs.Network.{Table, tableOf}
+use Rattle.paper.specs.Network.{Table}
 use Rattle.paper.specs.Spread.{Join, mark, spread}
 
 -- "The node count is the largest node named."

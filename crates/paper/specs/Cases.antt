@@ -1,13 +1,8 @@
 -- What E1 to E10 leave open, as a second table in their form, and two laws of a row's legs. Assumes nothing.
-use Prim.Native.Nat.{ℕ, _-_, _*_, _^_, _≤_}
-use native.Mathlib.Omega.{arith}
-use mathlib.Core.Path.{_≡_, refl}
-use mathlib.Core.List.{List, [], _∷_, map}
-use lib.IntN.{ℤ, pos, negsuc, negℤ, _+ℤ_, _-ℤ_, _*ℤ_}
-use borrow.Author.Tests.{le-ltb}
+use Rattle.whole.specs.Plain.{ℕ, _-_, _*_, _^_, _≤_, _≡_, refl, List, [], _∷_, map, ℤ, pos, negsuc, negℤ, _+ℤ_, _-ℤ_}
+use Rattle.whole.specs.Plain.{_*ℤ_, le-ltb, arith, Words, z, word}
 use Rattle.paper.specs.declared.Reading.the-variants.{Read}
 use Rattle.paper.specs.declared.Advance.the-variants.{Took}
-use Rattle.whole.specs.Lists.{Words, z, word}
 use Rattle.whole.specs.Int.{ring-laws}
 use Rattle.paper.specs.Rows.{Row, from, to}
 use Rattle.paper.specs.Faults.{delay}

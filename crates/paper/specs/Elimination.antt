@@ -1,9 +1,5 @@
 -- Gaussian elimination over a list of lines, each operation rounded once, none fused. Assumes nothing.
-use Prim.Native.Nat.{ℕ, _+_}
-use mathlib.Core.List.{List, []}
-use lib.ListN.{getD, set, replicate}
-use lib.IntN.{pos}
-use mathlib.Core.Bool.{false}
+use Rattle.whole.specs.Plain.{ℕ, _+_, false, List, [], pos, getD, set, replicate}
 use lib.Ieee as Ieee
 use lib.Ieee.{Float, fin, nan, binary64}
 use Rattle.paper.specs.declared.Equation.{Equation}

@@ -1,28 +1,22 @@
 -- E1 to E10, as one table with one theorem over it: played over, the table is as it stands. "Step length is 1000 ns and source
 -- `VS 1 1000 1 0` throughout." Assumes nothing.
-use Prim.Native.Nat.{ℕ, zero, suc, _+_, _-_, _*_, _^_}
+use Rattle.whole.specs.Plain.{ℕ, _+_, _-_, _*_, _^_, _≡_, refl, cond, List, [], _∷_, _++_, map, eqb, ltb, ℤ, pos}
+use Rattle.whole.specs.Plain.{negsuc, getD, replicate, length, Words, z, word, count, numbers}
 use Prim.Native.String.{String}
-use mathlib.Core.Path.{_≡_, refl}
-use mathlib.Core.Bool.{Bool, true, false, cond}
-use mathlib.Core.List.{List, [], _∷_, _++_, map}
-use lib.ListN.{getD, replicate, length}
-use lib.Dec.{eqb, ltb}
-use lib.IntN.{ℤ, pos, negsuc, negℤ}
 use Rattle.paper.specs.declared.Reading.{Reading}
 use Rattle.paper.specs.declared.Reading.the-variants.{Read, Travel}
 use Rattle.paper.specs.declared.Advance.{Advance}
 use Rattle.paper.specs.declared.Advance.the-variants.{Took, Wait, Floating, Unbalanced, History}
-use Rattle.whole.specs.Lists.{Words, z, word, count, numbers}
 use Rattle.paper.specs.Limits as Limits
 use Rattle.paper.specs.Rows.{bytes}
 use Rattle.paper.specs.Text.{LF, TAB}
 use Rattle.paper.specs.Conductance.{conductance}
 use Rattle.paper.specs.Network.{tableOf}
 use Rattle.paper.specs.Areas.{Net, netOf, branchNumber, step}
-use Rattle.paper.specs.Records.{voltAt, currentAt, toCurrentAt}
-use Rattle.paper.specs.Reading.{Read-out, readOf}
+use Rattle.paper.specs.Records.{voltAt, currentAt}
+use Rattle.paper.specs.Reading.{readOf}
 use Rattle.paper.specs.Advance.{Memory, Advanced, advanceOf}
-use Rattle.paper.specs.Resetting.{fresh, resetOf}
+use Rattle.paper.specs.Resetting.{fresh}
 use Rattle.paper.specs.Listing.{listing}
 use Rattle.paper.specs.Computing.{computing}
 
@@ -55,7 +49,7 @@ unfoldable pub placeOf : Net → ℕ → ℕ
 placeOf N b = count (λ i. ltb (branchNumber N i) b) (numbers 1 (length (N .rows)))
 
 unfoldable pub looked : Net → Words → Fact → Fact
-looked N recs (volts n x) = volts n (word recs (voltAt n))
+looked N recs (volts n x) = volts n (word recs (voltAt N n))
 looked N recs (amps b x) = amps b (word recs (currentAt (placeOf N b)))
 looked N recs (siemens b g) = siemens b (conductance (step N) (getD (N .rows) (placeOf N b) []))
 

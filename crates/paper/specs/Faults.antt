@@ -1,14 +1,9 @@
 -- What may be wrong with a row whose spelling is right: refusals 2 to 6, by the rows before it. One definition, for the reader's lines and
 -- for the rows of a lent network record; `head` is the study's row. Assumes nothing.
-use Prim.Native.Nat.{ℕ, zero, suc, _+_, _*_, _/_, _%_}
-use mathlib.Core.Bool.{Bool, true, false, cond, not, _&&_, _||_}
-use mathlib.Core.List.{List, [], _∷_, tail}
-use lib.ListN.{getD}
-use lib.Dec.{leb, ltb, eqb}
-use lib.IntN.{ℤ, pos}
-use Rattle.whole.specs.Lists.{Words, between, any, count, sum}
+use Rattle.whole.specs.Plain.{ℕ, _+_, _*_, _/_, _%_, Bool, true, false, cond, not, _&&_, _||_, List, [], _∷_, tail, leb}
+use Rattle.whole.specs.Plain.{ltb, eqb, getD, Words, between, any, count, sum}
 use Rattle.paper.specs.Limits as Limits
-use Rattle.paper.specs.Rows.{Row, Field, fieldsOf, kind, isBranch, isSource, isLine, isSwitch, isVS, from, to, travel, closes, opens, at, stepLength}
+use Rattle.paper.specs.Rows.{Row, Field, fieldsOf, kind, isBranch, isSource, isLine, isSwitch, isFixing, from, to, travel, closes, opens, at, stepLength}
 use Rattle.paper.specs.Conductance.{conductance}
 
 -- a field that names a node, or one that does not, out of its range
@@ -39,11 +34,11 @@ travelFault head r = isLine r && not (eqb (travel r % stepLength head) 0)
 
 -- "A node with a VS is fixed"
 unfoldable pub fixes : ℕ → Row → Bool
-fixes n r = isVS r && eqb (at r) n
+fixes n r = isFixing r && eqb (at r) n
 
 -- 5 DOUBLE: "a second VS on a node"
 unfoldable pub doubleFault : List Row → Row → Bool
-doubleFault before r = isVS r && any (fixes (at r)) before
+doubleFault before r = isFixing r && any (fixes (at r)) before
 
 -- "LINE of d = travel / step"; "Each line end keeps its last 2d sent values"
 abbrev pub delay : ℕ → Row → ℕ

@@ -1,12 +1,7 @@
 -- "A free node needs a path of conducting branches (R, L, C, closed SW) to ground, to a fixed node, or to a node with a line end, itself
 -- included." A line's end is a leg to ground, and an open switch has no conductance, so this is a path of legs that conduct, to ground or to a
 -- fixed node. Assumes nothing.
-use Prim.Native.Nat.{ℕ, zero, suc}
-use mathlib.Core.Bool.{Bool, true, false, cond, not, _&&_}
-use mathlib.Core.List.{List, [], _∷_, map}
-use lib.Dec.{eqb}
-use Rattle.whole.specs.Lists.{keep, first, numbers}
-use Rattle.paper.specs.Areas.{Net, fixed}
+use Rattle.whole.specs.Plain.{ℕ, suc, Bool, cond, not, List, map, eqb, keep, first, numbers}
 use Rattle.paper.specs.Legs.{Leg}
 use Rattle.paper.specs.Spread.{Join, mark, spread}
 

@@ -1,12 +1,6 @@
 -- "Every refusal leaves all lent memory unchanged.", of all three calls: T-kept. Assumes nothing.
-use Prim.Native.Nat.{ℕ, zero, suc}
-use mathlib.Core.Path.{_≡_, refl}
-use mathlib.Core.Logic.{_≢_}
-use mathlib.Core.Bool.{Bool, true, false, cond, not, _&&_, true≢false}
-use mathlib.Core.List.{List}
-use lib.ListN.{length}
-use lib.Dec.{eqb, leb, ltb}
-use Rattle.whole.specs.Lists.{Words}
+use Rattle.whole.specs.Plain.{ℕ, zero, suc, _≡_, refl, _≢_, Bool, true, false, cond, not, _&&_, true≢false, List, eqb}
+use Rattle.whole.specs.Plain.{leb, ltb, length, Words}
 use Rattle.paper.specs.Limits as Limits
 use Rattle.paper.specs.Answers.{readingNumber, resettingNumber, accepted}
 use Rattle.paper.specs.Network.{isNetwork}

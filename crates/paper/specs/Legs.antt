@@ -1,18 +1,13 @@
 -- One row at one step, as two legs, one for the current that leaves its from node and one for that which leaves its to node:
 -- "i = g·u + h" with u the voltage of `near` less that of `far`. A line's end is a leg of its own, to ground: "at each end i = g·v + h, where v
 -- is that end's voltage and h is what the far end sent". An area's step knows only its own legs. Assumes nothing.
-use Prim.Native.Nat.{ℕ, zero, suc, _+_, _-_, _%_}
-use mathlib.Core.Bool.{Bool, true, false, cond, not, _&&_, _||_}
-use mathlib.Core.List.{List, [], _∷_, map}
-use lib.ListN.{getD, length}
-use lib.Dec.{leb, ltb, eqb}
-use lib.IntN.{ℤ, pos, negℤ, _+ℤ_, _-ℤ_, _*ℤ_}
-use Rattle.whole.specs.Lists.{Words, z, word, numbers}
-use Rattle.paper.specs.Rows.{Row, kind, isBranch, isLine, isSwitch, isL, isC, from, to, closes, opens}
+use Rattle.whole.specs.Plain.{ℕ, _+_, _-_, _%_, Bool, true, false, cond, not, _&&_, _||_, List, [], _∷_, map, leb, ltb}
+use Rattle.whole.specs.Plain.{eqb, ℤ, pos, negℤ, _+ℤ_, _-ℤ_, _*ℤ_, getD, length, Words, z, word, numbers}
+use Rattle.paper.specs.Rows.{Row, isBranch, isLine, isSwitch, isL, isC, from, to, closes, opens}
 use Rattle.paper.specs.Conductance.{conductance}
 use Rattle.paper.specs.Faults.{delay, slots}
 use Rattle.paper.specs.Areas.{Net, areaOf, rowArea, step}
-use Rattle.paper.specs.Records.{historyAt, offset}
+use Rattle.paper.specs.Where.{historyAt, offset}
 
 pub record Leg : Type 0 where
   pub near : ℕ
@@ -107,6 +102,9 @@ legsBy N a k recs ears i =
 
 unfoldable pub legsOf : Net → ℕ → ℕ → Words → List Heard → List Branch
 legsOf N a k recs ears = map (legsBy N a k recs ears) (numbers 0 (length (N .rows)))
+
+abbrev pub branchIn : List Branch → ℕ → Branch
+branchIn bs i = getD bs i (branch [] otherEnd otherEnd)
 
 unfoldable pub bothLegs : List Branch → List Leg
 bothLegs [] = []

@@ -1,5 +1,6 @@
 pub mod Limits
 pub mod Rows
+pub mod Classes
 pub mod Conductance
 pub mod Faults
 pub mod Text
@@ -9,13 +10,16 @@ pub mod Reading
 pub mod Spread
 pub mod Areas
 pub mod Sources
-pub mod Records
+pub mod Where
 pub mod Legs
+pub mod Records
+pub mod Apart
 pub mod Floating
 pub mod Elimination
 pub mod Doubles
 pub mod Solve
 pub mod Advance
+pub mod Lent
 pub mod Resetting
 pub mod Listing
 pub mod Pieces

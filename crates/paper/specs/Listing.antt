@@ -1,23 +1,17 @@
 -- "Listing": what `emtrun` writes for a study. Assumes nothing.
-use Prim.Native.Nat.{ℕ, zero, suc, _+_, _/_, _%_}
-use mathlib.Core.Bool.{Bool, true, false, cond, not, _&&_, _||_}
-use mathlib.Core.List.{List, [], _∷_, _++_, tail, reverse}
-use lib.ListN.{getD, length, replicate}
-use lib.Dec.{leb, ltb, eqb}
-use lib.IntN.{ℤ, pos, negsuc}
+use Rattle.whole.specs.Plain.{ℕ, zero, suc, _+_, _/_, _%_, Bool, true, false, cond, not, List, [], _∷_, _++_, eqb, ℤ}
+use Rattle.whole.specs.Plain.{pos, negsuc, getD, length, replicate, Words, z, word, numbers}
 use Rattle.paper.specs.declared.Advance.{Advance}
 use Rattle.paper.specs.declared.Reading.{Reading}
-use Rattle.paper.specs.declared.Reading.the-variants.{Read}
-use Rattle.whole.specs.Lists.{Words, z, word, fold, numbers}
 use Rattle.whole.specs.Turns.{turns}
 use Rattle.paper.specs.Limits as Limits
-use Rattle.paper.specs.Rows.{Row, bytes, isBranch, isLine, steps}
+use Rattle.paper.specs.Rows.{bytes, isBranch, isLine, steps}
 use Rattle.paper.specs.Text.{LF, TAB, MINUS}
 use Rattle.paper.specs.Network.{tableOf}
 use Rattle.paper.specs.Areas.{Net, netOf, areaCount, branchNumber}
 use Rattle.paper.specs.Records.{voltAt, currentAt, toCurrentAt}
 use Rattle.paper.specs.Answers.{readingNumber, readingLine, advanceNumber, advancePlace, accepted}
-use Rattle.paper.specs.Reading.{Read-out, readOf}
+use Rattle.paper.specs.Reading.{readOf}
 use Rattle.paper.specs.Advance.{Memory, Advanced, advanceOf}
 use Rattle.paper.specs.Resetting.{fresh}
 
@@ -48,9 +42,9 @@ lineOf w xs = w ++ shownAll xs
 -- ---- a full step
 
 -- "`v`, step, node, voltage for each node"
-unfoldable pub voltLines : Words → ℕ → List ℕ → List ℕ
-voltLines recs k [] = []
-voltLines recs k (n ∷ ns) = lineOf (bytes "v") (pos k ∷ pos n ∷ word recs (voltAt n) ∷ []) ++ voltLines recs k ns
+unfoldable pub voltLines : Net → Words → ℕ → List ℕ → List ℕ
+voltLines N recs k [] = []
+voltLines N recs k (n ∷ ns) = lineOf (bytes "v") (pos k ∷ pos n ∷ word recs (voltAt N n) ∷ []) ++ voltLines N recs k ns
 
 -- "`i`, step, branch, current for each branch (from side; for a line a fifth field, the to-end current)"
 unfoldable pub currentLine : Net → Words → ℕ → ℕ → List ℕ
@@ -66,7 +60,7 @@ currentLines N recs k [] = []
 currentLines N recs k (i ∷ is) = currentLine N recs k i ++ currentLines N recs k is
 
 unfoldable pub stepLines : Net → Words → ℕ → List ℕ
-stepLines N recs k = voltLines recs k (numbers 1 (N .nodes)) ++ currentLines N recs k (numbers 0 (length (N .rows)))
+stepLines N recs k = voltLines N recs k (numbers 1 (N .nodes)) ++ currentLines N recs k (numbers 0 (length (N .rows)))
 
 -- ---- the run
 

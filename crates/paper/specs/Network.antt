@@ -1,12 +1,8 @@
 -- The network record: word 0 the step length, 1 the steps, 2 the limit, 3 the number of rows, 4 to 7 zero, and from word 8 on eight words for
 -- each row, "all lines, sources among them", in table order; the rest zero. Nothing derived is kept. Assumes nothing.
-use Prim.Native.Nat.{ℕ, zero, suc, _+_}
-use mathlib.Core.Bool.{Bool, true, false, cond, not, _&&_, Bool·beq}
-use mathlib.Core.List.{List, [], _∷_, _++_, tail}
-use lib.ListN.{getD, length, take, drop, replicate}
-use lib.Dec.{leb, ltb, eqb}
-use lib.IntN.{ℤ, pos}
-use Rattle.whole.specs.Lists.{Words, z, word, nat, between, filled, empty, fold, sameWords}
+use Rattle.whole.specs.Plain.{ℕ, zero, suc, _+_, Bool, true, _&&_, Bool·beq, List, [], _∷_, _++_, tail, leb, eqb, ℤ}
+use Rattle.whole.specs.Plain.{pos, getD, length, take, drop, Words, z, word, nat, between, filled, empty, fold}
+use Rattle.whole.specs.Plain.{sameWords}
 use Rattle.paper.specs.Limits as Limits
 use Rattle.paper.specs.Rows.{Row, kind, noKind, isStudy, fieldsOf}
 use Rattle.paper.specs.Faults.{rowFault}

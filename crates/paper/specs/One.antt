@@ -1,9 +1,6 @@
 -- T-one: "Two outcomes that satisfy it are proved equal". What the contract of each call says of its answer and of every lent word as it returns, on
 -- all inputs, refused ones too; and that it leaves nothing open. Assumes nothing.
-use Prim.Native.Nat.{ℕ}
-use mathlib.Core.Path.{_≡_, sym, _∙_}
-use mathlib.Core.List.{List}
-use Rattle.whole.specs.Lists.{Words}
+use Rattle.whole.specs.Plain.{ℕ, _≡_, sym, _∙_, List, Words}
 use Rattle.paper.specs.declared.Reading.{Reading}
 use Rattle.paper.specs.declared.Resetting.{Resetting}
 use Rattle.paper.specs.declared.Advance.{Advance}

@@ -1,15 +1,9 @@
 -- The listing by pieces: what one call writes into a lent buffer, full step after full step, until the next might not fit, an area is refused or
 -- the study is done. Assumes nothing.
-use Prim.Native.Nat.{ℕ, suc, _+_}
-use mathlib.Core.Path.{_≡_, refl, sym, _∙_}
-use mathlib.Core.Bool.{Bool, true, false, cond, not, _||_}
-use mathlib.Core.List.{List, [], _∷_, _++_}
-use lib.ListN.{length, drop}
-use lib.Dec.{leb, ltb, eqb}
-use lib.IntN.{pos}
+use Rattle.whole.specs.Plain.{ℕ, suc, _+_, _≡_, sym, _∙_, Bool, true, false, cond, not, _||_, List, [], _∷_, _++_, leb}
+use Rattle.whole.specs.Plain.{ltb, eqb, pos, length, drop, Words, every, numbers}
 use Rattle.paper.specs.declared.Listing.{Listing}
 use Rattle.paper.specs.declared.Listing.the-variants.{More, Done, Stopped, Network, Store, State}
-use Rattle.whole.specs.Lists.{Words, every, numbers}
 use Rattle.whole.specs.Turns.{turns}
 use Rattle.paper.specs.Limits as Limits
 use Rattle.paper.specs.Rows.{bytes, steps}

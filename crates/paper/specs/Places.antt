@@ -1,23 +1,17 @@
 -- T-total, of places: "14 to 16 carry the lowest such node, 13 and 17 the first such branch": a free node's number, and a branch's. Assumes nothing.
-use Prim.Native.Nat.{ℕ, zero, suc, _+_, _≤_, _<_}
-use native.Mathlib.Omega.{arith}
+use Rattle.whole.specs.Plain.{ℕ, zero, suc, _+_, _≤_, _<_, _≡_, refl, sym, ap, _∙_, Bool, true, false, cond, not, _&&_}
+use Rattle.whole.specs.Plain.{true≢false, List, [], _∷_, map, leb, eqb, length, getD, take, drop, length-map}
+use Rattle.whole.specs.Plain.{take-append-drop, eqb-true, zero-add, arith, Words, z, word, upTo, count, numbers}
 use native.Mathlib.Numerals.{add-one}
-use native.Mathlib.Nat.{zero-add}
-use mathlib.Core.Path.{_≡_, refl, sym, ap, _∙_}
-use mathlib.Core.Bool.{Bool, true, false, cond, not, _&&_, true≢false}
-use mathlib.Core.List.{List, [], _∷_, map}
-use lib.ListN.{length, getD, take, drop, length-map, take-append-drop}
-use lib.Dec.{leb, eqb}
-use borrow.Author.Tests.{eqb-true}
 use Rattle.paper.specs.declared.Advance.{Advance}
 use Rattle.paper.specs.declared.Advance.the-variants.{Took, State, Area, Done, Wait, Floating, Range, Unbalanced, History}
 use Rattle.paper.specs.declared.Advance.the-variants as A
 use Rattle.paper.specs.declared.Rounded.{Rounded}
 use Rattle.paper.specs.declared.Rounded.the-variants.{Whole, Outside}
-use Rattle.whole.specs.Lists.{Words, z, word, upTo, count, numbers}
 use Rattle.whole.specs.Folds.{and-left, count-append, count-next, length-numbers, getD-map, getD-numbers}
 use Rattle.whole.specs.Members.{Among, top, below, keep-among, numbers-among, first-among}
-use Rattle.paper.specs.Rows.{Row, kind, limit, isBranch, isLine, steps}
+use Rattle.paper.specs.Rows.{Row, kinds, kind, branchKind, limit, isBranch, isLine, steps}
+use Rattle.paper.specs.Classes.{line-branch}
 use Rattle.paper.specs.Network.{isNetwork, tableOf}
 use Rattle.paper.specs.Areas.{Net, netOf, areaCount, rowArea, nodesOf, freeOf, fixed, branchNumber}
 use Rattle.paper.specs.Records.{countOf, historyAt, wellFormed}
@@ -111,10 +105,10 @@ beyond-stands v d i (b ∷ bs) {r} e = go (beyond v b) refl e (λ q. beyond-stan
     go false f q more = later (beyond v) d i r b bs (more q)
 
 -- LINE, L and C are branches
-of-kind : (k j : ℕ) → (leb 1 j && leb j 5) ≡ true → eqb k j ≡ true → (leb 1 k && leb k 5) ≡ true
+of-kind : (k j : ℕ) → branchKind j ≡ true → eqb k j ≡ true → branchKind k ≡ true
 of-kind k j h e = rw (eqb-true k j e) h
 
-not-kind : (k j : ℕ) → (leb 1 j && leb j 5) ≡ true → (leb 1 k && leb k 5) ≡ false → eqb k j ≡ false
+not-kind : (k j : ℕ) → branchKind j ≡ true → branchKind k ≡ false → eqb k j ≡ false
 not-kind k j h e = go (eqb k j) refl
   where
     go : (t : Bool) → eqb k j ≡ t → t ≡ false
@@ -123,11 +117,11 @@ not-kind k j h e = go (eqb k j) refl
 
 waits-branch : (N : Net) (a k : ℕ) (recs : Words) (r : Row) → waitsFor N a k recs r ≡ true → isBranch r ≡ true
 unfolding waitsFor
-waits-branch N a k recs r e = of-kind (kind r) 4 refl (and-left (isLine r) _ e)
+waits-branch N a k recs r e = line-branch r (and-left (isLine r) _ e)
 
 -- a row that keeps nothing passes nothing on
 nothing-on : (v : Words) (r : Row) (l : Leg) → isBranch r ≡ false → passedOn v r l ≡ z
-unfolding passedOn
+unfolding passedOn branchKind kinds
 nothing-on v r l e = rw (not-kind (kind r) 2 refl e, not-kind (kind r) 3 refl e, not-kind (kind r) 4 refl e)
 
 beyond-branch : (v : Words) (b : Branch) → beyond v b ≡ true → isBranch (b .row) ≡ true

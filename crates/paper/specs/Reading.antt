@@ -1,13 +1,8 @@
 -- Reading a study text into a lent network record. "Reading: 9, 7, then the first faulty line, in it 1 to 6 in turn". Assumes nothing.
-use Prim.Native.Nat.{ℕ, zero, suc, _+_}
-use mathlib.Core.Bool.{Bool, true, false, cond, not, _&&_, _||_}
-use mathlib.Core.List.{List, [], _∷_, _++_}
-use lib.ListN.{length}
-use lib.Dec.{leb, ltb, eqb}
-use lib.IntN.{ℤ}
+use Rattle.whole.specs.Plain.{ℕ, zero, suc, _+_, cond, not, _||_, List, [], _∷_, _++_, ltb, eqb, length, Words, empty}
+use Rattle.whole.specs.Plain.{lead, final, fold}
 use Rattle.paper.specs.declared.Reading.{Reading}
 use Rattle.paper.specs.declared.Reading.the-variants.{Read, Form, Node, Value, Travel, Double, Full, Size, Store}
-use Rattle.whole.specs.Lists.{Words, empty, lead, final, fold}
 use Rattle.paper.specs.Limits as Limits
 use Rattle.paper.specs.Rows.{Row}
 use Rattle.paper.specs.Faults.{rowFault}

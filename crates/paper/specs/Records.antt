@@ -1,66 +1,143 @@
--- The records: counts by area, voltages by node, then by row (not by branch number: a row's place needs no counting, and a source's words are
--- zero) the from-side currents, the to-end currents and the histories; the rest zero. Assumes nothing.
-use Prim.Native.Nat.{ℕ, zero, suc, _+_, _-_, _*_}
-use mathlib.Core.Bool.{Bool, true, false, cond, not, _&&_, _||_}
-use mathlib.Core.List.{List, [], _∷_, _++_, map}
-use lib.ListN.{getD, replicate, take, length}
-use lib.Dec.{leb, ltb, eqb}
-use lib.IntN.{ℤ, pos}
-use lib.Signed.{nonNeg}
-use Rattle.whole.specs.Lists.{Words, z, word, nat, filled, every, sum, within}
+-- The records by sections, in one table: counts by area, voltages by node, then by row the from-side currents, the to-end currents and the histories.
+-- A word is used as its section says, and of no area where it is not; no word past the last section is used. Assumes nothing.
+use Rattle.whole.specs.Plain.{ℕ, suc, _+_, _-_, Bool, false, cond, not, _&&_, _||_, List, [], _∷_, map, leb, ltb, ℤ}
+use Rattle.whole.specs.Plain.{pos, nonNeg, getD, replicate, take, Words, z, word, nat, every, within, numbers}
 use Rattle.paper.specs.Limits as Limits
 use Rattle.paper.specs.Rows.{Row, isBranch, isLine, isL, isC, from, to, steps}
-use Rattle.paper.specs.Faults.{slots, delay}
-use Rattle.paper.specs.Areas.{Net, areaOf, areaCount, step}
-
--- where each stands: areas and nodes from 1, rows from 0
-abbrev pub countAt : ℕ → ℕ
-countAt a = a - 1
-
-abbrev pub voltAt : ℕ → ℕ
-voltAt n = 31 + n
-
-abbrev pub currentAt : ℕ → ℕ
-currentAt r = 64 + r
-
-abbrev pub toCurrentAt : ℕ → ℕ
-toCurrentAt r = 144 + r
-
-abbrev pub historyAt : ℕ → ℕ
-historyAt r = 224 + r
+use Rattle.paper.specs.Faults.{delay}
+use Rattle.paper.specs.Areas.{Net, areaOf, areaCount, rowArea, step}
+use Rattle.paper.specs.Legs.{Branch, branchIn, current, passedOn}
+unfoldable pub use Rattle.paper.specs.Where.{countAt, voltAt, currentAt, toCurrentAt, historyAt, offset, slotCount}
 
 abbrev pub countOf : Words → ℕ → ℕ
 countOf recs a = nat (word recs (countAt a))
 
--- "slots stand in table order": where the row in place r, from 0, has its slots in either store
-unfoldable pub offset : Net → ℕ → ℕ
-offset N r = sum (slots (N .head)) (take r (N .rows))
+-- ---- the table
 
-unfoldable pub slotCount : Net → ℕ
-slotCount N = sum (slots (N .head)) (N .rows)
+-- what an accepted step has found: its number, its legs and voltages, and the records before it
+pub record Found : Type 0 where
+  pub step : ℕ
+  pub legs : List Branch
+  pub volts : Words
+  pub before : Words
+
+-- a section: its first word, how many it has; of the word in place j, from 0, whether it is used, the end of its magnitude, whose it is, and what an
+-- accepted step of that area writes there
+pub record Section : Type 0 where
+  pub start : ℕ
+  pub words : ℕ
+  pub used : Net → ℕ → Bool
+  pub end : Net → ℕ
+  pub area : Net → ℕ → ℕ
+  pub next : Net → Found → ℕ → ℤ
+
+abbrev rowIn : Net → ℕ → Row
+rowIn N j = getD (N .rows) j []
+
+-- "an accepted advance answers the area's new count"
+abbrev pub counts : Section
+counts = record {
+  start = 0;
+  words = Limits.nodeEnd;
+  used = λ N j. ltb j (areaCount N);
+  end = λ N. steps (N .head);
+  area = λ N j. suc j;
+  next = λ N f j. pos (f .step);
+}
+
+abbrev pub voltages : Section
+voltages = record {
+  start = 32;
+  words = Limits.nodeEnd;
+  used = λ N j. ltb j (N .nodes);
+  end = λ N. Limits.voltageEnd;
+  area = λ N j. areaOf N (suc j);
+  next = λ N f j. word (f .volts) (suc j);
+}
+
+-- a line's from-side current is that of the area of its from node
+abbrev pub currents : Section
+currents = record {
+  start = 64;
+  words = Limits.rowEnd;
+  used = λ N j. isBranch (rowIn N j);
+  end = λ N. Limits.currentEnd;
+  area = λ N j. cond (isLine (rowIn N j)) (areaOf N (from (rowIn N j))) (rowArea N (rowIn N j));
+  next = λ N f j. current (f .volts) (branchIn (f .legs) j .fromEnd .wire);
+}
+
+abbrev pub toCurrents : Section
+toCurrents = record {
+  start = 144;
+  words = Limits.rowEnd;
+  used = λ N j. isLine (rowIn N j);
+  end = λ N. Limits.currentEnd;
+  area = λ N j. areaOf N (to (rowIn N j));
+  next = λ N f j. current (f .volts) (branchIn (f .legs) j .toEnd .wire);
+}
+
+abbrev pub histories : Section
+histories = record {
+  start = 224;
+  words = Limits.rowEnd;
+  used = λ N j. isL (rowIn N j) || isC (rowIn N j);
+  end = λ N. Limits.historyEnd;
+  area = λ N j. rowArea N (rowIn N j);
+  next = λ N f j. passedOn (f .volts) (branchIn (f .legs) j .row) (branchIn (f .legs) j .fromEnd .wire);
+}
+
+unfoldable pub sections : List Section
+sections = counts ∷ voltages ∷ currents ∷ toCurrents ∷ histories ∷ []
+
+-- the first word past them
+abbrev pub sectionsEnd : ℕ
+sectionsEnd = 304
+
+-- ---- by words
+
+-- a word's section, and its place there
+pub record Spot : Type 0 where
+  pub section : Section
+  pub place : ℕ
+
+abbrev pub spot : Section → ℕ → Spot
+spot s j = record { section = s; place = j }
+
+abbrev pub unused : Section
+unused = record { start = 0; words = 0; used = λ N j. false; end = λ N. 0; area = λ N j. 0; next = λ N f j. z }
+
+unfoldable pub spotIn : List Section → ℕ → Spot
+spotIn [] j = spot unused j
+spotIn (s ∷ ss) j = let rest = spotIn ss j in cond (leb (s .start) j && ltb j (s .start + s .words)) (spot s (j - s .start)) rest
+
+abbrev pub spotOf : ℕ → Spot
+spotOf j = spotIn sections j
+
+-- of a spot: the end of its word, whose it is (0 for nobody's), and what an accepted step writes there
+abbrev pub endIn : Net → Spot → ℕ
+endIn N p = cond (p .section .used N (p .place)) (p .section .end N) 0
+
+abbrev pub ownerIn : Net → Spot → ℕ
+ownerIn N p = cond (p .section .used N (p .place)) (p .section .area N (p .place)) 0
+
+abbrev pub nextIn : Net → Found → Spot → ℤ
+nextIn N f p = p .section .next N f (p .place)
+
+unfoldable pub endOf : Net → ℕ → ℕ
+endOf N j = endIn N (spotOf j)
+
+unfoldable pub ownerOf : Net → ℕ → ℕ
+ownerOf N j = ownerIn N (spotOf j)
+
+unfoldable pub nextOf : Net → Found → ℕ → ℤ
+nextOf N f j = nextIn N f (spotOf j)
 
 -- ---- 10 STATE: "Records are well formed when"
-
--- the end of a row's word, by its kind
-abbrev pub currentEndOf : Row → ℕ
-currentEndOf r = cond (isBranch r) Limits.currentEnd 0
-
-abbrev pub toCurrentEndOf : Row → ℕ
-toCurrentEndOf r = cond (isLine r) Limits.currentEnd 0
-
-abbrev pub historyEndOf : Row → ℕ
-historyEndOf r = cond (isL r || isC r) Limits.historyEnd 0
 
 -- "counts are 0 to steps, voltages, histories and sent values are in range, current magnitudes are at most 1.4·10^17, .. and unused words are
 -- zero": the end of each word's magnitude
 unfoldable pub ends : Net → List ℕ
-unfolding filled
-ends N =
-    filled Limits.nodeEnd 0 (replicate (areaCount N) (steps (N .head)))
-    ++ (filled Limits.nodeEnd 0 (replicate (N .nodes) Limits.voltageEnd)
-    ++ (filled Limits.rowEnd 0 (map currentEndOf (N .rows))
-    ++ (filled Limits.rowEnd 0 (map toCurrentEndOf (N .rows))
-    ++ map historyEndOf (N .rows))))
+ends N = map (endOf N) (numbers 0 Limits.recordWords)
 
 -- "areas at a line's two ends differ by at most d in count"
 unfoldable pub near : Net → Words → Row → Bool

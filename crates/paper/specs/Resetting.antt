@@ -1,11 +1,7 @@
 -- "Resetting gives 9 or 8, or writes the records and both line stores all zero and answers 0." Assumes nothing.
-use Prim.Native.Nat.{ℕ}
-use mathlib.Core.Bool.{Bool, true, false, cond, not}
-use mathlib.Core.List.{List, [], _∷_}
-use lib.ListN.{replicate}
+use Rattle.whole.specs.Plain.{cond, not, replicate, Words, z}
 use Rattle.paper.specs.declared.Resetting.{Resetting}
 use Rattle.paper.specs.declared.Resetting.the-variants.{Reset, Network, Store}
-use Rattle.whole.specs.Lists.{Words, z}
 use Rattle.paper.specs.Limits as Limits
 use Rattle.paper.specs.Network.{isNetwork}
 use Rattle.paper.specs.Advance.{Memory, memory, fits}

@@ -1,16 +1,10 @@
 -- A line of the table as a row of words, kind first and then the fields "as in the text", and the table of kinds that the text, the
 -- refusals and the network record all go by. Assumes nothing.
-use Prim.Native.Nat.{ℕ, zero, suc, _+_, _*_}
+use Rattle.whole.specs.Plain.{ℕ, Bool, true, false, List, [], _∷_, eqb, ℤ, pos, negsuc, negℤ, ltZ, getD, length, Words}
+use Rattle.whole.specs.Plain.{z, word, nat}
 use Prim.Native.Char.{code}
 use Prim.Native.String as String
 use Prim.Native.String.{String}
-use mathlib.Core.Bool.{Bool, true, false, cond, _&&_, _||_, not}
-use mathlib.Core.List.{List, [], _∷_}
-use lib.ListN.{getD, length}
-use lib.Dec.{leb, ltb, eqb}
-use lib.IntN.{ℤ, pos, negsuc, negℤ}
-use lib.Signed.{ltZ}
-use Rattle.whole.specs.Lists.{Words, z, word, nat}
 use Rattle.paper.specs.Limits as Limits
 
 -- a text, by its bytes
@@ -29,9 +23,28 @@ pub record Field : Type 0 where
   pub low : ℤ
   pub high : ℤ
 
+-- what a kind is: a branch, a source, and a source that fixes its node
+pub record Class : Type 0 where
+  pub branch : Bool
+  pub source : Bool
+  pub fixing : Bool
+
 pub record Kind : Type 0 where
   pub spelt : List ℕ
+  pub class : Class
   pub fields : List Field
+
+abbrev pub aHead : Class
+aHead = record { branch = false; source = false; fixing = false }
+
+abbrev pub aBranch : Class
+aBranch = record { branch = true; source = false; fixing = false }
+
+abbrev pub aFixing : Class
+aFixing = record { branch = false; source = true; fixing = true }
+
+abbrev pub anInjecting : Class
+anInjecting = record { branch = false; source = true; fixing = false }
 
 abbrev pub node : Field
 node = record { names = true; low = z; high = pos Limits.nodeEnd }
@@ -50,28 +63,40 @@ signed f = ltZ (f .low) z
 abbrev pub ohmic : Field
 ohmic = number Limits.ohmsLow Limits.ohmsEnd
 
-abbrev pub kindOf : String → List Field → Kind
-kindOf s f = record { spelt = bytes s; fields = f }
+abbrev pub kindOf : String → Class → List Field → Kind
+kindOf s c f = record { spelt = bytes s; class = c; fields = f }
 
 unfoldable pub kinds : List Kind
 unfolding bytes
 kinds =
-    kindOf "study" (number 1 Limits.stepLengthEnd ∷ number 1 Limits.stepsEnd ∷ number 0 Limits.limitEnd ∷ [])
-    ∷ kindOf "R" (node ∷ node ∷ ohmic ∷ [])
-    ∷ kindOf "L" (node ∷ node ∷ number 1 Limits.henryEnd ∷ [])
-    ∷ kindOf "C" (node ∷ node ∷ number 1 Limits.faradEnd ∷ [])
-    ∷ kindOf "LINE" (node ∷ node ∷ ohmic ∷ number 1 Limits.travelEnd ∷ [])
-    ∷ kindOf "SW" (node ∷ node ∷ ohmic ∷ number 1 Limits.openEnd ∷ number 1 Limits.openEnd ∷ [])
-    ∷ kindOf "VS" (node ∷ peakTo Limits.voltageEnd ∷ number 1 Limits.startEnd ∷ number 0 Limits.riseEnd ∷ [])
-    ∷ kindOf "IS" (node ∷ peakTo Limits.injectionEnd ∷ number 1 Limits.startEnd ∷ number 0 Limits.riseEnd ∷ [])
+    kindOf "study" aHead (number 1 Limits.stepLengthEnd ∷ number 1 Limits.stepsEnd ∷ number 0 Limits.limitEnd ∷ [])
+    ∷ kindOf "R" aBranch (node ∷ node ∷ ohmic ∷ [])
+    ∷ kindOf "L" aBranch (node ∷ node ∷ number 1 Limits.henryEnd ∷ [])
+    ∷ kindOf "C" aBranch (node ∷ node ∷ number 1 Limits.faradEnd ∷ [])
+    ∷ kindOf "LINE" aBranch (node ∷ node ∷ ohmic ∷ number 1 Limits.travelEnd ∷ [])
+    ∷ kindOf "SW" aBranch (node ∷ node ∷ ohmic ∷ number 1 Limits.openEnd ∷ number 1 Limits.openEnd ∷ [])
+    ∷ kindOf "VS" aFixing (node ∷ peakTo Limits.voltageEnd ∷ number 1 Limits.startEnd ∷ number 0 Limits.riseEnd ∷ [])
+    ∷ kindOf "IS" anInjecting (node ∷ peakTo Limits.injectionEnd ∷ number 1 Limits.startEnd ∷ number 0 Limits.riseEnd ∷ [])
     ∷ []
 
 -- the number of a word that is none of these
 abbrev pub noKind : ℕ
-noKind = 8
+noKind = length kinds
+
+abbrev pub unknown : Kind
+unknown = record { spelt = []; class = aHead; fields = [] }
 
 unfoldable pub fieldsOf : ℕ → List Field
-fieldsOf k = getD kinds k (record { spelt = []; fields = [] }) .fields
+fieldsOf k = getD kinds k unknown .fields
+
+unfoldable pub branchKind : ℕ → Bool
+branchKind k = getD kinds k unknown .class .branch
+
+unfoldable pub sourceKind : ℕ → Bool
+sourceKind k = getD kinds k unknown .class .source
+
+unfoldable pub fixingKind : ℕ → Bool
+fixingKind k = getD kinds k unknown .class .fixing
 
 -- ---- a row's words
 
@@ -103,18 +128,18 @@ isLine = is 4
 abbrev pub isSwitch : Row → Bool
 isSwitch = is 5
 
-abbrev pub isVS : Row → Bool
-isVS = is 6
-
 abbrev pub isIS : Row → Bool
 isIS = is 7
 
 -- "Branches are numbered from 1 in table order, sources not counted"
 abbrev pub isBranch : Row → Bool
-isBranch r = leb 1 (kind r) && leb (kind r) 5
+isBranch r = branchKind (kind r)
 
 abbrev pub isSource : Row → Bool
-isSource r = isVS r || isIS r
+isSource r = sourceKind (kind r)
+
+abbrev pub isFixing : Row → Bool
+isFixing r = fixingKind (kind r)
 
 -- `study`: step length, steps, limit
 abbrev pub stepLength : Row → ℕ

@@ -1,24 +1,19 @@
 -- One step of one area, from its own records and what it receives: the voltages, or a refusal of 14 to 17. Assumes nothing.
-use Prim.Native.Nat.{ℕ, zero, suc, _+_}
-use mathlib.Core.Bool.{Bool, true, false, cond, not, _&&_, _||_}
-use mathlib.Core.List.{List, [], _∷_, map}
-use lib.ListN.{getD, set, length, replicate, take}
-use lib.Dec.{leb, ltb, eqb}
-use lib.IntN.{ℤ, pos, negℤ, _+ℤ_, _-ℤ_, _*ℤ_}
+use Rattle.whole.specs.Plain.{ℕ, zero, suc, Bool, false, cond, not, _&&_, List, [], _∷_, map, eqb, ℤ, pos, negℤ, _-ℤ_}
+use Rattle.whole.specs.Plain.{_*ℤ_, set, length, replicate, take, Words, z, word, upTo, filled, first, fold, total}
 use lib.Ieee.{Float, fin}
 use Rattle.paper.specs.declared.Equation.{Equation}
 use Rattle.paper.specs.declared.Rounded.{Rounded}
 use Rattle.paper.specs.declared.Rounded.the-variants.{Whole, Outside}
 use Rattle.paper.specs.declared.Advance.{Advance}
 use Rattle.paper.specs.declared.Advance.the-variants.{Floating, Range, Unbalanced, History}
-use Rattle.whole.specs.Lists.{Words, z, word, upTo, filled, any, count, first, numbers, fold, total}
 use Rattle.paper.specs.Limits as Limits
-use Rattle.paper.specs.Rows.{Row, limit, isBranch}
+use Rattle.paper.specs.Rows.{limit}
 use Rattle.paper.specs.Areas.{Net, fixed, freeOf, nodesOf, branchNumber}
 use Rattle.paper.specs.Sources.{held, injected}
 use Rattle.paper.specs.Legs.{Leg, Branch, bothLegs, current, passedOn}
 use Rattle.paper.specs.Floating.{floating}
-use Rattle.paper.specs.Elimination.{System, sys, cell, voltages}
+use Rattle.paper.specs.Elimination.{System, sys, voltages}
 use Rattle.paper.specs.Doubles.{double, nearestOf}
 
 -- ---- the equations

@@ -1,12 +1,6 @@
 -- "A source before its start is 0; from start, with n steps since, it is peak · n / rise rounded toward zero while n < rise; at or after the
 -- rise it is the peak." Assumes nothing.
-use Prim.Native.Nat.{ℕ, _-_}
-use mathlib.Core.Bool.{Bool, true, false, cond, _&&_}
-use mathlib.Core.List.{List, [], _∷_}
-use lib.Dec.{ltb, eqb}
-use lib.IntN.{ℤ, pos, _*ℤ_}
-use lib.Signed.{quotZ}
-use Rattle.whole.specs.Lists.{z, total}
+use Rattle.whole.specs.Plain.{ℕ, _-_, cond, _&&_, ltb, eqb, ℤ, pos, _*ℤ_, quotZ, z, total}
 use Rattle.paper.specs.Rows.{Row, isIS, at, peak, start, rise}
 use Rattle.paper.specs.Faults.{fixes}
 use Rattle.paper.specs.Areas.{Net}

@@ -1,9 +1,6 @@
 -- Which nodes hang together, by rounds: each join takes both of its nodes to the lower of their two marks, 32 times over all the joins.
 -- Assumes nothing.
-use Prim.Native.Nat.{ℕ, zero, suc, min}
-use mathlib.Core.List.{List, [], _∷_}
-use lib.ListN.{getD, set}
-use Rattle.whole.specs.Lists.{fold}
+use Rattle.whole.specs.Plain.{ℕ, min, List, getD, set, fold}
 use Rattle.whole.specs.Turns.{turns}
 use Rattle.paper.specs.Limits as Limits
 

@@ -1,12 +1,6 @@
 -- "Lines end in LF, the last one too; fields are parted by one tab." Assumes nothing.
-use Prim.Native.Nat.{ℕ, zero, suc, _+_, _*_, _-_}
-use mathlib.Core.Path.{_≡_}
-use mathlib.Core.Bool.{Bool, true, false, cond, not, _&&_, _||_, Bool·beq}
-use mathlib.Core.List.{List, [], _∷_, tail}
-use lib.ListN.{getD, length}
-use lib.Dec.{leb, ltb, eqb}
-use lib.IntN.{ℤ, pos, negℤ}
-use Rattle.whole.specs.Lists.{empty, every, fold, sameBytes}
+use Rattle.whole.specs.Plain.{ℕ, suc, _+_, _*_, _-_, Bool, true, false, cond, not, _&&_, _||_, Bool·beq, List, [], _∷_}
+use Rattle.whole.specs.Plain.{tail, leb, eqb, ℤ, pos, negℤ, getD, every, fold, sameBytes}
 use Rattle.paper.specs.Rows.{Row, Kind, Field, kinds, noKind, fieldsOf, signed}
 
 abbrev pub LF : ℕ

@@ -1,13 +1,7 @@
 -- T-total: every call ends in an acceptance or in a refusal of the paper's table, 1 to 7 and 9 from reading, 8 and 9 from resetting, 8 to 17 from
 -- advancing; and a reading's refusal names a line of the text. Assumes nothing.
-use Prim.Native.Nat.{ℕ, zero, suc, _≤_}
-use native.Mathlib.Omega.{arith}
-use mathlib.Core.Path.{_≡_, refl}
-use mathlib.Core.Logic.{_⊎_, inl, inr}
-use mathlib.Core.Bool.{not, _||_}
-use mathlib.Core.List.{List, []}
-use lib.ListN.{length}
-use lib.Dec.{ltb, eqb, lit≤}
+use Rattle.whole.specs.Plain.{ℕ, zero, suc, _≤_, _≡_, refl, _⊎_, inl, inr, not, _||_, List, [], ltb, eqb, lit≤, length}
+use Rattle.whole.specs.Plain.{arith, Words, empty, final, lead, fold}
 use Rattle.paper.specs.declared.Reading.{Reading}
 use Rattle.paper.specs.declared.Reading.the-variants.{Read, Form, Node, Value, Travel, Double, Full, Size}
 use Rattle.paper.specs.declared.Reading.the-variants as R
@@ -17,7 +11,6 @@ use Rattle.paper.specs.declared.Resetting.the-variants as S
 use Rattle.paper.specs.declared.Advance.{Advance}
 use Rattle.paper.specs.declared.Advance.the-variants.{Took, State, Area, Done, Wait, Floating, Range, Unbalanced, History}
 use Rattle.paper.specs.declared.Advance.the-variants as A
-use Rattle.whole.specs.Lists.{Words, empty, final, lead, fold}
 use Rattle.whole.specs.Folds.{fold-keeps}
 use Rattle.paper.specs.Limits as Limits
 use Rattle.paper.specs.Answers.{readingNumber, resettingNumber, advanceNumber}

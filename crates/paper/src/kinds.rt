@@ -1,4 +1,7 @@
-// The kinds of a row, as the network record numbers them: word 0 of a row. What each is for stands in specs/Rows.antt.
+// The kinds of a row, as the network record numbers them: word 0 of a row. What each is for, and its class, stands in specs/Rows.antt.
+ghost use Rattle.whole.specs.Plain.{_≡_};
+ghost use Rattle.paper.specs.Rows.{branchKind, sourceKind, fixingKind};
+
 pub const R: usize = 1;
 
 pub const L: usize = 2;
@@ -12,3 +15,27 @@ pub const SW: usize = 5;
 pub const VS: usize = 6;
 
 pub const IS: usize = 7;
+
+// how many there are, the study's among them
+pub const COUNT: usize = 8;
+
+// ---- their classes
+
+pub fn is_branch(kind: usize) -> bool
+    ensures { λ r. ⌜ r ≡ branchKind kind ⌝ }
+{
+    (kind == R) | (kind == L) | (kind == C) | (kind == LINE) | (kind == SW)
+}
+
+pub fn is_source(kind: usize) -> bool
+    ensures { λ r. ⌜ r ≡ sourceKind kind ⌝ }
+{
+    (kind == VS) | (kind == IS)
+}
+
+// "A node with a VS is fixed"
+pub fn is_fixing(kind: usize) -> bool
+    ensures { λ r. ⌜ r ≡ fixingKind kind ⌝ }
+{
+    kind == VS
+}

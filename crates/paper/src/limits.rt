@@ -1,7 +1,6 @@
 // The ends of the study text's fields, how much of each thing there may be, and how long what is lent is. The definitions' numbers (specs/Limits)
 // are held to these constants once, by the functions at the end: that is all they promise.
-ghost use mathlib.Core.Path.{_≡_};
-ghost use lib.IntN.{pos};
+ghost use Rattle.whole.specs.Plain.{_≡_, pos};
 ghost use Rattle.paper.specs.Limits as Limits;
 use quantity::Balance;
 use quantity::Conductance;

@@ -1,13 +1,7 @@
 -- "A path": what the rounds of `Spread` find out. The mark of a node is the first mark of some node that hangs together with it
 -- (`spread-sound`); that it is at most that of each such node is `spread-complete` of Reached. Assumes nothing.
-use Prim.Native.Nat.{ℕ, zero, suc, _≤_}
-use native.Mathlib.Omega.{arith}
-use native.Mathlib.Decide.{decLe}
-use mathlib.Core.Path.{_≡_, refl, ap, subst}
-use mathlib.Core.Logic.{_⊎_, inl, inr}
-use mathlib.Core.List.{List, [], _∷_}
-use lib.ListN.{getD, set}
-use Rattle.whole.specs.Lists.{fold}
+use Rattle.whole.specs.Plain.{ℕ, zero, suc, _≡_, refl, ap, subst, _⊎_, inl, inr, List, [], _∷_, getD, set, decLe, arith}
+use Rattle.whole.specs.Plain.{fold}
 use Rattle.whole.specs.Turns.{run, turns}
 use Rattle.paper.specs.Limits as Limits
 use Rattle.paper.specs.Spread.{Join, mark, lower, joined, round, spread}
@@ -43,27 +37,30 @@ set-cases [] i v n d = inr refl
 set-cases (x ∷ m) zero v zero d = inl (refl, refl)
 set-cases (x ∷ m) zero v (suc n) d = inr refl
 set-cases (x ∷ m) (suc i) v zero d = inr refl
-set-cases (x ∷ m) (suc i) v (suc n) d = go (set-cases m i v n d)
-  where
-    go : ((i ≡ n) × (getD (set m i v) n d ≡ v)) ⊎ (getD (set m i v) n d ≡ getD m n d)
-        → ((suc i ≡ suc n) × (getD (set m i v) n d ≡ v)) ⊎ (getD (set m i v) n d ≡ getD m n d)
-    go (inl p) = inl (ap suc (p .0), p .1)
-    go (inr p) = inr p
+set-cases (x ∷ m) (suc i) v (suc n) d = elim (set-cases m i v n d) [ inl p ↦ inl (ap suc (p .0), p .1) | inr p ↦ inr p ]
 
 -- ---- sound
 
+-- a node's mark is the first mark of some node that hangs together with it
+pub record Marked (js : List Join) (m : List ℕ) (n v : ℕ) : Type 0 where
+  pub node : ℕ
+  pub way : Linked js n node
+  pub first : v ≡ mark m node
+
 module _ (js : List Join) (m₀ : List ℕ) where
-  record From (n v : ℕ) : Type 0 where
-    node : ℕ
-    way : Linked js n node
-    first : v ≡ mark m₀ node
+  abbrev From : ℕ → ℕ → Type 0
+  From = Marked js m₀
 
   Sound : List ℕ → Type 0
   Sound m = (n : ℕ) → From n (mark m n)
 
   lower-from : (m : List ℕ) (j : Join) → In j js → Sound m → From (j .one) (lower m j) × From (j .two) (lower m j)
   unfolding Sound
-  lower-from m j i s = go (decLe (mark m (j .one)) (mark m (j .two)))
+  lower-from m j i s =
+      elim (decLe (mark m (j .one)) (mark m (j .two))) [
+        | yes h ↦ let e : lower m j ≡ mark m (j .one) = omega arith in rw e (s (j .one), fromOne (s (j .one)))
+        | no h ↦ let e : lower m j ≡ mark m (j .two) = omega arith in rw e (fromTwo (s (j .two)), s (j .two))
+      ]
     where
       fromTwo : From (j .two) (mark m (j .two)) → From (j .one) (mark m (j .two))
       fromTwo f = record { node = f .node; way = linked (hop (record { join = j; within = i; ends = inl (refl, refl) }) (f .way .path)); first = f .first }
@@ -71,26 +68,15 @@ module _ (js : List Join) (m₀ : List ℕ) where
       fromOne : From (j .one) (mark m (j .one)) → From (j .two) (mark m (j .one))
       fromOne f = record { node = f .node; way = linked (hop (record { join = j; within = i; ends = inr (refl, refl) }) (f .way .path)); first = f .first }
 
-      go : Dec (mark m (j .one) ≤ mark m (j .two)) → From (j .one) (lower m j) × From (j .two) (lower m j)
-      go (yes h) = let e : lower m j ≡ mark m (j .one) = omega arith in rw e (s (j .one), fromOne (s (j .one)))
-      go (no h) = let e : lower m j ≡ mark m (j .two) = omega arith in rw e (fromTwo (s (j .two)), s (j .two))
-
   joined-sound : (m : List ℕ) (j : Join) → In j js → Sound m → Sound (joined m j)
   unfolding Sound joined
-  joined-sound m j i s n = go (set-cases (set m (j .one) v) (j .two) v n n) (set-cases m (j .one) v n n)
-    where
-      v : ℕ
-      v = lower m j
-
-      l : From (j .one) v × From (j .two) v
-      l = lower-from m j i s
-
-      go : ((j .two ≡ n) × (mark (joined m j) n ≡ v)) ⊎ (mark (joined m j) n ≡ mark (set m (j .one) v) n)
-          → ((j .one ≡ n) × (mark (set m (j .one) v) n ≡ v)) ⊎ (mark (set m (j .one) v) n ≡ mark m n)
-          → From n (mark (joined m j) n)
-      go (inl p) q = rw (p .1) (subst (λ (x : ℕ). From x v) (p .0) (l .1))
-      go (inr p) (inl q) = rw (p, q .1) (subst (λ (x : ℕ). From x v) (q .0) (l .0))
-      go (inr p) (inr q) = rw (p, q) (s n)
+  joined-sound m j i s n =
+      let v = lower m j in
+      let l = lower-from m j i s in
+      elim (set-cases (set m (j .one) v) (j .two) v n n) [
+        | inl p ↦ rw (p .1) (subst (λ (x : ℕ). From x v) (p .0) (l .1))
+        | inr p ↦ elim (set-cases m (j .one) v n n) [ inl q ↦ rw (p, q .1) (subst (λ (x : ℕ). From x v) (q .0) (l .0)) | inr q ↦ rw (p, q) (s n) ]
+      ]
 
   -- the joins of a part of the list
   All-in : List Join → Type 0
@@ -101,27 +87,11 @@ module _ (js : List Join) (m₀ : List ℕ) where
   fold-sound [] h m s = s
   fold-sound (j ∷ ks) h m s = fold-sound ks (λ i p. h i (below p)) (joined m j) (joined-sound m j (h j top) s)
 
-  round-sound : (i : ℕ) (m : List ℕ) → Sound m → Sound (round js i m)
-  unfolding round All-in
-  round-sound i m s = fold-sound js (λ j p. p) m s
-
   run-sound : (k i : ℕ) (m : List ℕ) → Sound m → Sound (run k i (round js) m)
-  unfolding run
+  unfolding run round All-in
   run-sound zero i m s = s
-  run-sound (suc k) i m s = run-sound k (suc i) (round js i m) (round-sound i m s)
-
-  start-sound : Sound m₀
-  unfolding Sound
-  start-sound n = record { node = n; way = linked stay; first = refl }
-
--- a node's mark is the first mark of some node that hangs together with it
-pub record Marked (js : List Join) (m : List ℕ) (n v : ℕ) : Type 0 where
-  pub node : ℕ
-  pub way : Linked js n node
-  pub first : v ≡ mark m node
+  run-sound (suc k) i m s = run-sound k (suc i) (round js i m) (fold-sound js (λ j p. p) m s)
 
 pub spread-sound : (js : List Join) (m : List ℕ) (n : ℕ) → Marked js m n (mark (spread js m) n)
 unfolding spread turns Sound
-spread-sound js m n =
-    let f : From js m n (mark (spread js m) n) = run-sound js m Limits.nodeEnd 0 m (start-sound js m) n in
-    record { node = f .node; way = f .way; first = f .first }
+spread-sound js m n = run-sound js m Limits.nodeEnd 0 m (λ i. record { node = i; way = linked stay; first = refl }) n

@@ -1,12 +1,6 @@
 -- What a round does to the marks: none rises, and each comes to its neighbours' at most. Assumes nothing.
-use Prim.Native.Nat.{ℕ, zero, suc, _≤_, _<_}
-use native.Mathlib.Omega.{arith}
-use mathlib.Core.Path.{_≡_, refl, ap, _∙_}
-use mathlib.Core.Logic.{_⊎_, inl, inr}
-use mathlib.Core.List.{List, [], _∷_}
-use lib.ListN.{length, set, length-set}
-use lib.Seq.{getD-set-same}
-use Rattle.whole.specs.Lists.{fold}
+use Rattle.whole.specs.Plain.{ℕ, zero, suc, _≤_, _<_, _≡_, refl, ap, _∙_, inl, inr, List, [], _∷_, length, set}
+use Rattle.whole.specs.Plain.{length-set, getD-set-same, arith, fold}
 use Rattle.whole.specs.Turns.{run}
 use Rattle.paper.specs.Limits as Limits
 use Rattle.paper.specs.Spread.{Join, mark, lower, joined, round}
@@ -25,36 +19,21 @@ length-joined m j = simp length-set
 -- no mark rises
 pub joined-falls : (m : List ℕ) (j : Join) (n : ℕ) → mark (joined m j) n ≤ mark m n
 unfolding joined
-joined-falls m j n = go (set-cases (set m (j .one) v) (j .two) v n n) (set-cases m (j .one) v n n)
-  where
-    v : ℕ
-    v = lower m j
-
-    go : ((j .two ≡ n) × (mark (joined m j) n ≡ v)) ⊎ (mark (joined m j) n ≡ mark (set m (j .one) v) n)
-        → ((j .one ≡ n) × (mark (set m (j .one) v) n ≡ v)) ⊎ (mark (set m (j .one) v) n ≡ mark m n)
-        → mark (joined m j) n ≤ mark m n
-    go (inl p) q = omega (arith, ap (mark m) (p .0), p .1)
-    go (inr p) (inl q) = omega (arith, ap (mark m) (q .0), p, q .1)
-    go (inr p) (inr q) = omega (arith, p, q)
+joined-falls m j n =
+    let v = lower m j in
+    elim (set-cases (set m (j .one) v) (j .two) v n n) [
+      | inl p ↦ omega (arith, ap (mark m) (p .0), p .1)
+      | inr p ↦ elim (set-cases m (j .one) v n n) [ inl q ↦ omega (arith, ap (mark m) (q .0), p, q .1) | inr q ↦ omega (arith, p, q) ]
+    ]
 
 -- a join takes each of its ends to the other's mark at most
 pub joined-low : (m : List ℕ) (j : Join) → j .one < length m → j .two < length m → (mark (joined m j) (j .one) ≤ lower m j) × (mark (joined m j) (j .two) ≤ lower m j)
 unfolding joined
-joined-low m j p q = (go (set-cases (set m (j .one) v) (j .two) v (j .one) (j .one)), omega (arith, second))
-  where
-    v : ℕ
-    v = lower m j
-
-    first : mark (set m (j .one) v) (j .one) ≡ v
-    first = getD-set-same m (j .one) v (j .one) p
-
-    second : mark (set (set m (j .one) v) (j .two) v) (j .two) ≡ v
-    second = getD-set-same (set m (j .one) v) (j .two) v (j .two) (rw length-set q)
-
-    go : ((j .two ≡ j .one) × (mark (joined m j) (j .one) ≡ v)) ⊎ (mark (joined m j) (j .one) ≡ mark (set m (j .one) v) (j .one))
-        → mark (joined m j) (j .one) ≤ v
-    go (inl e) = omega (arith, e .1)
-    go (inr e) = omega (arith, e, first)
+joined-low m j p q =
+    let v = lower m j in
+    let first : mark (set m (j .one) v) (j .one) ≡ v = getD-set-same m (j .one) v (j .one) p in
+    let second : mark (joined m j) (j .two) ≡ v = getD-set-same (set m (j .one) v) (j .two) v (j .two) (rw length-set q) in
+    (elim (set-cases (set m (j .one) v) (j .two) v (j .one) (j .one)) [ inl e ↦ omega (arith, e .1) | inr e ↦ omega (arith, e, first) ], omega (arith, second))
 
 pub fold-length : (js : List Join) (m : List ℕ) → length (fold joined m js) ≡ length m
 unfolding fold
@@ -69,20 +48,18 @@ fold-falls (j ∷ js) m n = omega (arith, fold-falls js (joined m j) n, joined-f
 -- one round takes a node to its neighbour's mark at most
 pub fold-near : (js : List Join) (m : List ℕ) (n p : ℕ) → Inside js (length m) → Beside js n p → mark (fold joined m js) n ≤ mark m p
 unfolding fold Inside
-fold-near js m n p h b = go js m h (b .join) (b .within) (b .ends)
+fold-near js m n p h b = go js m h (b .within)
   where
-    Ends : Join → Type 0
-    Ends j = ((j .one ≡ n) × (j .two ≡ p)) ⊎ ((j .one ≡ p) × (j .two ≡ n))
+    head : (m : List ℕ) → (b .join .one < length m) × (b .join .two < length m) → mark (joined m (b .join)) n ≤ mark m p
+    head m i =
+        let j = b .join in
+        let l = joined-low m j (i .0) (i .1) in
+        elim (b .ends)
+        [ inl e ↦ omega (arith, l .0, ap (mark (joined m j)) (e .0), ap (mark m) (e .1)) | inr e ↦ omega (arith, l .1, ap (mark (joined m j)) (e .1), ap (mark m) (e .0)) ]
 
-    head : (m : List ℕ) (j : Join) → (j .one < length m) × (j .two < length m) → Ends j → mark (joined m j) n ≤ mark m p
-    head m j i (inl e) = omega (arith, joined-low m j (i .0) (i .1) .0, ap (mark (joined m j)) (e .0), ap (mark m) (e .1))
-    head m j i (inr e) = omega (arith, joined-low m j (i .0) (i .1) .1, ap (mark (joined m j)) (e .1), ap (mark m) (e .0))
-
-    go : (js : List Join) (m : List ℕ) → ((j : Join) → In j js → (j .one < length m) × (j .two < length m))
-        → (j : Join) → In j js → Ends j → mark (fold joined m js) n ≤ mark m p
-    go (k ∷ js) m h j top e = omega (arith, fold-falls js (joined m j) n, head m j (h j top) e)
-    go (k ∷ js) m h j (below i) e =
-        omega (arith, go js (joined m k) (λ l q. rw length-joined (h l (below q))) j i e, joined-falls m k p)
+    go : (js : List Join) (m : List ℕ) → ((j : Join) → In j js → (j .one < length m) × (j .two < length m)) → In (b .join) js → mark (fold joined m js) n ≤ mark m p
+    go (k ∷ js) m h top = omega (arith, fold-falls js (joined m k) n, head m (h k top))
+    go (k ∷ js) m h (below i) = omega (arith, go js (joined m k) (λ l q. rw length-joined (h l (below q))) i, joined-falls m k p)
 
 -- the rounds, the last one outermost
 pub run-last : (js : List Join) (k i : ℕ) (m : List ℕ) → run (suc k) i (round js) m ≡ fold joined (run k i (round js) m) js

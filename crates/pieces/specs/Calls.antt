@@ -1,16 +1,9 @@
 -- T-pieces: the pieces that repeated calls list, one after another, are the listing, whatever the lengths of the buffers. Assumes nothing.
-use Prim.Native.Nat.{ℕ, zero, suc, _+_, _-_, _≤_, _<_}
-use native.Mathlib.Omega.{arith}
+use Rattle.whole.specs.Plain.{ℕ, zero, suc, _+_, _-_, _≤_, _<_, _≡_, refl, sym, ap, _∙_, true, List, [], _++_, length}
+use Rattle.whole.specs.Plain.{le-leb, lt-leb, decLe, arith, Words}
 use native.Mathlib.Numerals.{add-one}
-use mathlib.Core.Path.{_≡_, refl, sym, ap, _∙_}
-use mathlib.Core.Bool.{Bool, true, false}
-use mathlib.Core.List.{List, [], _∷_, _++_, append-assoc, append-nil}
-use borrow.Author.Tests.{leb-true, leb-false}
-use lib.Dec.{leb}
-use lib.ListN.{length}
 use Rattle.paper.specs.declared.Listing.{Listing}
 use Rattle.paper.specs.declared.Listing.the-variants.{More, Done, Stopped, Network, Store, State}
-use Rattle.whole.specs.Lists.{Words}
 use Rattle.whole.specs.Turns.{turns, turns-more, turns-done}
 use Rattle.whole.specs.TurnLaws.{turns-keeps}
 use Rattle.paper.specs.Limits as Limits
@@ -20,11 +13,11 @@ use Rattle.paper.specs.Areas.{Net, areaCount}
 use Rattle.paper.specs.Advance.{Memory}
 use Rattle.paper.specs.Listing.{Run, going, areaRun, stepRun, closing}
 use Rattle.paper.specs.Listing as Listing
-use Rattle.paper.specs.Pieces.{Listed, listed, Piece, writing, ended, stepPiece, ifRoom, turnPiece}
+use Rattle.paper.specs.Pieces.{Listed, listed, Piece, writing, ended, stepPiece, turnPiece}
 use Rattle.paper.specs.Pieces as Pieces
 use Rattle.facts.specs.Nets.{netIn}
 use Rattle.pieces.specs.Level.{Level}
-use Rattle.pieces.specs.Steps.{run-ended, Stepped, full, stopped, stepped}
+use Rattle.pieces.specs.Steps.{run-ended, full, stopped, stepped}
 use Rattle.pieces.specs.Runs.{asRun, step-as, runFrom, run-from}
 
 -- what follows a piece: the next one where more is to list, nothing otherwise
@@ -36,14 +29,10 @@ onward Network rest = []
 onward Store rest = []
 onward State rest = []
 
-turn-ended : (net : Words) (N : Net) (room k : ℕ) (l : Listed) → turnPiece net N room k (ended l) ≡ ended l
-unfolding turnPiece
-turn-ended net N room k l = refl
-
 -- what has ended stays so
 pub turns-ended : (net : Words) (N : Net) (room i n : ℕ) (l : Listed) → turns i n (turnPiece net N room) (ended l) ≡ ended l
-unfolding turns
-turns-ended net N room i n l = run-ended (turnPiece net N room) (turn-ended net N room) (n - i) i l
+unfolding turns turnPiece
+turns-ended net N room i n l = run-ended (turnPiece net N room) (λ k x. refl) (n - i) i l
 
 still : {A : Type 0} (f : ℕ → A → A) (c : A) → ((j : ℕ) → f j c ≡ c) → (i n : ℕ) → turns i n f c ≡ c
 still f c h i n = turns-keeps (λ x. x ≡ c) i n f (λ j x l k q. ap (f j) q ∙ h j) c refl
@@ -88,20 +77,13 @@ module _ (net : Words) (network : isNetwork net ≡ true) where
         (whole (λ rest. refl) (ap (λ (l : List ℕ). out ++ l) (ap (closing N) (sym (turns-done (suc k) last (stepRun net N) (going m []) h)))))
     ends (suc d) k m out e v =
         let t = turns-more (suc k) last (turnPiece net N room) (writing m out) (omega arith) in
-        rw (rw (add-one (suc k)) at t) (go (leb (length out + Limits.stepBytes) room) refl (λ m′ out′ v′. ends d (suc k) m′ out′ (omega arith) v′))
-      where
-        go : (b : Bool) → leb (length out + Limits.stepBytes) room ≡ b
-            → ((m′ : Memory) (out′ : List ℕ) → Level net network (suc k) m′ → Ends (suc k) m′ out′ (Pieces.closing N (turns (suc (suc k)) last (turnPiece net N room) (writing m′ out′))))
-            → Ends k m out (Pieces.closing N (turns (suc (suc k)) last (turnPiece net N room) (ifRoom net N (suc k) m out b)))
-        go false x next =
-            rw (turns-ended net N room (suc (suc k)) last (listed More out m))
-            (more k refl v (omega arith) (omega arith) (λ q. absurd (omega (arith, leb-false (length out + Limits.stepBytes) room x))) refl)
-        go true x next = step (stepped net network k (omega arith) out m v)
-          where
-            step : Stepped net network k (omega arith) out (stepPiece net N (suc k) (writing m out))
-                → Ends k m out (Pieces.closing N (turns (suc (suc k)) last (turnPiece net N room) (stepPiece net N (suc k) (writing m out))))
-            step (full m′ q v′) =
-                rw q (after-step (sym (run-from net N (suc k) m′ _) ∙ further k m out _ (omega arith) q) (next m′ _ v′))
-            step (stopped l q y) =
-                rw (q, turns-ended net N room (suc (suc k)) last l)
+        rw (rw (add-one (suc k)) at t)
+        (elim (decLe (length out + Limits.stepBytes) room) [
+          | no x ↦ rw (lt-leb (length out + Limits.stepBytes) room (omega arith), turns-ended net N room (suc (suc k)) last (listed More out m))
+              (more k refl v (omega arith) (omega arith) (λ q. absurd (x q)) refl)
+          | yes x ↦ rw (le-leb (length out + Limits.stepBytes) room x) (elim (stepped net network k (omega arith) out m v) [
+            | full m′ q v′ ↦ rw q (after-step (sym (run-from net N (suc k) m′ _) ∙ further k m out _ (omega arith) q) (ends d (suc k) m′ _ (omega arith) v′))
+            | stopped l q y ↦ rw (q, turns-ended net N room (suc (suc k)) last l)
                 (whole (λ rest. rw y) (ap (closing N) (sym (run-over net N (suc (suc k)) last (l .written))) ∙ further k m out (ended l) (omega arith) q))
+          ])
+        ])

@@ -1,58 +1,34 @@
 -- A network without areas: it has no nodes and no rows, and a run of it lists nothing before its last line. Assumes nothing.
-use Prim.Native.Nat.{ℕ, zero, suc, _+_, _≤_, _<_}
-use native.Mathlib.Omega.{arith}
-use native.Mathlib.Decide.{decLt, ℕ-discrete}
-use mathlib.Core.Path.{_≡_, refl, sym, ap, _∙_}
-use mathlib.Core.Bool.{Bool, true, false, _||_}
-use mathlib.Core.List.{List, [], _∷_, _++_, append-nil}
-use borrow.Author.Tests.{le-leb, eq-eqb}
-use lib.ListN.{length}
-use lib.Dec.{eqb}
-use Rattle.whole.specs.Lists.{Words, numbers}
-use Rattle.whole.specs.Turns.{turns, turns-done}
+use Rattle.whole.specs.Plain.{ℕ, suc, _<_, _+_, _≡_, refl, sym, ap, _∙_, Bool, true, false, cond, [], length, decLt}
+use Rattle.whole.specs.Plain.{arith, Words, numbers}
+use Rattle.whole.specs.Turns.{turns-done}
 use Rattle.whole.specs.TurnLaws.{turns-keeps}
-use Rattle.paper.specs.Rows.{Row, kind, isBranch, isSource, from, to, at, steps}
-use Rattle.paper.specs.Network.{isNetwork}
-use Rattle.paper.specs.Areas.{Net, areaCount, step}
+use Rattle.paper.specs.Rows.{kind, isBranch, isSource, at, steps}
+use Rattle.paper.specs.Classes.{one-sort}
+use Rattle.paper.specs.Areas.{Net, areaCount}
 use Rattle.paper.specs.Advance.{Memory}
 use Rattle.paper.specs.Listing.{going, areaRun, listed, stepRun, closing, stepLines, voltLines, currentLines}
 use Rattle.facts.specs.Nets.{NetSound, rowAt, area-of}
-use Rattle.facts.specs.Sound.{RowSound}
 use Rattle.pieces.specs.Runs.{runFrom}
-
-source-kind : (k : ℕ) → 6 ≤ k → k ≤ 7 → (eqb k 6 || eqb k 7) ≡ true
-source-kind k l h = go (ℕ-discrete k 6)
-  where
-    go : Dec (k ≡ 6) → (eqb k 6 || eqb k 7) ≡ true
-    go (yes e) = rw e
-    go (no n) = let e : k ≡ 7 = omega arith in rw e
+use Rattle.facts.specs.Sound.{RowSound}
 
 module _ (N : Net) (s : NetSound N) (e : areaCount N ≡ 0) where
   no-nodes : N .nodes ≡ 0
-  no-nodes = go (N .nodes) refl
-    where
-      go : (n : ℕ) → N .nodes ≡ n → n ≡ 0
-      go zero q = refl
-      go (suc n) q = absurd (omega (arith, s .areaLeast 1 (omega arith) (omega arith), area-of N 1))
+  no-nodes = elim (decLt (N .nodes) 1) [ yes h ↦ omega arith | no h ↦ absurd (omega (arith, s .areaLeast 1 (omega arith) (omega arith), area-of N 1)) ]
 
   no-row : (i : ℕ) → i < length (N .rows) → ⊥
-  no-row i h = go (decLt (kind (rowAt N i)) 6)
+  no-row i h = go (isBranch (rowAt N i)) (isSource (rowAt N i)) refl refl (one-sort (kind (rowAt N i)) (f .kindLeast) (f .kindMost))
     where
       f : RowSound (N .head) (N .nodes) (rowAt N i)
       f = s .row i h
 
-      go : Dec (kind (rowAt N i) < 6) → ⊥
-      go (yes k) =
-          let b = f .branch (rw (le-leb 1 (kind (rowAt N i)) (f .kindLeast), le-leb (kind (rowAt N i)) 5 (omega arith))) in
-          b .apart (omega (arith, no-nodes, b .fromIn .most, b .toIn .most))
-      go (no k) = omega (arith, no-nodes, f .source (source-kind (kind (rowAt N i)) (omega arith) (f .kindMost)) .atIn .least, f .source (source-kind (kind (rowAt N i)) (omega arith) (f .kindMost)) .atIn .most)
+      go : (b c : Bool) → isBranch (rowAt N i) ≡ b → isSource (rowAt N i) ≡ c → cond (isBranch (rowAt N i)) 1 0 + cond (isSource (rowAt N i)) 1 0 ≡ 1 → ⊥
+      go true c p q one = let b = f .branch p in b .apart (omega (arith, no-nodes, b .fromIn .most, b .toIn .most))
+      go false true p q one = omega (arith, no-nodes, f .source q .atIn .least, f .source q .atIn .most)
+      go false false p q one = let z : 0 + 0 ≡ 1 = rw (p, q) at one in omega arith
 
   no-rows : length (N .rows) ≡ 0
-  no-rows = go (length (N .rows)) refl
-    where
-      go : (n : ℕ) → length (N .rows) ≡ n → n ≡ 0
-      go zero q = refl
-      go (suc n) q = absurd (no-row 0 (omega arith))
+  no-rows = elim (decLt (length (N .rows)) 1) [ yes h ↦ omega arith | no h ↦ absurd (no-row 0 (omega arith)) ]
 
   no-lines : (recs : Words) (k : ℕ) → stepLines N recs k ≡ []
   unfolding stepLines voltLines currentLines numbers

@@ -1,10 +1,6 @@
 -- E3 by pieces: a buffer of 4,160 bytes takes one step at a time. Assumes nothing.
-use mathlib.Core.Path.{_≡_, refl}
-use mathlib.Core.List.{List, [], _∷_}
-use lib.ListN.{replicate}
-use Rattle.paper.specs.declared.Listing.{Listing}
+use Rattle.whole.specs.Plain.{_≡_, refl, [], _∷_, replicate, Words, z}
 use Rattle.paper.specs.declared.Listing.the-variants.{More, Done}
-use Rattle.whole.specs.Lists.{Words, z}
 use Rattle.paper.specs.Limits as Limits
 use Rattle.paper.specs.Reading.{readOf}
 use Rattle.paper.specs.Resetting.{fresh}

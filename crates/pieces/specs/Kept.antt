@@ -1,14 +1,8 @@
 -- T-kept, of listing: a call refused with 8, 9 or 10 writes nothing and leaves all lent memory as it was. Assumes nothing.
-use Prim.Native.Nat.{ℕ, suc, _+_}
-use native.Mathlib.Omega.{arith}
-use mathlib.Core.Path.{_≡_, refl, sym, ap, _∙_}
-use mathlib.Core.Bool.{Bool, true, false, cond, not, _||_, true≢false}
-use mathlib.Core.List.{List, []}
-use lib.Dec.{leb, ltb}
-use lib.ListN.{length}
+use Rattle.whole.specs.Plain.{ℕ, suc, _+_, _≡_, refl, sym, _∙_, Bool, true, false, not, _||_, true≢false, List, [], leb}
+use Rattle.whole.specs.Plain.{ltb, length, arith, Words}
 use Rattle.paper.specs.declared.Listing.{Listing}
 use Rattle.paper.specs.declared.Listing.the-variants.{More, Done, Stopped, Network, Store, State}
-use Rattle.whole.specs.Lists.{Words}
 use Rattle.whole.specs.TurnLaws.{turns-keeps}
 use Rattle.paper.specs.Limits as Limits
 use Rattle.paper.specs.Network.{isNetwork, tableOf}

@@ -1,21 +1,13 @@
 -- States in step: all areas have taken k steps, or those before one of them have taken one more. There no area waits for another, and an accepted
 -- advance leads on. Assumes nothing.
-use Prim.Native.Nat.{ℕ, zero, suc, _+_, _≤_, _<_}
-use native.Mathlib.Omega.{arith}
-use native.Mathlib.Decide.{ℕ-discrete, decLt}
-use mathlib.Core.Path.{_≡_, refl, sym, ap, _∙_}
-use mathlib.Core.Bool.{Bool, true, false, cond, not, _&&_}
-use borrow.Author.Tests.{le-leb, lt-leb}
-use lib.ListN.{length}
-use lib.Dec.{leb}
-use Rattle.whole.specs.Lists.{Words}
-use Rattle.paper.specs.Rows.{isLine, from, to, steps}
+use Rattle.whole.specs.Plain.{ℕ, suc, _≤_, _<_, _≡_, ap, _∙_, true, le-leb, lt-leb, ℕ-discrete, decLt, arith, Words}
+use Rattle.paper.specs.Rows.{from, to, steps}
 use Rattle.paper.specs.Network.{isNetwork}
 use Rattle.paper.specs.Areas.{Net, areaOf, areaCount}
-use Rattle.paper.specs.Records.{countOf, wellFormed}
+use Rattle.paper.specs.Records.{countOf}
 use Rattle.paper.specs.Answers.{accepted}
-use Rattle.paper.specs.Advance.{Memory, Advanced, ready, orWait, firstLate, onNext, onNet, advanceOf}
-use Rattle.facts.specs.Nets.{netIn, rowAt, net-sound, area-of, area-count-most}
+use Rattle.paper.specs.Advance.{Memory, Advanced, ready, onNext, onNet, advanceOf}
+use Rattle.facts.specs.Nets.{netIn, rowAt, net-sound, area-of}
 use Rattle.local.specs.Sound.{Sound, sound}
 use Rattle.local.specs.Slots.{delayAt}
 use Rattle.local.specs.Waits.{Free, late-not}
@@ -50,11 +42,7 @@ module _ (net : Words) (network : isNetwork net ≡ true) where
     own = p .left a one (omega arith) most
 
     any : (b : ℕ) → 1 ≤ b → b ≤ areaCount N → k ≤ countOf (m .records) b
-    any b o q = go (decLt b a)
-      where
-        go : Dec (b < a) → k ≤ countOf (m .records) b
-        go (yes h) = omega (arith, p .past b o h q)
-        go (no h) = omega (arith, p .left b o (omega arith) q)
+    any b o q = elim (decLt b a) [ yes h ↦ omega (arith, p .past b o h q) | no h ↦ omega (arith, p .left b o (omega arith) q) ]
 
     -- "T-fewest": every other area has taken k steps at least, and a line's delay is one at least
     free : Free N a (suc k) (m .records)
@@ -87,10 +75,9 @@ module _ (net : Words) (network : isNetwork net ≡ true) where
       leads-on =
           record {
             inv = keep net network a m (p .inv);
-            past = λ b o h q. rw after-is (past-one b o h q (ℕ-discrete a b));
+            past = λ b o h q. rw after-is (elim (ℕ-discrete a b) [
+              | yes x ↦ rw (← x) (own-count net network a m (p .inv) t ∙ ap suc own)
+              | no x ↦ other-count net network a m (p .inv) t b o (few b q) x ∙ p .past b o (omega arith) q
+            ]);
             left = λ b o h q. rw after-is (other-count net network a m (p .inv) t b o (few b q) (λ x. omega arith) ∙ p .left b o (omega arith) q);
           }
-        where
-          past-one : (b : ℕ) → 1 ≤ b → b < suc a → b ≤ areaCount N → Dec (a ≡ b) → countOf (next net network a m (p .inv) t .records) b ≡ suc k
-          past-one b o h q (yes x) = rw (← x) (own-count net network a m (p .inv) t ∙ ap suc own)
-          past-one b o h q (no x) = other-count net network a m (p .inv) t b o (few b q) x ∙ p .past b o (omega arith) q

@@ -1,10 +1,6 @@
 -- A piece as a part of the paper's run, and a run with some bytes before it. Assumes nothing.
-use Prim.Native.Nat.{ℕ, suc, _+_, _≤_, _<_}
-use mathlib.Core.Path.{_≡_, refl, sym, ap, _∙_}
-use mathlib.Core.Bool.{Bool, true, false}
-use mathlib.Core.List.{List, [], _∷_, _++_, append-assoc, append-nil}
-use lib.IntN.{pos}
-use Rattle.whole.specs.Lists.{Words}
+use Rattle.whole.specs.Plain.{ℕ, suc, _+_, _≡_, refl, sym, ap, _∙_, Bool, true, false, List, [], _∷_, _++_}
+use Rattle.whole.specs.Plain.{append-assoc, append-nil, pos, Words}
 use Rattle.whole.specs.Turns.{turns}
 use Rattle.whole.specs.TurnLaws.{turns-view}
 use Rattle.paper.specs.Rows.{bytes, steps}

@@ -1,11 +1,7 @@
 -- A full step from a state in step: all areas take it and its lines are listed, or a refused area ends the piece. Assumes nothing.
-use Prim.Native.Nat.{ℕ, zero, suc, _+_, _-_, _≤_, _<_}
-use native.Mathlib.Omega.{arith}
-use mathlib.Core.Path.{_≡_, refl, sym, ap, _∙_}
-use mathlib.Core.Bool.{Bool, true, false}
-use mathlib.Core.List.{List, [], _∷_, _++_}
+use Rattle.whole.specs.Plain.{ℕ, zero, suc, _+_, _-_, _≤_, _<_, _≡_, refl, ap, _∙_, true, false, List, _++_, arith}
+use Rattle.whole.specs.Plain.{Words}
 use Rattle.paper.specs.declared.Listing.the-variants.{Stopped}
-use Rattle.whole.specs.Lists.{Words}
 use Rattle.whole.specs.Turns.{run, turns}
 use Rattle.paper.specs.Rows.{steps}
 use Rattle.paper.specs.Network.{isNetwork}
@@ -23,10 +19,6 @@ unfolding run
 run-ended f h zero i l = refl
 run-ended f h (suc d) i l = ap (run d (suc i) f) (h i l) ∙ run-ended f h d (suc i) l
 
-area-ended : (net : Words) (k a : ℕ) (l : Listed) → areaPiece net k a (ended l) ≡ ended l
-unfolding areaPiece
-area-ended net k a l = refl
-
 module _ (net : Words) (network : isNetwork net ≡ true) where
   abbrev N : Net
   N = netIn net
@@ -40,13 +32,11 @@ module _ (net : Words) (network : isNetwork net ≡ true) where
     turned : (d a : ℕ) (m : Memory) → Partway net network k a m → 1 ≤ a → a + d ≡ suc (areaCount N) → Turned (run d a (areaPiece net (suc k)) (writing m out))
     unfolding run areaPiece
     turned zero a m p one e = let q : a ≡ suc (areaCount N) = omega arith in all-took m refl (level-end net network (rw q at p))
-    turned (suc d) a m p one e = go (accepted (advanceOf net a m .answer)) refl (λ m′ p′. turned d (suc a) m′ p′ (omega arith) (omega arith))
-      where
-        go : (b : Bool) → accepted (advanceOf net a m .answer) ≡ b
-            → ((m′ : Memory) → Partway net network k (suc a) m′ → Turned (run d (suc a) (areaPiece net (suc k)) (writing m′ out)))
-            → Turned (run d (suc a) (areaPiece net (suc k)) (wentOn (suc k) a out (advanceOf net a m) b))
-        go true x next = next (advanceOf net a m .after) (leads-on net network k a m p one (omega arith) x)
-        go false x next = one-refused _ (run-ended (areaPiece net (suc k)) (area-ended net (suc k)) d (suc a) _) refl
+    turned (suc d) a m p one e =
+        elim (accepted (advanceOf net a m .answer)) as (λ b. accepted (advanceOf net a m .answer) ≡ b → Turned (run d (suc a) (areaPiece net (suc k)) (wentOn (suc k) a out (advanceOf net a m) b))) [
+          | true ↦ λ x. turned d (suc a) (advanceOf net a m .after) (leads-on net network k a m p one (omega arith) x) (omega arith) (omega arith)
+          | false ↦ λ x. one-refused _ (run-ended (areaPiece net (suc k)) (λ j x. refl) d (suc a) _) refl
+        ] refl
 
     -- the whole step
     pub data Stepped (s : Piece) : Type 0 where
@@ -55,8 +45,6 @@ module _ (net : Words) (network : isNetwork net ≡ true) where
 
     pub stepped : (m : Memory) → Level net network k m → Stepped (stepPiece net N (suc k) (writing m out))
     unfolding stepPiece fullStep turns
-    stepped m v = go (turned (suc (areaCount N) - 1) 1 m (level-start net network v) (omega arith) (omega arith))
-      where
-        go : {s : Piece} → Turned s → Stepped (fullStep N (suc k) s)
-        go (all-took m′ e v′) = full m′ (ap (fullStep N (suc k)) e) v′
-        go (one-refused l e x) = stopped l (ap (fullStep N (suc k)) e) x
+    stepped m v =
+        elim (turned (suc (areaCount N) - 1) 1 m (level-start net network v) (omega arith) (omega arith))
+        [ all-took m′ e v′ ↦ full m′ (ap (fullStep N (suc k)) e) v′ | one-refused l e x ↦ stopped l (ap (fullStep N (suc k)) e) x ]

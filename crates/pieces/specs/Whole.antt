@@ -1,39 +1,29 @@
 -- T-pieces, of a whole run: from a reset, the pieces of at most as many calls as the study has steps are the listing. Assumes nothing.
-use Prim.Native.Nat.{ℕ, zero, suc, _+_, _-_, _≤_, _<_}
-use native.Mathlib.Nat.{le-trans}
-use native.Mathlib.Omega.{arith}
-use native.Mathlib.Decide.{ℕ-discrete}
-use mathlib.Core.Path.{_≡_, refl, sym, ap, _∙_, subst}
-use mathlib.Core.Bool.{Bool, true, false, cond, not, _||_}
-use mathlib.Core.List.{List, [], _∷_, _++_, append-nil}
-use borrow.Author.Tests.{eq-eqb, ne-eqb, eqb-true, le-ltb, leb-true}
-use lib.Dec.{leb, ltb, eqb}
-use lib.IntN.{pos}
-use lib.ListN.{length, getD, replicate}
+use Rattle.whole.specs.Plain.{ℕ, _+_, _-_, _≤_, _<_, _≡_, refl, sym, ap, _∙_, true, cond, List, [], _∷_, _++_}
+use Rattle.whole.specs.Plain.{append-nil, leb, eqb, pos, length, replicate, eq-eqb, ne-eqb, le-ltb, leb-true, le-trans}
+use Rattle.whole.specs.Plain.{ℕ-discrete, arith, Words, z, nat, every, numbers}
 use Rattle.paper.specs.declared.Reading.{Reading}
 use Rattle.paper.specs.declared.Reading.the-variants.{Read, Form, Node, Value, Travel, Double, Full, Size}
 use Rattle.paper.specs.declared.Reading.the-variants as R
-use Rattle.paper.specs.declared.Listing.the-variants.{More}
-use Rattle.whole.specs.Lists.{Words, z, nat, every, numbers}
 use Rattle.whole.specs.Folds.{and-left, and-right, every-if, getD-numbers, length-numbers}
 use Rattle.paper.specs.Limits as Limits
 use Rattle.paper.specs.Rows.{bytes, steps}
-use Rattle.paper.specs.Network.{isNetwork, tableOf}
-use Rattle.paper.specs.Areas.{Net, netOf, areaCount}
+use Rattle.paper.specs.Network.{isNetwork}
+use Rattle.paper.specs.Areas.{Net, areaCount}
 use Rattle.paper.specs.Records.{countAt, countOf}
 use Rattle.paper.specs.Answers.{readingNumber, readingLine}
-use Rattle.paper.specs.Reading.{Read-out, readOut, readOf}
-use Rattle.paper.specs.Advance.{Memory, fits}
-use Rattle.paper.specs.Resetting.{fresh, resetOf}
+use Rattle.paper.specs.Reading.{readOut, readOf}
+use Rattle.paper.specs.Advance.{Memory}
+use Rattle.paper.specs.Resetting.{fresh}
 use Rattle.paper.specs.Listing.{lineOf, runOf, listing, listingFrom}
-use Rattle.paper.specs.Pieces.{Listed, stepsTaken, level, pieceOf, onLevel, listOf}
+use Rattle.paper.specs.Pieces.{stepsTaken, level, pieceOf, onLevel, listOf}
 use Rattle.facts.specs.Nets.{netIn, net-sound}
 use Rattle.stays.specs.Stays.{fresh-well, zero-word}
 use Rattle.demands.specs.States.{long-fits, fresh-long}
 use Rattle.spelling.specs.Networks.{network-exactly}
 use Rattle.pieces.specs.Level.{Level}
 use Rattle.pieces.specs.Runs.{runFrom}
-use Rattle.pieces.specs.Calls.{onward, Ends, more, whole, ends}
+use Rattle.pieces.specs.Calls.{onward, more, whole, ends}
 use Rattle.pieces.specs.Empty.{run-none}
 
 -- the pieces of repeated calls, each with the room that it is lent, until one is the last
@@ -80,32 +70,22 @@ module _ (net : Words) (network : isNetwork net ≡ true) where
   -- where a step is left there are areas
   some-areas : (k : ℕ) (m : Memory) → Stands k m → k < steps (N .head) → 1 ≤ areaCount N
   unfolding stepsTaken
-  some-areas k m e h = go (ℕ-discrete (areaCount N) 0)
-    where
-      go : Dec (areaCount N ≡ 0) → 1 ≤ areaCount N
-      go (yes q) = let x : steps (N .head) ≡ k = rw (eq-eqb (areaCount N) 0 q) at e in absurd (omega arith)
-      go (no q) = omega arith
+  some-areas k m e h =
+      elim (ℕ-discrete (areaCount N) 0) [ yes q ↦ let x : steps (N .head) ≡ k = rw (eq-eqb (areaCount N) 0 q) at e in absurd (omega arith) | no q ↦ omega arith ]
 
   pub calls : (rooms : List ℕ) (k : ℕ) (m : Memory) → Roomy rooms → Level net network k m → Stands k m → k ≤ steps (N .head)
       → 1 ≤ length rooms → steps (N .head) - k ≤ length rooms → pieced net rooms m ≡ runFrom net N k m
   unfolding pieced every pieceOf
   calls [] k m r v e h one few = absurd (omega arith)
   calls (room ∷ rooms) k m r v e h one few =
+      let fit : Limits.stepBytes ≤ room = leb-true Limits.stepBytes room (and-left (leb Limits.stepBytes room) (every (leb Limits.stepBytes) rooms) r) in
+      let r′ = and-right (leb Limits.stepBytes room) (every (leb Limits.stepBytes) rooms) r in
       rw (list-is k m room v e fit)
-      (rw e (go (ends net network room (steps (N .head) - k) k m [] (omega arith) v)
-      (λ k′ m′ v′ e′ h′ one′ few′. calls rooms k′ m′ (and-right (leb Limits.stepBytes room) (every (leb Limits.stepBytes) rooms) r) v′ e′ h′ one′ few′)))
-    where
-      fit : Limits.stepBytes ≤ room
-      fit = leb-true Limits.stepBytes room (and-left (leb Limits.stepBytes room) (every (leb Limits.stepBytes) rooms) r)
-
-      go : {l : Listed} → Ends net network room k m [] l
-          → ((k′ : ℕ) (m′ : Memory) → Level net network k′ m′ → Stands k′ m′ → k′ ≤ steps (N .head) → 1 ≤ length rooms → steps (N .head) - k′ ≤ length rooms
-          → pieced net rooms m′ ≡ runFrom net N k′ m′)
-          → l .written ++ onward (l .answer) (pieced net rooms (l .after)) ≡ runFrom net N k m
-      go {l} (more k′ a v′ ge lt on w) next =
-          let up : k < k′ = on (omega (arith, fit)) in
-          rw (a, next k′ (l .after) v′ (some-stand k′ (l .after) (some-areas k m e (omega arith)) v′) (omega arith) (omega arith) (omega arith)) w
-      go {l} (whole a w) next = rw (a (pieced net rooms (l .after)), append-nil (l .written)) w
+      (rw e (elim (ends net network room (steps (N .head) - k) k m [] (omega arith) v) [
+        | more k′ a v′ ge lt on w ↦ let up : k < k′ = on (omega (arith, fit)) in
+            rw (a, calls rooms k′ _ r′ v′ (some-stand k′ _ (some-areas k m e (omega arith)) v′) (omega arith) (omega arith) (omega arith)) w
+        | whole a w ↦ rw (a (pieced net rooms _), append-nil) w
+      ]))
 
   fresh-level : Level net network 0 fresh
   unfolding fresh
@@ -114,16 +94,13 @@ module _ (net : Words) (network : isNetwork net ≡ true) where
   -- at most as many calls as there are steps
   pub pieces-run : (rooms : List ℕ) → Roomy rooms → steps (N .head) ≤ length rooms → pieced net rooms fresh ≡ runOf net N
   unfolding runOf runFrom
-  pieces-run rooms r h = go (ℕ-discrete (areaCount N) 0)
-    where
-      one : 1 ≤ steps (N .head)
-      one = net-sound net network .study .stepsIn .least
-
-      go : Dec (areaCount N ≡ 0) → pieced net rooms fresh ≡ runFrom net N 0 fresh
-      go (yes e) =
-          calls rooms (steps (N .head)) fresh r (record { inv = fresh-level .inv; counts = λ b l q. absurd (omega arith) }) (none-stand fresh e) (omega arith) (omega (arith, one)) (omega arith)
-          ∙ sym (run-none N (net-sound net network) e net fresh)
-      go (no n) = calls rooms 0 fresh r fresh-level (some-stand 0 fresh (omega arith) fresh-level) (omega arith) (omega (arith, one)) (omega arith)
+  pieces-run rooms r h =
+      let one : 1 ≤ steps (N .head) = net-sound net network .study .stepsIn .least in
+      elim (ℕ-discrete (areaCount N) 0) [
+        | yes e ↦ calls rooms (steps (N .head)) fresh r (record { inv = fresh-level .inv; counts = λ b l q. absurd (omega arith) }) (none-stand fresh e) (omega arith) (omega arith) (omega arith)
+            ∙ sym (run-none N (net-sound net network) e net fresh)
+        | no n ↦ calls rooms 0 fresh r fresh-level (some-stand 0 fresh (omega arith) fresh-level) (omega arith) (omega arith) (omega arith)
+      ]
 
 -- ---- reading, resetting, and listing until it ends
 
@@ -146,17 +123,12 @@ program text rooms =
 
 pub program-lists : (text rooms : List ℕ) → Roomy rooms → Limits.stepsEnd ≤ length rooms → program text rooms ≡ listing text
 unfolding listing listingFrom
-program-lists text rooms r h = go (eqb (readingNumber (out .answer)) 0) refl
-  where
-    out : Read-out
-    out = readOf text (replicate Limits.networkWords z)
-
-    bad : List ℕ
-    bad = lineOf (bytes "bad") (pos (readingLine (out .answer)) ∷ pos (readingNumber (out .answer)) ∷ [])
-
-    go : (b : Bool) → eqb (readingNumber (out .answer)) 0 ≡ b → cond b (pieced (out .network) rooms fresh) bad ≡ cond b (runOf (out .network) (netOf (tableOf (out .network)))) bad
-    go true e =
-        let a : out .answer ≡ Read = read-only (out .answer) (eqb-true _ 0 e) in
-        let n : isNetwork (out .network) ≡ true = network-exactly (out .network) .1 (record { text = text; lent = replicate Limits.networkWords z; reads = ap (λ (x : Reading). readOut x (out .network)) a }) in
-        pieces-run (out .network) n rooms r (le-trans (net-sound (out .network) n .study .stepsIn .most) h)
-    go false e = refl
+program-lists text rooms r h =
+    let out = readOf text (replicate Limits.networkWords z) in
+    elim (ℕ-discrete (readingNumber (out .answer)) 0) [
+      | yes e ↦
+          let reads = ap (λ (x : Reading). readOut x (out .network)) (read-only (out .answer) e) in
+          let n : isNetwork (out .network) ≡ true = network-exactly (out .network) .1 (record { text = text; lent = replicate Limits.networkWords z; reads = reads }) in
+          rw (eq-eqb (readingNumber (out .answer)) 0 e) (pieces-run (out .network) n rooms r (le-trans (net-sound (out .network) n .study .stepsIn .most) h))
+      | no e ↦ rw (ne-eqb (readingNumber (out .answer)) 0 e)
+    ]

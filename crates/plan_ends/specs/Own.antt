@@ -1,20 +1,32 @@
 -- What is an area's own: the ends of rows that leave its nodes, its nodes, its sources. End e is the end 1 + e mod 2 of row e / 2: 1 the from end, 2
 -- the to end. Assumes nothing.
-use Prim.Native.Nat.{ℕ, _+_, _-_, _*_, _/_, _%_, _<_}
-use mathlib.Core.Path.{_≡_}
-use mathlib.Core.Bool.{Bool, cond, _&&_}
-use mathlib.Core.List.{List, [], _∷_, _++_, map}
-use lib.Dec.{eqb}
-use lib.IntN.{pos}
-use lib.ListN.{getD, length}
-use Rattle.whole.specs.Lists.{Words, word, nat, numbers, keep}
+use Rattle.whole.specs.Plain.{ℕ, zero, suc, _+_, _-_, _*_, _/_, _%_, _≤_, _<_, _≡_, refl, Bool, true, false, cond, _&&_}
+use Rattle.whole.specs.Plain.{List, [], _∷_, _++_, map, eqb, pos, getD, length, arith, Words, word, nat, numbers, keep}
 use Rattle.paper.specs.Rows.{Row, kind, isLine, isBranch, isSource, at, peak, start, rise}
 use Rattle.paper.specs.Areas.{Net, areaOf, rowArea, fixed, nodesOf, freeOf}
+use Rattle.paper.specs.Classes.{line-branch}
 use Rattle.facts.specs.Nets.{rowAt}
 
 -- the area at one end of a row: a line's ends are each their own node's, a source has none
 unfoldable pub ownerOf : Net → Row → ℕ → ℕ
 ownerOf N r end = cond (isLine r) (areaOf N (nat (word r end))) (cond (isBranch r) (rowArea N r) 0)
+
+-- so what an area owns is a branch's
+pub own-branch : (N : Net) (r : Row) (end a : ℕ) → 1 ≤ a → ownerOf N r end ≡ a → isBranch r ≡ true
+unfolding ownerOf
+own-branch N r end a one o = go (isLine r) refl (isBranch r) refl o
+  where
+    go : (l : Bool) → isLine r ≡ l → (b : Bool) → isBranch r ≡ b → cond l (areaOf N (nat (word r end))) (cond b (rowArea N r) 0) ≡ a → isBranch r ≡ true
+    go true l b q o = line-branch r l
+    go false l true q o = q
+    go false l false q o = absurd (omega arith)
+
+-- one end or the other
+pub of-sides : (P : ℕ → Type 0) → P 1 → P 2 → (end : ℕ) → 1 ≤ end → end ≤ 2 → P end
+of-sides P from to zero l m = absurd (omega arith)
+of-sides P from to (suc zero) l m = from
+of-sides P from to (suc (suc zero)) l m = to
+of-sides P from to (suc (suc (suc end))) l m = absurd (omega arith)
 
 abbrev pub rowOfEnd : Net → ℕ → Row
 rowOfEnd N e = rowAt N (e / 2)

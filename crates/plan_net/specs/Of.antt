@@ -1,10 +1,6 @@
 -- Which network a plan is of. Below the plan no function has the network record: what is said there is said of every network that the plan is of, and
 -- asked where there is one. Assumes nothing.
-use Prim.Native.Nat.{ℕ}
-use mathlib.Core.Path.{_≡_}
-use mathlib.Core.Bool.{true}
-use mathlib.Core.List.{List}
-use Rattle.whole.specs.Lists.{Words}
+use Rattle.whole.specs.Plain.{ℕ, _≡_, true, List, Words}
 use Rattle.paper.specs.Network.{isNetwork}
 use Rattle.paper.specs.Areas.{Net}
 use Rattle.facts.specs.Nets.{NetSound, netIn, net-sound}

@@ -1,12 +1,7 @@
 -- One area laid behind those before it: there is room, what was laid stands, and the tables hold the areas' own apart from each other. Assumes nothing.
-use Prim.Native.Nat.{ℕ, _+_, _-_, _*_, _≤_}
-use mathlib.Core.Path.{_≡_, refl, sym, ap, _∙_}
-use mathlib.Core.Bool.{Bool, true, false, cond, not}
-use mathlib.Core.List.{List, map}
-use native.Mathlib.Omega.{arith}
-use lib.ListN.{length, getD, length-map, length-append}
+use Rattle.whole.specs.Plain.{ℕ, _+_, _*_, _≤_, _≡_, refl, sym, ap, _∙_, Bool, true, false, cond, not, List, map}
+use Rattle.whole.specs.Plain.{length, getD, length-map, length-append, arith, Words, numbers, count}
 use borrow.Rule.Slice.PartMut.{mid-len}
-use Rattle.whole.specs.Lists.{Words, numbers, count}
 use Rattle.whole.specs.Folds.{length-keep, count-le, length-numbers}
 use Rattle.whole.specs.Prefix.{count-parts}
 use Rattle.paper.specs.Rows.{isSource, at}
@@ -14,9 +9,9 @@ use Rattle.paper.specs.Areas.{Net, areaOf, fixed, nodesOf, freeOf}
 use Rattle.facts.specs.Nets.{NetSound}
 use Rattle.plan_ends.specs.Own.{ownerOf, rowOfEnd, sideOfEnd, ownEnd, ownEnds, fixedOf, ownSource, ownSources, sourceLine, sourceLines}
 use Rattle.plan_own.specs.declared.Own.{Own}
-use Rattle.plan_own.specs.Grown.{Grown, grown-before, grown-part, grown-then, grown-still}
+use Rattle.plan_lay.specs.Grown.{Grown, grown-before, grown-part, grown-then, grown-still}
 use Rattle.plan_own.specs.Counting.{countFrom, countOf, count-all, count-from}
-use Rattle.plan_own.specs.Ends.{frameOf, framed-lines}
+use Rattle.plan_lay.specs.Ends.{frameOf, framed-lines}
 use Rattle.plan_own.specs.Owns.{nothing, Tables, Room, Ours, Behind}
 
 -- ---- counts

@@ -1,13 +1,6 @@
 -- Each number belongs to one area: those of area a and those of the areas past it are those from a on. Assumes nothing.
-use Prim.Native.Nat.{ℕ, _+_, _≤_, _<_}
-use mathlib.Core.Path.{_≡_, refl}
-use mathlib.Core.Bool.{Bool, true, false, cond, _&&_}
-use mathlib.Core.List.{List, [], _∷_}
-use native.Mathlib.Omega.{arith}
-use native.Mathlib.Decide.{decLt}
-use borrow.Author.Tests.{eq-eqb, ne-eqb, le-leb, lt-leb}
-use lib.Dec.{leb, eqb}
-use Rattle.whole.specs.Lists.{count}
+use Rattle.whole.specs.Plain.{ℕ, _+_, _≤_, _<_, _≡_, refl, Bool, true, false, cond, _&&_, List, [], _∷_, leb, eqb}
+use Rattle.whole.specs.Plain.{eq-eqb, ne-eqb, le-leb, lt-leb, decLt, arith, count}
 use Rattle.whole.specs.Folds.{and-left}
 use Rattle.whole.specs.Written.{count-imply}
 

@@ -1,19 +1,12 @@
--- What leaves the own of all areas where it stands: one area's legs written anew, framed as before, and the step until which one is prepared. Assumes
--- nothing.
-use Prim.Native.Nat.{ℕ, _+_, _-_, _≤_, _<_}
-use mathlib.Core.Path.{_≡_, sym, ap, _∙_}
-use mathlib.Core.List.{List, [], _++_}
-use native.Mathlib.Omega.{arith}
-use native.Mathlib.Decide.{ℕ-discrete, decLt}
+-- What leaves the own of all areas where it stands: one area's legs written anew, framed as before. Assumes nothing.
+use Rattle.whole.specs.Plain.{ℕ, _+_, _-_, _≤_, _<_, _≡_, sym, ap, _∙_, List, [], _++_, length, set, take, drop}
+use Rattle.whole.specs.Plain.{getD-set-same, getD-set-other, length-take-le, take-at, drop-at, drop-drop, arith, Words}
 use borrow.Rule.Slice.PartMut.{putMid, postOf, mid-len, same-len-mid, take-put, drop-put}
-use lib.ListN.{length, set, take, drop, length-set}
-use lib.Seq.{getD-set-same, getD-set-other, length-take-le, take-at, drop-at, drop-drop}
-use Rattle.whole.specs.Lists.{Words}
 use Rattle.paper.specs.Areas.{Net}
 use Rattle.plan_ends.specs.Own.{Framed}
 use Rattle.plan_own.specs.declared.Own.{Own}
-use Rattle.plan_own.specs.Grown.{part, part-kept}
-use Rattle.plan_own.specs.Owns.{wordsOf, ownIn, prepared, untilPut, Tables, Ours, Apart, LaidBelow}
+use Rattle.plan_own.specs.Owns.{wordsOf, ownIn, Tables, Ours, Apart}
+use Rattle.plan_lay.specs.Grown.{part, part-kept}
 
 -- ---- a part put back into a list
 module _ {A : Type 0} (l m : List A) (f t : ℕ) (h : f ≤ t) (k : t ≤ length l) (e : length m ≡ t - f) where
@@ -70,27 +63,3 @@ own-put owns a o h = rw (getD-set-same owns a (wordsOf o) [] h)
 
 pub own-other : (owns : List (List ℕ)) (a b : ℕ) (o : Own) → (b ≡ a → ⊥) → ownIn (set owns a (wordsOf o)) b ≡ ownIn owns b
 own-other owns a b o q = rw (getD-set-other owns a b (wordsOf o) [] q)
-
-module _ {N : Net} {n : ℕ} {owns : List (List ℕ)} {legs : List Words} {nodes : List ℕ} {sources : List Words} (l : LaidBelow N n owns legs nodes sources) (a : ℕ) where
-  pub laid-legs : 1 ≤ a → a < n → (new : List Words) → Framed N a new → LaidBelow N n owns (legsPut (ownIn owns a) legs new) nodes sources
-  laid-legs one h new f = record { long = l .long; tables = tables-legs (l .tables) (l .ours a one h) new f; ours = λ b m k. by b m k (decLt b a) (decLt a b); apart = l .apart }
-    where
-      by : (b : ℕ) → 1 ≤ b → b < n → Dec (b < a) → Dec (a < b) → Ours N b (ownIn owns b) (legsPut (ownIn owns a) legs new) nodes sources
-      by b m k (yes p) q = other-below (l .tables) (l .ours a one h) new f (l .apart b a m p h) (l .ours b m k)
-      by b m k (no p) (yes q) = other-above (l .tables) (l .ours a one h) new f (l .apart a b one q k) (l .ours b m k)
-      by b m k (no p) (no q) = let e : b ≡ a = omega arith in rw e (ours-legs (l .tables) (l .ours a one h) new f)
-
-  pub laid-until : a < 33 → (u : ℕ) → LaidBelow N n (untilPut owns a u) legs nodes sources
-  laid-until h u = record {
-    long = length-set owns a _ ∙ l .long;
-    tables = l .tables;
-    ours = λ b m k. by (λ o. Ours N b o legs nodes sources) (λ o w. record { legs-in = w .legs-in; nodes-in = w .nodes-in; sources-in = w .sources-in; framed = w .framed; free = w .free; nodes = w .nodes; sources = w .sources }) b (l .ours b m k);
-    apart = λ b c m k j. by (λ o. Apart o (ownIn (untilPut owns a u) c)) (λ o w. record { legs = w .legs; nodes = w .nodes; sources = w .sources }) b (by (λ o. Apart (ownIn owns b) o) (λ o w. record { legs = w .legs; nodes = w .nodes; sources = w .sources }) c (l .apart b c m k j));
-  }
-    where
-      by : (P : Own → Type 0) → ((o : Own) → P o → P (prepared o u)) → (b : ℕ) → P (ownIn owns b) → P (ownIn (untilPut owns a u) b)
-      by P same b p = go (ℕ-discrete b a)
-        where
-          go : Dec (b ≡ a) → P (ownIn (untilPut owns a u) b)
-          go (yes q) = rw (q, getD-set-same owns a (wordsOf (prepared (ownIn owns a) u)) [] (omega (arith, l .long))) (same (ownIn owns a) (rw q at p))
-          go (no q) = rw (getD-set-other owns a b (wordsOf (prepared (ownIn owns a) u)) [] q) p

@@ -1,16 +1,10 @@
 -- Area after area: what is laid of those below a, with room behind it for the rest. Assumes nothing.
-use Prim.Native.Nat.{ℕ, _+_, _≤_, _<_}
-use mathlib.Core.Path.{_≡_, _∙_}
-use mathlib.Core.List.{List, []}
-use native.Mathlib.Omega.{arith}
-use native.Mathlib.Decide.{ℕ-discrete}
-use lib.ListN.{length, set, length-set}
-use lib.Seq.{getD-set-same, getD-set-other}
-use Rattle.whole.specs.Lists.{Words}
+use Rattle.whole.specs.Plain.{ℕ, _+_, _≤_, _<_, _≡_, _∙_, List, [], length, set, length-set, getD-set-same}
+use Rattle.whole.specs.Plain.{getD-set-other, ℕ-discrete, arith, Words}
 use Rattle.paper.specs.Areas.{Net}
 use Rattle.facts.specs.Nets.{NetSound}
 use Rattle.plan_own.specs.declared.Own.{Own}
-use Rattle.plan_own.specs.Grown.{part, part-kept}
+use Rattle.plan_lay.specs.Grown.{part, part-kept}
 use Rattle.plan_own.specs.Owns.{wordsOf, ownIn, nothing, Tables, Room, Ours, Behind, Apart, LaidBelow, UnpreparedBelow}
 use Rattle.plan_own.specs.Areas.{room-first, room-next}
 
@@ -57,11 +51,10 @@ module _ {N : Net} {a : ℕ} {at o : Own} {owns : List (List ℕ)} {legs legs′
   -- by area: the new one, or one before
   module _ (P : ℕ → Own → Type 0) (new : P a o) (old : (b : ℕ) → 1 ≤ b → b < a → P b (ownIn owns b)) where
     by-area : (b : ℕ) → 1 ≤ b → b < a + 1 → P b (ownIn (set owns a (wordsOf o)) b)
-    by-area b l m = go (ℕ-discrete b a)
-      where
-        go : Dec (b ≡ a) → P b (ownIn (set owns a (wordsOf o)) b)
-        go (yes q) = rw (q, getD-set-same owns a (wordsOf o) [] (omega (arith, g .laid .long))) new
-        go (no q) = rw (getD-set-other owns a b (wordsOf o) [] q) (old b l (omega arith))
+    by-area b l m = elim (ℕ-discrete b a) [
+      | yes q ↦ rw (q, getD-set-same owns a (wordsOf o) [] (omega (arith, g .laid .long))) new
+      | no q ↦ rw (getD-set-other owns a b (wordsOf o) [] q) (old b l (omega arith))
+    ]
 
   before-it : (b : ℕ) → b < a → (P : Own → Type 0) → P (ownIn owns b) → P (ownIn (set owns a (wordsOf o)) b)
   before-it b l P p = rw (getD-set-other owns a b (wordsOf o) [] (λ q. omega arith)) p

@@ -1,12 +1,5 @@
-pub mod Grown
-pub mod Listed
 pub mod Counting
-pub mod Ends
-pub mod Flags
-pub mod Nodes
-pub mod Sources
 pub mod Owns
 pub mod Areas
 pub mod Laying
-pub mod Framing
 pub mod Kept

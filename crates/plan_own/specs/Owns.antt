@@ -1,10 +1,6 @@
 -- Where the own of each area stands, and what stands there. Assumes nothing.
-use Prim.Native.Nat.{ℕ, suc, _+_, _*_, _≤_, _<_}
-use mathlib.Core.Path.{_≡_}
-use mathlib.Core.Bool.{Bool, true}
-use mathlib.Core.List.{List, [], _∷_}
-use lib.ListN.{length, getD, set, take}
-use Rattle.whole.specs.Lists.{Words, numbers}
+use Rattle.whole.specs.Plain.{ℕ, suc, _+_, _*_, _≤_, _<_, _≡_, Bool, true, List, [], _∷_, length, getD, set, take}
+use Rattle.whole.specs.Plain.{Words, numbers}
 use Rattle.paper.specs.Rows.{isSource, at}
 use Rattle.paper.specs.Network.{isNetwork}
 use Rattle.paper.specs.Areas.{Net, areaOf, areaCount, freeOf}
@@ -14,9 +10,9 @@ use Rattle.plan_ends.specs.Own.{ownerOf, rowOfEnd, sideOfEnd, Framed, ownNodes,
 use Rattle.plan_rows.specs.declared.Totals.{Totals}
 use Rattle.plan_rows.specs.Planned.{Planned, totalsOf}
 use Rattle.plan_own.specs.declared.Own.{Own}
-use Rattle.plan_own.specs.Grown.{part}
+use Rattle.plan_lay.specs.Grown.{part}
 use Rattle.plan_own.specs.Counting.{countFrom}
-use Rattle.plan_own.specs.Flags.{Flagged}
+use Rattle.plan_lay.specs.Flags.{Flagged}
 
 -- an area's line, and the own of a line
 abbrev pub wordsOf : Own → List ℕ

@@ -1,41 +1,13 @@
 -- What goes by a row's kind alone, in the paper's words: its class, its slots, whose its ends are. Assumes nothing.
-use Prim.Native.Nat.{ℕ, zero, suc, _*_, _+_, _≤_, _<_, max}
-use mathlib.Core.Path.{_≡_, refl}
-use mathlib.Core.Bool.{Bool, true, false, cond, _||_}
-use mathlib.Core.List.{List, [], _∷_}
-use native.Mathlib.Omega.{arith}
-use native.Mathlib.Nat.{add-zero}
-use borrow.Author.Tests.{ne-eqb, le-leb, lt-leb}
-use lib.Dec.{eqb}
-use lib.IntN.{pos}
-use lib.ListN.{getD}
-use Rattle.paper.specs.Rows.{Row, kind, isBranch, isSource, isLine, stepLength}
+use Rattle.whole.specs.Plain.{ℕ, _*_, _+_, max, _≡_, refl, Bool, true, false, cond, List, [], _∷_, pos, getD, add-zero}
+use Rattle.whole.specs.Plain.{arith}
+use Rattle.paper.specs.Rows.{Row, kind, branchKind, isBranch, isSource, isLine, stepLength}
 use Rattle.paper.specs.Faults.{delay, slots}
-use Rattle.facts.specs.Sound.{RowSound, one-sort}
-
-abbrev pub branchKind : ℕ → Bool
-branchKind k = isBranch (pos k ∷ [])
+use Rattle.paper.specs.Classes.{one-sort}
+use Rattle.facts.specs.Sound.{RowSound}
 
 abbrev pub lineKind : ℕ → Bool
 lineKind k = isLine (pos k ∷ [])
-
-abbrev pub sourceKind : ℕ → Bool
-sourceKind k = isSource (pos k ∷ [])
-
--- as the code asks
-pub branch-kinds : (k : ℕ) → (eqb k 1 || eqb k 2 || eqb k 3 || eqb k 4 || eqb k 5) ≡ branchKind k
-branch-kinds zero = refl
-branch-kinds (suc zero) = refl
-branch-kinds (suc (suc zero)) = refl
-branch-kinds (suc (suc (suc zero))) = refl
-branch-kinds (suc (suc (suc (suc zero)))) = refl
-branch-kinds (suc (suc (suc (suc (suc zero))))) = refl
-branch-kinds (suc (suc (suc (suc (suc (suc n)))))) = past (suc (suc (suc (suc (suc (suc n)))))) (omega arith)
-  where
-    past : (k : ℕ) → 5 < k → (eqb k 1 || eqb k 2 || eqb k 3 || eqb k 4 || eqb k 5) ≡ branchKind k
-    past k h =
-        let off : (m : ℕ) → m ≤ 5 → eqb k m ≡ false = λ m l. ne-eqb k m (λ e. omega arith) in
-        rw (off 1 (omega arith), off 2 (omega arith), off 3 (omega arith), off 4 (omega arith), off 5 (omega arith), le-leb 1 k (omega arith), lt-leb k 5 h)
 
 -- what is no branch is a source
 pub source-else : (r : Row) {head : Row} {nodes : ℕ} → RowSound head nodes r → isBranch r ≡ false → isSource r ≡ true

@@ -1,17 +1,10 @@
 -- One row of a network, by its words: each is what the plan has of it. Assumes nothing.
-use Prim.Native.Nat.{ℕ, zero, suc, _+_, _≤_, _<_, max}
-use mathlib.Core.Path.{_≡_, refl, sym, ap, _∙_}
-use mathlib.Core.Bool.{Bool, true, false, cond}
-use mathlib.Core.List.{List}
-use native.Mathlib.Omega.{arith}
-use lib.ListN.{length, getD}
-use lib.Dec.{lit≤}
-use lib.IntN.{ℤ, pos}
-use borrow.Author.Tests.{eqb-true}
-use Rattle.whole.specs.Lists.{Words, z, word, nat}
+use Rattle.whole.specs.Plain.{ℕ, zero, suc, _+_, _≤_, _<_, max, _≡_, refl, sym, ap, _∙_, Bool, true, false, cond, List}
+use Rattle.whole.specs.Plain.{lit≤, ℤ, pos, length, getD, arith, Words, z, word, nat}
 use Rattle.paper.specs.Limits as Limits
 use Rattle.paper.specs.Rows as Rows
 use Rattle.paper.specs.Rows.{fieldsOf, kinds, kind, isBranch, isLine, size}
+use Rattle.paper.specs.Classes.{line-branch}
 use Rattle.paper.specs.Conductance.{conductance, ofOhms, ofHenries, ofFarads}
 use Rattle.paper.specs.Faults.{slots}
 use Rattle.paper.specs.Network.{isNetwork}
@@ -101,7 +94,7 @@ module _ {N : Net} (s : NetSound N) (i : ℕ) (h : i < length (N .rows)) where
     owner-to = go (isLine (rowAt N i)) refl (isBranch (rowAt N i)) refl
       where
         line : isLine (rowAt N i) ≡ true → isBranch (rowAt N i) ≡ true
-        line p = rw (eqb-true (kind (rowAt N i)) 4 p)
+        line p = line-branch (rowAt N i) p
 
         go : (l : Bool) → isLine (rowAt N i) ≡ l → (b : Bool) → isBranch (rowAt N i) ≡ b
             → cond l (getD area (toAt N i) 0) (cond b (getD area (max (toAt N i) (nat (word (rowAt N i) 1))) 0) 0)

@@ -1,19 +1,13 @@
 -- The plan filled row by row. Assumes nothing.
-use Prim.Native.Nat.{ℕ, zero, suc, _+_, _≤_, _<_, max}
-use mathlib.Core.Path.{_≡_, refl, ap, _∙_}
-use mathlib.Core.Bool.{cond}
-use mathlib.Core.List.{List, []}
-use native.Mathlib.Omega.{arith}
+use Rattle.whole.specs.Plain.{ℕ, zero, suc, _+_, _≤_, _<_, max, _≡_, refl, ap, _∙_, cond, List, [], length, length-set}
+use Rattle.whole.specs.Plain.{set, getD, take-length, getD-set-same, getD-set-other, ℕ-discrete, arith, Words, filled}
+use Rattle.whole.specs.Plain.{fold, sum}
 use native.Mathlib.Numerals.{add-one}
-use native.Mathlib.Decide.{ℕ-discrete}
-use lib.ListN.{length, length-set, set, getD}
-use lib.Seq.{take-length, getD-set-same, getD-set-other}
-use Rattle.whole.specs.Lists.{Words, filled, fold, sum}
 use Rattle.whole.specs.Folds.{sum-next, count-next}
 use Rattle.whole.specs.Filled.{getD-filled}
 use Rattle.paper.specs.Rows.{isBranch}
 use Rattle.paper.specs.Faults.{slots}
-use Rattle.paper.specs.Areas.{Net, netOf, netOn, nodeCount, step, named, branchNumber}
+use Rattle.paper.specs.Areas.{Net, netOf, netOn, nodeCount, named, branchNumber}
 use Rattle.paper.specs.Records.{offset, slotCount}
 use Rattle.facts.specs.Nets.{netIn, rowAt}
 use Rattle.rows.specs.Mapped.{Mapped}

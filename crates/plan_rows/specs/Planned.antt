@@ -1,12 +1,5 @@
 -- What follows from a network record alone and a step goes by: a line of words for each row, and the counts. Assumes nothing.
-use Prim.Native.Nat.{ℕ, suc, _≤_, _<_}
-use mathlib.Core.Path.{_≡_}
-use mathlib.Core.Bool.{cond}
-use mathlib.Core.List.{List, [], _∷_}
-use lib.Dec.{eqb}
-use lib.IntN.{pos}
-use lib.ListN.{length, getD}
-use Rattle.whole.specs.Lists.{word, nat}
+use Rattle.whole.specs.Plain.{ℕ, suc, _≤_, _<_, _≡_, cond, List, [], _∷_, eqb, pos, length, getD, word, nat}
 use Rattle.paper.specs.Limits as Limits
 use Rattle.paper.specs.Rows as Rows
 use Rattle.paper.specs.Rows.{isBranch}

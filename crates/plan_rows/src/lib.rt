@@ -1,9 +1,5 @@
 // What a step needs of a network record that passes refusal 8, and that follows from it alone: each row decoded once, the counts, and the areas by node.
-ghost use mathlib.Core.Path.{_≡_};
-ghost use mathlib.Core.Bool.{true, cond};
-ghost use Prim.Native.Nat.{suc, _+_, _≤_, _<_, max};
-ghost use lib.ListN.{length, set};
-ghost use Rattle.whole.specs.Lists.{word, nat};
+ghost use Rattle.whole.specs.Plain.{suc, _+_, _≤_, _<_, max, _≡_, true, cond, length, set, word, nat};
 ghost use Rattle.whole.specs.Loans.{was, is};
 ghost use Rattle.paper.specs.Limits as Limits;
 ghost use Rattle.paper.specs.Rows as Rows;
@@ -13,8 +9,9 @@ ghost use Rattle.paper.specs.Areas.{branchNumber};
 ghost use Rattle.paper.specs.Records.{offset, slotCount};
 ghost use Rattle.facts.specs.Nets.{netIn, rowAt};
 ghost use Rattle.rows.specs.Mapped.{Mapped};
-ghost use Rattle.plan_rows.specs.Planned.{Planned, totalsOf, rowIn, rowOf, wordsOf, ownerIn, nodeIn, conductanceAt, toAt};
-ghost use Rattle.plan_rows.specs.ByKind.{branchKind, sourceKind, slotsBy, ownerBy};
+ghost use Rattle.plan_rows.specs.Planned.{Planned, totalsOf, rowIn, rowOf, wordsOf, ownerIn, nodeIn};
+ghost use Rattle.plan_rows.specs.Planned.{conductanceAt, toAt};
+ghost use Rattle.plan_rows.specs.ByKind.{slotsBy, ownerBy};
 use paper::kinds;
 
 // What a step needs of a row: its kind and its nodes, a source's other node being 0; its conductance; a line's delay, how many slots it has in each
@@ -93,24 +90,6 @@ pub fn node(r: Row, end: usize) -> usize
     if end == 1 { r.from } else { r.to }
 }
 
-// ---- kinds, by class
-
-pub fn is_branch(kind: usize) -> bool
-    ensures { λ r. ⌜ r ≡ branchKind kind ⌝ }
-{
-    (kind == kinds::R)
-        | (kind == kinds::L)
-        | (kind == kinds::C)
-        | (kind == kinds::LINE)
-        | (kind == kinds::SW)
-}
-
-pub fn is_source(kind: usize) -> bool
-    ensures { λ r. ⌜ r ≡ sourceKind kind ⌝ }
-{
-    (kind == kinds::VS) | (kind == kinds::IS)
-}
-
 // ---- counts
 
 // How much of each thing there is: rows, nodes, areas, and slots of each store; the steps of the study, and the limit of what may be out of balance.
@@ -182,7 +161,7 @@ fn to_at(net: &[i64], i: usize, kind: usize) -> usize
     requires { ⌜ kind ≡ Rows.kind (rowAt (netIn (now net)) i) ⌝ }
     ensures { λ r. ⌜ r ≡ toAt (netIn (was net)) i ⌝ }
 {
-    if !is_branch(kind) {
+    if !kinds::is_branch(kind) {
         return 0;
     }
     rows::number(net, i, 2)
@@ -194,7 +173,7 @@ fn conductance_at(net: &[i64], i: usize, kind: usize, step: usize) -> usize
     requires { ⌜ (kind ≡ Rows.kind (rowAt (netIn (now net)) i)) × (step ≡ Areas.step (netIn (now net))) ⌝ }
     ensures { λ r. ⌜ r ≡ conductanceAt (netIn (was net)) i ⌝ }
 {
-    if !is_branch(kind) {
+    if !kinds::is_branch(kind) {
         return 0;
     }
     faults::conductance(step as u64, kind, rows::number(net, i, 3) as u64) as usize
@@ -216,7 +195,7 @@ fn area_at(area: &[usize; 33], kind: usize, near: usize, far: usize) -> usize
     if kind == kinds::LINE {
         return area[near];
     }
-    if !is_branch(kind) {
+    if !kinds::is_branch(kind) {
         return 0;
     }
     area[larger(near, far)]
@@ -225,9 +204,13 @@ fn area_at(area: &[usize; 33], kind: usize, near: usize, far: usize) -> usize
 // "Branches are numbered from 1 in table order, sources not counted"
 fn number_of(kind: usize, before: usize) -> usize
     requires { ⌜ before ≤ Limits.branchEnd ⌝ }
-    ensures { λ r. ⌜ r ≡ before + cond (branchKind kind) 1 0 ⌝ }
+    ensures { λ r. ⌜ r ≡ before + cond (Rows.branchKind kind) 1 0 ⌝ }
 {
-    if is_branch(kind) { before + 1 } else { before }
+    if kinds::is_branch(kind) {
+        before + 1
+    } else {
+        before
+    }
 }
 
 // Row i, with its slots behind those of the rows before it; "LINE of d = travel / step"

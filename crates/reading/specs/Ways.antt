@@ -1,22 +1,13 @@
 -- The ways through a reading: 9, 7, a faulty line, or the record. Assumes nothing.
-use Prim.Native.Nat.{ℕ, zero, suc, _+_, _-_, _≤_, _<_}
-use native.Mathlib.Omega.{arith}
+use Rattle.whole.specs.Plain.{ℕ, suc, _+_, _≤_, _<_, _≡_, sym, _∙_, List, _++_, append-nil, getD, length, take, drop}
+use Rattle.whole.specs.Plain.{set, length-append, length-drop, drop-of-length-le, take-suc, take-all, drop-cons, set-at}
+use Rattle.whole.specs.Plain.{append-snoc, length-take-le, eq-eqb, ne-eqb, lt-ltb, le-ltb, arith, Words, z}
 use native.Mathlib.Numerals.{add-one}
-use mathlib.Core.Path.{_≡_, refl, sym, _∙_, ap}
-use mathlib.Core.Bool.{Bool, true, false, not, cond}
-use mathlib.Core.List.{List, [], _∷_, _++_, append-nil}
-use borrow.Author.Tests.{eq-eqb, ne-eqb, lt-ltb, le-ltb}
-use lib.Dec.{eqb, ltb}
-use lib.IntN.{ℤ, pos}
-use lib.ListN.{getD, length, take, drop, set, length-append, length-drop, drop-of-length-le}
-use lib.Seq.{take-suc, take-all, drop-cons, set-at, append-snoc, length-take-le}
-use Rattle.whole.specs.Lists.{Words, z}
-use Rattle.paper.specs.declared.Reading.{Reading}
-use Rattle.paper.specs.declared.Reading.the-variants.{Read, Form, Node, Value, Travel, Double, Full, Size, Store}
+use Rattle.paper.specs.declared.Reading.the-variants.{Read, Size, Store}
 use Rattle.paper.specs.One.{Reads}
-use Rattle.paper.specs.Reading.{Lines, good, bad, faulty, readOf, readEnd, readOut, linesOf}
+use Rattle.paper.specs.Reading.{faulty, readOf, readEnd, linesOf}
 use Rattle.study.specs.declared.Progress.{Progress}
-use Rattle.study.specs.States.{Accepted, Ends}
+use Rattle.study.specs.States.{Ends}
 
 -- ---- a copy, word by word
 

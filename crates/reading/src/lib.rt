@@ -1,6 +1,6 @@
 // "Reading: 9, 7, then the first faulty line, in it 1 to 6 in turn; the answer carries the line number (0 for 7 and 9)."
-ghost use mathlib.Core.Path.{_≡_};
-ghost use lib.ListN.{length};
+ghost use Rattle.whole.specs.Plain.{_≡_, length};
+ghost use Rattle.whole.specs.Loans.{was, is};
 ghost use Rattle.paper.specs.One.{Reads};
 ghost use Rattle.paper.specs.Reading as Paper;
 use paper::Reading;
@@ -21,7 +21,7 @@ fn faulty(line: u64, fault: u64) -> Reading
 
 fn copy(from: &[i64], to: &mut [i64])
     requires { ⌜ length (now to) ≡ length (now from) ⌝ }
-    ensures { λ _. ⌜ now (to .exit) ≡ now (from .entry) ⌝ }
+    ensures { λ _. ⌜ is to ≡ was from ⌝ }
 {
     let mut i = 0;
     while i < from.len() {
@@ -33,7 +33,7 @@ fn copy(from: &[i64], to: &mut [i64])
 
 // The rows go into a record of the reader's own first: "Every refusal leaves all lent memory unchanged."
 pub fn read(text: &[u8], network: &mut [i64]) -> Reading
-    ensures { λ r. ⌜ Reads (now (text .entry)) (now (network .entry)) r (now (network .exit)) ⌝ }
+    ensures { λ r. ⌜ Reads (was text) (was network) r (is network) ⌝ }
 {
     if network.len() != Room::NETWORK {
         return Reading::Store;

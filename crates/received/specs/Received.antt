@@ -1,16 +1,6 @@
 -- What an end of a line receives: "what the far end sent at step k - d, or 0 where k - d < 1"; "step s in place s mod 2d". Assumes nothing.
-use Prim.Native.Nat.{ℕ, _+_, _-_, _%_, _≤_, _<_}
-use mathlib.Core.Path.{_≡_, refl, sym, ap, _∙_}
-use mathlib.Core.Bool.{Bool, true, false, cond}
-use mathlib.Core.List.{List}
-use native.Mathlib.Omega.{arith}
-use native.Mathlib.Nat.{mod-lt}
-use borrow.Author.Tests.{lt-ltb, le-ltb}
-use lib.Dec.{ltb}
-use lib.ListN.{length, take, drop, length-take, length-drop}
-use lib.Seq.{getD-take, getD-drop}
-use lib.IntN.{ℤ}
-use Rattle.whole.specs.Lists.{Words, z, word}
+use Rattle.whole.specs.Plain.{ℕ, _+_, _-_, _%_, _≤_, _<_, _≡_, refl, ap, cond, ltb, ℤ, length, take, drop, length-take}
+use Rattle.whole.specs.Plain.{length-drop, getD-take, getD-drop, lt-ltb, le-ltb, mod-lt, arith, Words, z, word}
 use Rattle.paper.specs.Rows.{Row}
 use Rattle.paper.specs.Faults.{slots, delay}
 use Rattle.paper.specs.Areas.{Net, step}

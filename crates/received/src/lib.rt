@@ -1,8 +1,7 @@
 // "The from-end stores are one lent slice and the to-end stores another; a reader is handed the far end's part of one of them, no copy."
 
-ghost use mathlib.Core.Path.{_≡_};
-ghost use Prim.Native.Nat.{_+_, _≤_, _<_};
-ghost use lib.ListN.{length};
+ghost use Rattle.whole.specs.Plain.{_+_, _≤_, _<_, _≡_, length};
+ghost use Rattle.whole.specs.Loans.{was};
 ghost use Rattle.received.specs.Received.{farStore, farPart, heardFrom};
 
 // the end that reads
@@ -13,7 +12,7 @@ pub enum Side {
 
 pub fn far<'a>(froms: &'a [i64], tos: &'a [i64], side: Side, start: usize, end: usize) -> &'a [i64]
     requires { ⌜ (start ≤ end) × ((end ≤ length (now froms)) × (end ≤ length (now tos))) ⌝ }
-    ensures { λ r. ⌜ now r ≡ farPart side (now (froms .entry)) (now (tos .entry)) start end ⌝ }
+    ensures { λ r. ⌜ now r ≡ farPart side (was froms) (was tos) start end ⌝ }
 {
     match side {
         Side::From => &tos[start..end],
@@ -24,7 +23,7 @@ pub fn far<'a>(froms: &'a [i64], tos: &'a [i64], side: Side, start: usize, end: 
 // "h is what the far end sent at step k - d, or 0 where k - d < 1": of the far end's part
 fn sent(part: &[i64], k: usize, d: usize) -> i64
     requires { ⌜ 0 < length (now part) ⌝ }
-    ensures { λ r. ⌜ r ≡ heardFrom (now (part .entry)) 0 (length (now (part .entry))) k d ⌝ }
+    ensures { λ r. ⌜ r ≡ heardFrom (was part) 0 (length (was part)) k d ⌝ }
 {
     if k <= d {
         return 0;
@@ -42,7 +41,7 @@ pub fn received<'a>(
     d: usize,
 ) -> i64
     requires { ⌜ (0 < slots) × ((start + slots ≤ length (now froms)) × (start + slots ≤ length (now tos))) ⌝ }
-    ensures { λ r. ⌜ r ≡ heardFrom (farStore side (now (froms .entry)) (now (tos .entry))) start slots k d ⌝ }
+    ensures { λ r. ⌜ r ≡ heardFrom (farStore side (was froms) (was tos)) start slots k d ⌝ }
 {
     let end = start + slots;
     let part = far(froms, tos, side, start, end);

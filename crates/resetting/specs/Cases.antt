@@ -1,11 +1,6 @@
 -- The answers of a reset, case by case. Assumes nothing.
-use mathlib.Core.Path.{_≡_, refl, sym, _∙_}
-use mathlib.Core.Bool.{true, false}
-use mathlib.Core.List.{List}
-use lib.IntN.{pos}
-use lib.ListN.{length, replicate}
+use Rattle.whole.specs.Plain.{_≡_, true, false, pos, length, replicate, Words}
 use Rattle.paper.specs.declared.Resetting.the-variants.{Reset, Network, Store}
-use Rattle.whole.specs.Lists.{Words}
 use Rattle.paper.specs.Network.{isNetwork}
 use Rattle.paper.specs.Advance.{Memory, memory, fits}
 use Rattle.paper.specs.Resetting.{resetOf, fresh}

@@ -1,11 +1,12 @@
 // "Resetting gives 9 or 8, or writes the records and both line stores all zero and answers 0."
-ghost use mathlib.Core.Path.{_≡_};
-ghost use Rattle.paper.specs.Advance.{memory};
+ghost use Rattle.whole.specs.Plain.{_≡_};
+ghost use Rattle.whole.specs.Loans.{was};
 ghost use Rattle.paper.specs.One.{Resets};
+ghost use Rattle.paper.specs.Lent.{before, after};
 use paper::Resetting;
 
 pub fn reset(network: &[i64], records: &mut [i64], froms: &mut [i64], tos: &mut [i64]) -> Resetting
-    ensures { λ r. ⌜ Resets (now (network .entry)) (memory (now (records .entry)) (now (froms .entry)) (now (tos .entry))) r (memory (now (records .exit)) (now (froms .exit)) (now (tos .exit))) ⌝ }
+    ensures { λ r. ⌜ Resets (was network) (before records froms tos) r (after records froms tos) ⌝ }
 {
     if !lent::fits(network, records, froms, tos) {
         return Resetting::Store;

@@ -1,18 +1,9 @@
 -- T-received: what a line end hears at its area's accepted step k is what the far end sent at its own accepted step k - d of that run, and 0 where
 -- k - d < 1; and there is one such step. Assumes nothing.
-use Prim.Native.Nat.{ℕ, suc, _+_, _-_, _≤_, _<_}
-use native.Mathlib.Omega.{arith}
-use mathlib.Core.Path.{_≡_, refl, sym, ap, _∙_}
-use mathlib.Core.Logic.{_⊎_, inl, inr}
-use mathlib.Core.Bool.{Bool, true, false, _&&_}
-use mathlib.Core.List.{List, [], _∷_, _++_}
-use lib.ListN.{length}
-use lib.Dec.{eqb}
-use lib.IntN.{ℤ}
-use borrow.Author.Tests.{lt-ltb, le-ltb, eq-eqb}
+use Rattle.whole.specs.Plain.{ℕ, suc, _+_, _-_, _≤_, _<_, _≡_, refl, sym, ap, _∙_, _⊎_, inl, inr, Bool, true, false}
+use Rattle.whole.specs.Plain.{_&&_, List, [], _∷_, _++_, eqb, ℤ, length, lt-ltb, le-ltb, eq-eqb, arith, Words, z, word}
 use Rattle.paper.specs.declared.Advance.{Advance}
 use Rattle.paper.specs.declared.Advance.the-variants.{Took}
-use Rattle.whole.specs.Lists.{Words, z, word}
 use Rattle.paper.specs.Answers.{accepted}
 use Rattle.paper.specs.Rows.{isLine}
 use Rattle.paper.specs.Faults.{depth}
@@ -23,7 +14,7 @@ use Rattle.paper.specs.Advance.{Memory, Advanced, advanceOf}
 use Rattle.facts.specs.Nets.{netIn, rowAt, net-sound}
 use Rattle.order.specs.Calls.{put}
 use Rattle.order.specs.Ring.{Holds, places, holds-read}
-use Rattle.local.specs.Sound.{Sound, sound}
+use Rattle.local.specs.Sound.{sound}
 use Rattle.local.specs.Slots.{delayAt, slotOf, line-slots}
 use Rattle.local.specs.Waits.{Allowed, not-late}
 use Rattle.local.specs.Outcome.{stepOf}
@@ -46,9 +37,6 @@ pub record Receives (net : Words) (m : Memory) (w : List ℕ) (k : ℕ) (s : Sid
 module _ (net : Words) (lent : Memory) (ok : Lent net lent) where
   abbrev N : Net
   N = netIn net
-
-  f : Sound N
-  f = sound N (net-sound net (ok .network))
 
   abbrev from0 : Memory
   from0 = start net lent ok
@@ -94,7 +82,7 @@ module _ (net : Words) (lent : Memory) (ok : Lent net lent) where
         let h = slots-hold net lent ok (far s) i there line w in
         let h′ : Holds (storeOf (far s) (at w)) (offset N i) (places d (depth (N .head) (rowAt N i))) (count (areaAt N (far s) i) w) (Sent net from0 w (far s) i) = rw (line-slots N i line) at h in
         rw (line-slots N i line)
-        (holds-read (storeOf (far s) (at w)) (offset N i) d (depth (N .head) (rowAt N i)) (count (areaAt N (far s) i) w) (count a w) (Sent net from0 w (far s) i) (f .travels i line) h′
+        (holds-read (storeOf (far s) (at w)) (offset N i) d (depth (N .head) (rowAt N i)) (count (areaAt N (far s) i) w) (count a w) (Sent net from0 w (far s) i) (sound N (net-sound net (ok .network)) .travels i line) h′
         (omega (arith, ahead s o)) near (k - d) (omega arith) (omega arith) (omega arith))
 
     -- T-received
@@ -146,7 +134,7 @@ module _ (net : Words) (lent : Memory) (ok : Lent net lent) where
     once w p q = go (two-places b (p .before) (q .before) (p .behind) (q .behind) (sym (p .calls) ∙ q .calls))
       where
         no : (u v t : List ℕ) → v ≡ u ++ (b ∷ t) → advanceOf net b (at u) .answer ≡ Took x → advanceOf net b (at v) .answer ≡ Took x → ⊥
-        no u v t e p q = let s : x ≡ suc (count b v) = step-is b v x q in let g : x ≤ count b v = rw e (later-steps u t p) in omega arith
+        no u v t e p q = let g : x ≤ count b v = rw e (later-steps u t p) in omega (arith, step-is b v x q)
 
         go : Apart b (p .before) (q .before) → p .before ≡ q .before
         go (inl e) = e

@@ -1,15 +1,8 @@
 -- T-received in voltages and currents alone: at an accepted step k of a run, the current of a line's end is g·v, less what the far end's g·v and
 -- current came to at its own accepted step k - d of that run. No store is spoken of. Assumes nothing.
-use Prim.Native.Nat.{ℕ, _-_, _≤_, _<_}
-use native.Mathlib.Omega.{arith}
-use mathlib.Core.Path.{_≡_, refl, sym, ap, _∙_}
-use mathlib.Core.Bool.{true}
-use mathlib.Core.List.{List}
-use lib.ListN.{length}
-use lib.IntN.{ℤ, negℤ, _+ℤ_}
-use borrow.Author.Tests.{lt-ltb}
+use Rattle.whole.specs.Plain.{ℕ, _-_, _≤_, _<_, _≡_, refl, sym, ap, _∙_, true, List, ℤ, negℤ, _+ℤ_, length, lt-ltb}
+use Rattle.whole.specs.Plain.{arith, Words, word}
 use Rattle.paper.specs.declared.Advance.the-variants.{Took}
-use Rattle.whole.specs.Lists.{Words, word}
 use Rattle.paper.specs.Rows.{isLine}
 use Rattle.paper.specs.Areas.{Net}
 use Rattle.paper.specs.Legs.{sentTo, sentAt}
@@ -20,7 +13,7 @@ use Rattle.demands.specs.Said.{fromCurrent, toCurrent, fromSent, toSent, gv, En
 use Rattle.demands.specs.Step.{step}
 use Rattle.runs.specs.Runs.{Lent, after}
 use Rattle.runs.specs.Orders.{start}
-use Rattle.runs.specs.Received.{Side, fromSide, toSide, far, nodeAt, storeOf, areaAt, StepIn, right-after, Sent}
+use Rattle.runs.specs.Received.{Side, fromSide, toSide, far, nodeAt, storeOf, areaAt, StepIn, right-after}
 use Rattle.runs.specs.Heard.{hears, received}
 
 -- the current that leaves a line's end into the line
@@ -76,21 +69,17 @@ module _ (net : Words) (lent : Memory) (ok : Lent net lent) (a : ℕ) (w : List 
 
   -- T-received, of the current that the step wrote
   pub line-law : (i : ℕ) → i < length (N .rows) → isLine (rowAt N i) ≡ true → (s : Side) → areaAt N s i ≡ a → LineLaw net (start net lent ok) w k s i n
-  line-law i h l s o = record {
-    early = own .early;
-    step = λ d. got d .step;
-    later = λ d.
-        let t = got d .step in
-        let b = areaAt N (far s) i in
-        let x = k - delayAt N i in
-        let p = right-after net (start net lent ok) w b x t in
-        own .later d
-        ∙ ap (λ (y : ℤ). gvAt N n s i +ℤ y) (sym (heard-is s i d) ∙ store-is p (far s) i x (hears N m k s i) (got d .value)
-        ∙ end-law (after net (t .before) (start net lent ok)) b x (t .answer) (far s) i h l refl .sent);
-  }
-    where
-      own : EndOf m k n s i
-      own = end-law m a k e s i h l o
-
-      got : delayAt N i < k → Sent net (start net lent ok) w (far s) i (k - delayAt N i) (hears N m k s i)
-      got = received net lent ok a w k e i h l s o .later
+  line-law i h l s o =
+      let own = end-law m a k e s i h l o in
+      let got = received net lent ok a w k e i h l s o .later in
+      let b = areaAt N (far s) i in
+      let x = k - delayAt N i in
+      record {
+        early = own .early;
+        step = λ d. got d .step;
+        later = λ d.
+            let t = got d .step in
+            own .later d
+            ∙ ap (λ (y : ℤ). gvAt N n s i +ℤ y) (sym (heard-is s i d) ∙ store-is (right-after net (start net lent ok) w b x t) (far s) i x (hears N m k s i) (got d .value)
+            ∙ end-law (after net (t .before) (start net lent ok)) b x (t .answer) (far s) i h l refl .sent);
+      }

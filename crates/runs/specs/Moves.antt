@@ -1,25 +1,15 @@
 -- The calls of an area as moves that do not disturb one another: each writes only its own words, reads only those and what it hears, and what
 -- another is about to hear is left alone. Assumes nothing.
-use Prim.Native.Nat.{ℕ, suc, _≤_}
-use native.Mathlib.Decide.{ℕ-discrete}
-use native.Mathlib.Omega.{arith}
-use mathlib.Core.Path.{_≡_, refl, sym, ap, _∙_}
-use mathlib.Core.Logic.{_≢_}
-use mathlib.Core.Bool.{Bool, true, false, cond, not, _&&_, true≢false}
-use mathlib.Core.List.{List, []}
-use lib.Seq.{ext-getD}
-use lib.Dec.{leb}
-use lib.IntN.{ℤ}
-use borrow.Author.Tests.{leb-true}
+use Rattle.whole.specs.Plain.{ℕ, suc, _≤_, _≡_, refl, sym, ap, _∙_, _≢_, true, false, cond, not, _&&_, true≢false, List}
+use Rattle.whole.specs.Plain.{[], leb, ℤ, ext-getD, leb-true, ℕ-discrete, arith, Words, z, word}
 use Rattle.paper.specs.declared.Advance.{Advance}
 use Rattle.paper.specs.declared.Advance.the-variants.{Took, Network, Store, State, Area, Done, Wait, Floating, Range, Unbalanced, History}
-use Rattle.whole.specs.Lists.{Words, z, word}
 use Rattle.whole.specs.Folds.{and-left, and-right}
 use Rattle.paper.specs.Answers.{accepted}
 use Rattle.paper.specs.Rows.{from, to}
 use Rattle.paper.specs.Network.{isNetwork}
 use Rattle.paper.specs.Areas.{Net, areaOf, areaCount}
-use Rattle.paper.specs.Records.{countOf, wellFormed}
+use Rattle.paper.specs.Records.{countOf, wellFormed, ownerOf}
 use Rattle.paper.specs.Legs.{Heard, heard}
 use Rattle.paper.specs.Advance.{Memory, memory, Advanced, advanced, written, firstLate, onNet, advanceOf}
 use Rattle.paper.specs.Kept.{advance-refused}
@@ -27,7 +17,6 @@ use Rattle.facts.specs.Nets.{NetSound, net-sound, rowAt, netIn, area-of}
 use Rattle.order.specs.Calls.{Moves}
 use Rattle.order.specs.Local.{Local}
 use Rattle.local.specs.Sound.{Sound, sound}
-use Rattle.local.specs.Own.{ownerOf}
 use Rattle.local.specs.Owners.{keeperOf, writes-own}
 use Rattle.local.specs.Waits.{Free, not-late, late-not}
 use Rattle.local.specs.Outcome.{stepOf, legsNow, voltsOf, lateNow, isArea, isDone, Outcome, no-area, done, waits, stops, takes, outcome, StepRefusal, floating14, range15, unbalanced16, history17, Taken}
@@ -60,11 +49,11 @@ acc-firm (Range n) e = refl
 acc-firm (Unbalanced n) e = refl
 acc-firm (History b) e = refl
 
-step-firm : {x : Advance} → StepRefusal x → firm x ≡ true
-step-firm floating14 = refl
-step-firm range15 = refl
-step-firm unbalanced16 = refl
-step-firm history17 = refl
+pub step-firm : {x : Advance} → StepRefusal x → (firm x ≡ true) × (accepted x ≡ false)
+step-firm floating14 = (refl, refl)
+step-firm range15 = (refl, refl)
+step-firm unbalanced16 = (refl, refl)
+step-firm history17 = (refl, refl)
 
 -- ---- over a net
 
@@ -87,7 +76,7 @@ module _ (N : Net) (a : ℕ) (m : Memory) (good : wellFormed N (m .records) (m .
       go (no-area e x) = rw x
       go (done e d x) = rw x
       go (waits r e d l x) = absurd (omega (arith, sym (h e d) ∙ l))
-      go (stops y s e d l v x) = rw x (step-firm s)
+      go (stops y s e d l v x) = rw x (step-firm s .0)
       go (takes e d l v x) = rw x
 
 -- ---- over a network record
@@ -138,19 +127,12 @@ module _ (net : Words) (network : isNetwork net ≡ true) where
       (ext-getD z (m .tos) (n .tos) (i .long .tos ∙ sym (j .long .tos)) (λ k _. h (toWord k)) x)
 
   pub writes : (a : ℕ) (m : Memory) (c : Cell) → Inv m → owner c ≢ a → at (advanceOf net a m .after) c ≡ at m c
-  writes a m c i = rw (called a m i) (go c)
-    where
-      go : (c : Cell) → owner c ≢ a → at (onNet N a m .after) c ≡ at m c
-      go (recordWord j) n = writes-own N a m snd (i .good) .records j n
-      go (fromWord j) n = writes-own N a m snd (i .good) .froms j n
-      go (toWord j) n = writes-own N a m snd (i .good) .tos j n
+  writes a m (recordWord j) i n = rw (called a m i) (writes-own N a m snd (i .good) .records j n)
+  writes a m (fromWord j) i n = rw (called a m i) (writes-own N a m snd (i .good) .froms j n)
+  writes a m (toWord j) i n = rw (called a m i) (writes-own N a m snd (i .good) .tos j n)
 
   same-long : (m n : Memory) → Inv m → Inv n → SameLengths m n
-  same-long m n i j = record {
-    records = i .long .records ∙ sym (j .long .records);
-    froms = i .long .froms ∙ sym (j .long .froms);
-    tos = i .long .tos ∙ sym (j .long .tos);
-  }
+  same-long m n i j = record { records = i .long .records ∙ sym (j .long .records); froms = i .long .froms ∙ sym (j .long .froms); tos = i .long .tos ∙ sym (j .long .tos) }
 
   module _ (a : ℕ) (m n : Memory) (i : Inv m) (j : Inv n) (own : (c : Cell) → owner c ≡ a → at m c ≡ at n c) (ears : hears a m ≡ hears a n)
       (f : firm (onNet N a m .answer) ≡ true) (g : firm (onNet N a n .answer) ≡ true) where
@@ -193,26 +175,16 @@ module _ (net : Words) (network : isNetwork net ≡ true) where
     abbrev ears : List Heard
     ears = heard N a (stepOf N a m) (m .froms) (m .tos)
 
-    top : a ≤ 32
-    top = omega (arith, t .most, snd .areas)
-
     pub own-count : countOf (next .records) a ≡ stepOf N a m
     unfolding written
-    own-count = counted N snd m (i .long) a (stepOf N a m) (t .one) top ears (voltsOf N a (stepOf N a m) (legsNow N a m))
+    own-count = counted N snd m (i .long) a (stepOf N a m) (t .one) (t .most) ears (voltsOf N a (stepOf N a m) (legsNow N a m))
 
     pub other-count : (b : ℕ) → 1 ≤ b → b ≤ 32 → a ≢ b → countOf (next .records) b ≡ countOf (m .records) b
     unfolding written
-    other-count b l h n = uncounted N snd m (i .long) a (stepOf N a m) (t .one) top ears (voltsOf N a (stepOf N a m) (legsNow N a m)) b l h (λ e. n (sym e))
+    other-count b l h n = uncounted N snd m (i .long) a (stepOf N a m) (t .one) (t .most) ears (voltsOf N a (stepOf N a m) (legsNow N a m)) b l h (λ e. n (sym e))
 
     grows : (b : ℕ) → 1 ≤ b → b ≤ 32 → countOf (m .records) b ≤ countOf (next .records) b
-    grows b l h = go (ℕ-discrete a b)
-      where
-        go : Dec (a ≡ b) → countOf (m .records) b ≤ countOf (next .records) b
-        go (yes e) = rw (← e, own-count) (omega arith)
-        go (no n) = rw (other-count b l h n) (omega arith)
-
-    abbrev areaAt : ℕ → ℕ
-    areaAt n = areaOf N n
+    grows b l h = elim (ℕ-discrete a b) [ yes e ↦ rw (← e, own-count) (omega arith) | no n ↦ rw (other-count b l h n) (omega arith) ]
 
     few : (n : ℕ) → areaOf N n ≤ 32
     few n = omega (arith, area-of N n, snd .areas)
@@ -255,17 +227,14 @@ module _ (net : Words) (network : isNetwork net ≡ true) where
 
       pub next-hears : firm (onNet N b m .answer) ≡ true → hears b next ≡ hears b m
       unfolding hears
-      next-hears f = by-area (isArea N b m) refl
-        where
-          by-done : (x : Bool) → isDone N b m ≡ x → isArea N b m ≡ true
-              → cond (not (isDone N b next)) (heard N b (stepOf N b next) (next .froms) (next .tos)) [] ≡ cond (not (isDone N b m)) (heard N b (stepOf N b m) (m .froms) (m .tos)) []
-          by-done true e p = rw (done-as p, e)
-          by-done false e p = rw (done-as p, e, steps-as p) (same-heard f p e)
-
-          by-area : (x : Bool) → isArea N b m ≡ x
-              → cond (x && not (isDone N b next)) (heard N b (stepOf N b next) (next .froms) (next .tos)) [] ≡ cond (x && not (isDone N b m)) (heard N b (stepOf N b m) (m .froms) (m .tos)) []
-          by-area true p = by-done (isDone N b m) refl p
-          by-area false p = refl
+      next-hears f =
+          let u = heard N b (stepOf N b next) (next .froms) (next .tos) in
+          let v = heard N b (stepOf N b m) (m .froms) (m .tos) in
+          elim (isArea N b m) as (λ x. isArea N b m ≡ x → cond (x && not (isDone N b next)) u [] ≡ cond (x && not (isDone N b m)) v []) [
+            | true ↦ λ p. rw (done-as p)
+                (elim (isDone N b m) as (λ y. isDone N b m ≡ y → cond (not y) u [] ≡ cond (not y) v []) [ true ↦ λ e. refl | false ↦ λ e. rw (steps-as p) (same-heard f p e) ] refl)
+            | false ↦ λ p. refl
+          ] refl
 
   -- an accepted call is such a step
   module _ (a : ℕ) (m : Memory) (i : Inv m) (ok : accepted (advanceOf net a m .answer) ≡ true) where

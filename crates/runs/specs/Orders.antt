@@ -1,15 +1,8 @@
 -- Demand 3: any two orders of calls, refused ones among them, with equal counts of accepted advances in every area, agree in everything. Assumes
 -- nothing.
-use Prim.Native.Nat.{ℕ}
-use mathlib.Core.Path.{_≡_, refl, sym, ap, _∙_}
-use mathlib.Core.Logic.{_≢_}
-use mathlib.Core.Bool.{Bool, true, false, _&&_, true≢false}
-use mathlib.Core.List.{List, [], _∷_}
-use lib.ListN.{length}
-use lib.Dec.{leb, eqb}
-use borrow.Author.Tests.{leb-true, le-leb, eqb-true}
-use Rattle.whole.specs.Lists.{Words}
-use Rattle.whole.specs.Folds.{and-left, and-right, both}
+use Rattle.whole.specs.Plain.{ℕ, _≡_, refl, sym, ap, _∙_, true, false, _&&_, List, [], _∷_, eqb, length, eqb-true}
+use Rattle.whole.specs.Plain.{decLe, Words}
+use Rattle.whole.specs.Folds.{and-left, and-right}
 use Rattle.paper.specs.Answers.{accepted}
 use Rattle.paper.specs.Areas.{Net, areaCount}
 use Rattle.paper.specs.Advance.{Memory, advanceOf}
@@ -21,7 +14,7 @@ use Rattle.order.specs.Calls.{put}
 use Rattle.order.specs.Diamond.{Laws}
 use Rattle.order.specs.Orders as O
 use Rattle.order.specs.Local.{laws}
-use Rattle.local.specs.Outcome.{isArea, Outcome}
+use Rattle.local.specs.Outcome.{Outcome}
 use Rattle.local.specs.Outcome as Outcome
 use Rattle.stays.specs.Stays.{fresh-well}
 use Rattle.demands.specs.Said.{IsArea}
@@ -82,21 +75,19 @@ module _ (net : Words) (lent : Memory) (ok : Lent net lent) where
   none-accepted : (a : ℕ) (w : List ℕ) (m : Memory) → Inv net (ok .network) m → (IsArea N a → ⊥) → accepts net a w m ≡ []
   unfolding accepts
   none-accepted a [] m i h = refl
-  none-accepted a (c ∷ w) m i h = rw (none-accepted a w (advanceOf net c m .after) (keep net (ok .network) c m i) h) (go (accepted (advanceOf net c m .answer)) (eqb a c) refl refl)
-    where
-      go : (x y : Bool) → accepted (advanceOf net c m .answer) ≡ x → eqb a c ≡ y → put (x && y) (advanceOf net c m .answer) [] ≡ []
-      go true true p q = absurd (h (rw (eqb-true a c q) (area-of-accepted c m i p)))
-      go true false p q = refl
-      go false y p q = refl
+  none-accepted a (c ∷ w) m i h =
+      let t = accepted (advanceOf net c m .answer) in
+      rw (none-accepted a w (advanceOf net c m .after) (keep net (ok .network) c m i) h)
+      (elim (t && eqb a c) as (λ x. t && eqb a c ≡ x → put x (advanceOf net c m .answer) [] ≡ [])
+      [ true ↦ λ p. absurd (h (rw (eqb-true a c (and-right t (eqb a c) p)) (area-of-accepted c m i (and-left t (eqb a c) p)))) | false ↦ λ p. refl ] refl)
 
   pub same-counts : (w v : List ℕ) → ((a : ℕ) → IsArea N a → taken net a w start ≡ taken net a v start) → (a : ℕ) → taken net a w start ≡ taken net a v start
-  same-counts w v h a = go (isArea N a start) refl
-    where
-      go : (x : Bool) → isArea N a start ≡ x → taken net a w start ≡ taken net a v start
-      go true e = h a (record { one = leb-true 1 a (and-left (leb 1 a) _ e); most = leb-true a (areaCount N) (and-right (leb 1 a) _ e) })
-      go false e =
-          let no : IsArea N a → ⊥ = λ p. true≢false (sym (both (le-leb 1 a (p .one)) (le-leb a (areaCount N) (p .most))) ∙ e) in
-          rw (none-accepted a w start start-inv no, none-accepted a v start start-inv no)
+  same-counts w v h a =
+      let none : (IsArea N a → ⊥) → taken net a w start ≡ taken net a v start = λ no. rw (none-accepted a w start start-inv no, none-accepted a v start start-inv no) in
+      elim (decLe 1 a) [
+        | yes l ↦ elim (decLe a (areaCount N)) [ yes u ↦ h a (record { one = l; most = u }) | no u ↦ none (λ p. u (p .most)) ]
+        | no l ↦ none (λ p. l (p .one))
+      ]
 
   -- T-order
   pub orders-agree : (w v : List ℕ) → ((a : ℕ) → IsArea N a → taken net a w start ≡ taken net a v start)

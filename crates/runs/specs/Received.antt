@@ -1,18 +1,9 @@
 -- "h is what the far end sent at step k - d, or 0 where k - d < 1": over every run, what a line end hears at its area's accepted step k is what stood
 -- in the far end's slot right after the far area's own accepted step k - d of that run. Assumes nothing.
-use Prim.Native.Nat.{ℕ, suc, _+_, _-_, _%_, _≤_, _<_}
-use native.Mathlib.Nat.{mod-lt}
-use native.Mathlib.Decide.{ℕ-discrete}
-use native.Mathlib.Omega.{arith}
-use mathlib.Core.Path.{_≡_, refl, sym, ap, _∙_, subst}
-use mathlib.Core.Logic.{_≢_}
-use mathlib.Core.Bool.{Bool, true, false}
-use mathlib.Core.List.{List, [], _∷_, _++_, append-assoc, append-nil}
-use lib.ListN.{length}
-use lib.Seq.{append-snoc}
-use lib.IntN.{ℤ}
+use Rattle.whole.specs.Plain.{ℕ, suc, _+_, _-_, _%_, _≤_, _<_, _≡_, refl, sym, ap, _∙_, subst, _≢_, Bool, true, false}
+use Rattle.whole.specs.Plain.{List, [], _∷_, _++_, append-assoc, append-nil, ℤ, length, append-snoc, mod-lt, ℕ-discrete}
+use Rattle.whole.specs.Plain.{arith, Words, word}
 use Rattle.paper.specs.declared.Advance.the-variants.{Took}
-use Rattle.whole.specs.Lists.{Words, word}
 use Rattle.whole.specs.Folds.{and-left}
 use Rattle.paper.specs.Answers.{accepted}
 use Rattle.paper.specs.Rows.{Row, isLine, from, to}
@@ -48,10 +39,6 @@ nodeAt toSide r = to r
 abbrev pub storeOf : Side → Memory → Words
 storeOf fromSide m = m .froms
 storeOf toSide m = m .tos
-
-abbrev pub endOf : Side → Branch → End
-endOf fromSide b = b .fromEnd
-endOf toSide b = b .toEnd
 
 -- the area that has that end of line i
 abbrev pub areaAt : Net → Side → ℕ → ℕ
@@ -110,9 +97,6 @@ module _ (net : Words) (lent : Memory) (ok : Lent net lent) where
   module _ (s : Side) (i : ℕ) (here : i < length (N .rows)) (line : isLine (rowAt N i) ≡ true) where
     abbrev b : ℕ
     b = areaAt N s i
-
-    few : b ≤ 32
-    few = omega (arith, area-of N (nodeAt s (rowAt N i)), f .areas)
 
     least : (s : Side) → 1 ≤ areaAt N s i
     least fromSide = f .from-area i line
@@ -180,37 +164,26 @@ module _ (net : Words) (lent : Memory) (ok : Lent net lent) where
       other-area : accepted (advanceOf net c m .answer) ≡ true → c ≢ b → Holds (storeOf s n) (offset N i) (slotsAt N i) (countOf (n .records) b) Sent′
       other-area e d =
           let q : countOf (n .records) b ≡ countOf (m .records) b =
-          ap (λ (m : Memory). countOf (m .records) b) (moved net (ok .network) c m (inv w) e) ∙ other-count net (ok .network) c m (inv w) (took net (ok .network) c m (inv w) e) b (least s) few d in
+          ap (λ (m : Memory). countOf (m .records) b) (moved net (ok .network) c m (inv w) e) ∙ other-count net (ok .network) c m (inv w) (took net (ok .network) c m (inv w) e) b (least s) (omega (arith, area-of N (nodeAt s (rowAt N i)), f .areas)) d in
           rw q
           (holds-still (storeOf s m) (storeOf s n) (offset N i) (slotsAt N i) (countOf (m .records) b) (Sent net from0 w s i) Sent′ some h more
           (λ r l. kept s c m r (inv w) (λ p. d (sym p)) l))
 
       own-area : accepted (advanceOf net c m .answer) ≡ true → c ≡ b → Holds (storeOf s n) (offset N i) (slotsAt N i) (countOf (n .records) b) Sent′
       own-area e d =
-          rw q (holds-sent (storeOf s m) (storeOf s n) (offset N i) (slotsAt N i) (countOf (m .records) b) (Sent net from0 w s i) Sent′ some h more new old)
-        where
-          t : Taken N c m (inv w .good)
-          t = took net (ok .network) c m (inv w) e
-
-          is : stepOf N c m ≡ suc (countOf (m .records) b)
-          is = ap (λ (a : ℕ). suc (countOf (m .records) a)) d
-
-          q : countOf (n .records) b ≡ suc (countOf (m .records) b)
-          q = ap (λ (m : Memory). countOf (m .records) b) (moved net (ok .network) c m (inv w) e) ∙ subst (λ (a : ℕ). countOf (next net (ok .network) c m (inv w) t .records) a ≡ stepOf N c m) d (own-count net (ok .network) c m (inv w) t) ∙ is
-
-          took-it : advanceOf net b m .answer ≡ Took (suc (countOf (m .records) b))
-          took-it = subst (λ (a : ℕ). advanceOf net a m .answer ≡ Took (suc (countOf (m .records) a))) d (ap (λ (r : Advanced). r .answer) (call-is net (ok .network) c m (inv w) e))
-
-          new : Sent′ (suc (countOf (m .records) b)) (slot (storeOf s n) (offset N i) (slotsAt N i) (suc (countOf (m .records) b)))
-          new = record {
+          let t = took net (ok .network) c m (inv w) e in
+          let mv = moved net (ok .network) c m (inv w) e in
+          let k = suc (countOf (m .records) b) in
+          let is : stepOf N c m ≡ k = ap (λ (a : ℕ). suc (countOf (m .records) a)) d in
+          let q : countOf (n .records) b ≡ k = ap (λ (m : Memory). countOf (m .records) b) mv ∙ subst (λ (a : ℕ). countOf (next net (ok .network) c m (inv w) t .records) a ≡ stepOf N c m) d (own-count net (ok .network) c m (inv w) t) ∙ is in
+          let took-it : advanceOf net b m .answer ≡ Took k = rw d at (ap (λ (r : Advanced). r .answer) (call-is net (ok .network) c m (inv w) e)) in
+          let new : Sent′ k (slot (storeOf s n) (offset N i) (slotsAt N i) k) = record {
             step = record { before = w; behind = []; calls = ap (λ (a : ℕ). w ++ (a ∷ [])) d; answer = took-it };
-            value = ap (λ (a : ℕ). word (storeOf s (advanceOf net a m .after)) (slotOf N i (suc (countOf (m .records) b)))) d;
-          }
-
-          old : (r : ℕ) → r < slotsAt N i → r ≢ suc (countOf (m .records) b) % slotsAt N i → word (storeOf s n) (offset N i + r) ≡ word (storeOf s m) (offset N i + r)
-          old r l u =
-              ap (λ (m : Memory). word (storeOf s m) (offset N i + r)) (moved net (ok .network) c m (inv w) e)
-              ∙ missed m (inv w) c t s r l (λ p. u (p ∙ ap (λ (x : ℕ). x % slotsAt N i) is))
+            value = ap (λ (a : ℕ). word (storeOf s (advanceOf net a m .after)) (slotOf N i k)) d;
+          } in
+          rw q
+          (holds-sent (storeOf s m) (storeOf s n) (offset N i) (slotsAt N i) (countOf (m .records) b) (Sent net from0 w s i) Sent′ some h more new
+          (λ r l u. ap (λ (m : Memory). word (storeOf s m) (offset N i + r)) mv ∙ missed m (inv w) c t s r l (λ p. u (p ∙ ap (λ (x : ℕ). x % slotsAt N i) is))))
 
       kept-next : Kept (w ++ (c ∷ []))
       kept-next = subst (λ (n : Memory). Holds (storeOf s n) (offset N i) (slotsAt N i) (countOf (n .records) b) Sent′) (sym (after-snoc net w c from0)) (go (accepted (advanceOf net c m .answer)) refl (ℕ-discrete c b))

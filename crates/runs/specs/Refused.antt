@@ -1,33 +1,25 @@
 -- What a run is answered: never 8, 9 or 10; a refusal of 14 to 17 at the same step in every order; never 13 where an area has the fewest steps.
 -- Assumes nothing.
-use Prim.Native.Nat.{ℕ, suc, _+_, _≤_}
-use native.Mathlib.Omega.{arith}
-use mathlib.Core.Path.{_≡_, refl, sym, ap, _∙_, subst}
-use mathlib.Core.Logic.{_≢_}
-use mathlib.Core.Bool.{Bool, true, false, _&&_}
-use mathlib.Core.List.{List, [], _∷_}
-use lib.ListN.{length}
-use lib.Dec.{eqb}
-use borrow.Author.Tests.{eqb-true, eqb-false}
+use Rattle.whole.specs.Plain.{ℕ, suc, _+_, _≤_, _≡_, refl, sym, ap, _∙_, subst, _≢_, Bool, true, false, _&&_, List, []}
+use Rattle.whole.specs.Plain.{_∷_, eqb, length, eqb-true, eqb-false, arith, Words, z, nat}
 use Rattle.paper.specs.declared.Advance.{Advance}
-use Rattle.whole.specs.Lists.{Words, z, nat}
 use Rattle.paper.specs.Answers.{accepted, advanceNumber}
 use Rattle.paper.specs.Rows.{from, to}
 use Rattle.paper.specs.Areas.{Net, areaOf}
 use Rattle.paper.specs.Records.{countAt, countOf}
-use Rattle.paper.specs.Advance.{Memory, Advanced, onNet, advanceOf}
+use Rattle.paper.specs.Advance.{Memory, Advanced, advanceOf}
 use Rattle.paper.specs.Kept.{advance-refused}
 use Rattle.paper.specs.Resetting.{fresh}
 use Rattle.facts.specs.Nets.{netIn, rowAt, area-of, net-sound}
 use Rattle.order.specs.Calls as C
 use Rattle.order.specs.Calls.{put}
 use Rattle.order.specs.Orders as O
-use Rattle.local.specs.Sound.{Sound, sound}
+use Rattle.local.specs.Sound.{sound}
 use Rattle.local.specs.Waits.{Free, late-not}
-use Rattle.local.specs.Outcome.{stepOf, StepRefusal, floating14, range15, unbalanced16, history17, Outcome, no-area, done, waits, stops, takes, outcome}
+use Rattle.local.specs.Outcome.{stepOf, StepRefusal, floating14, range15, unbalanced16, history17, no-area, done, waits, stops, takes, outcome}
 use Rattle.stays.specs.Stays.{zero-word}
 use Rattle.runs.specs.Runs.{Lent, after, accepts, taken, firm}
-use Rattle.runs.specs.Moves.{Inv, called, keep, moves, took, moved, own-count, other-count, free-firm}
+use Rattle.runs.specs.Moves.{Inv, called, keep, moves, took, moved, own-count, other-count, step-firm, free-firm}
 use Rattle.demands.specs.Said.{IsArea}
 use Rattle.runs.specs.Orders.{start, starts, start-inv, run-inv, run-is, count-is, diamond}
 
@@ -37,20 +29,11 @@ pub record RunNumber (x : Advance) : Type 0 where
   pub not9 : advanceNumber x ≢ 9
   pub not10 : advanceNumber x ≢ 10
 
-by-number : (x : Advance) (n : ℕ) → advanceNumber x ≡ n → n ≢ 8 → n ≢ 9 → n ≢ 10 → RunNumber x
-by-number x n e p q r = record { not8 = λ f. p (sym e ∙ f); not9 = λ f. q (sym e ∙ f); not10 = λ f. r (sym e ∙ f) }
-
 step-number : {x : Advance} → StepRefusal x → RunNumber x
-step-number (floating14 {n}) = by-number _ 14 refl (λ e. omega arith) (λ e. omega arith) (λ e. omega arith)
-step-number (range15 {n}) = by-number _ 15 refl (λ e. omega arith) (λ e. omega arith) (λ e. omega arith)
-step-number (unbalanced16 {n}) = by-number _ 16 refl (λ e. omega arith) (λ e. omega arith) (λ e. omega arith)
-step-number (history17 {b}) = by-number _ 17 refl (λ e. omega arith) (λ e. omega arith) (λ e. omega arith)
-
-step-firm : {x : Advance} → StepRefusal x → (firm x ≡ true) × (accepted x ≡ false)
-step-firm floating14 = (refl, refl)
-step-firm range15 = (refl, refl)
-step-firm unbalanced16 = (refl, refl)
-step-firm history17 = (refl, refl)
+step-number floating14 = omega arith
+step-number range15 = omega arith
+step-number unbalanced16 = omega arith
+step-number history17 = omega arith
 
 module _ (net : Words) (lent : Memory) (ok : Lent net lent) where
   abbrev N : Net
@@ -68,17 +51,16 @@ module _ (net : Words) (lent : Memory) (ok : Lent net lent) where
 
   -- no run from a reset gets 8, 9 or 10
   pub never-8-9-10 : (a : ℕ) (w : List ℕ) → RunNumber (answers a w)
-  never-8-9-10 a w = subst RunNumber (sym (ap (λ (r : Advanced). r .answer) (called net (ok .network) a (at w) i))) (go (outcome N a (at w) (i .good)))
-    where
-      i : Inv net (ok .network) (at w)
-      i = run-inv net lent ok w
-
-      go : Outcome N a (at w) → RunNumber (onNet N a (at w) .answer)
-      go (no-area e x) = rw x (by-number _ 11 refl (λ e. omega arith) (λ e. omega arith) (λ e. omega arith))
-      go (done e d x) = rw x (by-number _ 12 refl (λ e. omega arith) (λ e. omega arith) (λ e. omega arith))
-      go (waits r e d l x) = rw x (by-number _ 13 refl (λ e. omega arith) (λ e. omega arith) (λ e. omega arith))
-      go (stops y s e d l v x) = rw x (step-number s)
-      go (takes e d l v x) = rw x (by-number _ 0 refl (λ e. omega arith) (λ e. omega arith) (λ e. omega arith))
+  never-8-9-10 a w =
+      let i = run-inv net lent ok w in
+      subst RunNumber (sym (ap (λ (r : Advanced). r .answer) (called net (ok .network) a (at w) i)))
+      (elim (outcome N a (at w) (i .good)) [
+        | no-area e x ↦ rw x (omega arith)
+        | done e d x ↦ rw x (omega arith)
+        | waits r e d l x ↦ rw x (omega arith)
+        | stops y s e d l v x ↦ rw x (step-number s)
+        | takes e d l v x ↦ rw x (omega arith)
+      ])
 
   -- T-refused-step: where area a is refused by 14 to 17 after w, no order takes it further; and in an order that has taken it as far it gets that
   -- same answer, its place too, unless it is told to wait
@@ -109,9 +91,6 @@ module _ (net : Words) (lent : Memory) (ok : Lent net lent) where
       most : a ≤ 32
       most = omega (arith, h .most, sound N (net-sound net (ok .network)) .areas)
 
-      stays : accepted (advanceOf net c m .answer) ≡ false → advanceOf net c m .after ≡ m
-      stays e = advance-refused net c m e
-
       go : (x y : Bool) → accepted (advanceOf net c m .answer) ≡ x → eqb a c ≡ y
           → count a (advanceOf net c m .after) + length (accepts net a w (advanceOf net c m .after)) ≡ count a m + length (put (x && y) (advanceOf net c m .answer) (accepts net a w (advanceOf net c m .after)))
       go true true e q =
@@ -120,7 +99,7 @@ module _ (net : Words) (lent : Memory) (ok : Lent net lent) where
       go true false e q =
           let z : count a (advanceOf net c m .after) ≡ count a m = rw (moved net (ok .network) c m i e) (other-count net (ok .network) c m i (took net (ok .network) c m i e) a (h .one) most (λ p. eqb-false a c q (sym p))) in
           omega arith
-      go false y e q = let z : count a (advanceOf net c m .after) ≡ count a m = ap (count a) (stays e) in omega arith
+      go false y e q = let z : count a (advanceOf net c m .after) ≡ count a m = ap (count a) (advance-refused net c m e) in omega arith
 
   pub counts-are : (a : ℕ) → IsArea N a → (w : List ℕ) → count a (at w) ≡ taken net a w from0
   unfolding fresh
@@ -131,20 +110,11 @@ module _ (net : Words) (lent : Memory) (ok : Lent net lent) where
   -- T-fewest: an area that no other one is behind is never told to wait
   pub fewest : (a : ℕ) (w : List ℕ) → IsArea N a → ((b : ℕ) → IsArea N b → taken net a w from0 ≤ taken net b w from0) → firm (answers a w) ≡ true
   fewest a w h least =
-      ap (λ (r : Advanced). firm (r .answer)) (called net (ok .network) a (at w) i)
-      ∙ (free-firm N a (at w) (i .good) (λ _ _. late-not N a (stepOf N a (at w)) (at w .records) free))
-    where
-      i : Inv net (ok .network) (at w)
-      i = run-inv net lent ok w
-
-      f : Sound N
-      f = sound N (net-sound net (ok .network))
-
-      behind : (b : ℕ) → IsArea N b → count a (at w) ≤ count b (at w)
-      behind b g = rw (counts-are a h w, counts-are b g w) (least b g)
-
-      free : Free N a (stepOf N a (at w)) (at w .records)
-      free j l e = record {
+      let i = run-inv net lent ok w in
+      let f = sound N (net-sound net (ok .network)) in
+      let behind : (b : ℕ) → IsArea N b → count a (at w) ≤ count b (at w) = λ b g. rw (counts-are a h w, counts-are b g w) (least b g) in
+      let free : Free N a (stepOf N a (at w)) (at w .records) = λ j l e. record {
         at-from = λ o. omega (arith, f .travels j e, behind (areaOf N (to (rowAt N j))) (record { one = f .to-area j e; most = area-of N (to (rowAt N j)) }));
         at-to = λ o. omega (arith, f .travels j e, behind (areaOf N (from (rowAt N j))) (record { one = f .from-area j e; most = area-of N (from (rowAt N j)) }));
-      }
+      } in
+      ap (λ (r : Advanced). firm (r .answer)) (called net (ok .network) a (at w) i) ∙ free-firm N a (at w) (i .good) (λ _ _. late-not N a (stepOf N a (at w)) (at w .records) free)

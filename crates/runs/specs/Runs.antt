@@ -1,13 +1,7 @@
 -- A run: any list of area numbers, called one after the other from a reset, refused calls among them. Assumes nothing.
-use Prim.Native.Nat.{ℕ}
-use mathlib.Core.Path.{_≡_}
-use mathlib.Core.Bool.{Bool, true, false, _&&_}
-use mathlib.Core.List.{List, [], _∷_}
-use lib.ListN.{length}
-use lib.Dec.{eqb}
+use Rattle.whole.specs.Plain.{ℕ, _≡_, Bool, true, false, _&&_, List, [], _∷_, eqb, length, Words}
 use Rattle.paper.specs.declared.Advance.{Advance}
 use Rattle.paper.specs.declared.Advance.the-variants.{Took, Network, Store, State, Area, Done, Wait, Floating, Range, Unbalanced, History}
-use Rattle.whole.specs.Lists.{Words}
 use Rattle.paper.specs.Answers.{accepted}
 use Rattle.paper.specs.Network.{isNetwork}
 use Rattle.paper.specs.Advance.{Memory, advanceOf, fits}

@@ -1,15 +1,8 @@
 -- T-order, of every step on the way: not only do two orders end alike, each area's own words right after each of its accepted steps are the same in
 -- both. Assumes nothing.
-use Prim.Native.Nat.{ℕ, suc}
-use mathlib.Core.Path.{_≡_, refl, sym, ap, _∙_, fun-ext}
-use mathlib.Core.Bool.{Bool, true, false, cond, _&&_}
-use mathlib.Core.List.{List, [], _∷_}
-use lib.ListN.{length}
-use lib.Dec.{eqb}
-use lib.IntN.{ℤ}
-use borrow.Author.Tests.{eqb-true}
+use Rattle.whole.specs.Plain.{ℕ, suc, _≡_, refl, sym, ap, _∙_, fun-ext, Bool, true, false, cond, _&&_, List, [], _∷_}
+use Rattle.whole.specs.Plain.{eqb, ℤ, length, eqb-true, Words, z}
 use Rattle.paper.specs.declared.Advance.{Advance}
-use Rattle.whole.specs.Lists.{Words, z}
 use Rattle.paper.specs.Answers.{accepted}
 use Rattle.paper.specs.Network.{isNetwork}
 use Rattle.paper.specs.Legs.{Heard}
@@ -50,11 +43,9 @@ module _ (net : Words) (network : isNetwork net ≡ true) where
 
   own-same : (a : ℕ) (m n : Memory) → ((c : Cell) → ownerIn (netIn net) c ≡ a → at m c ≡ at n c) → ownWords net a m ≡ ownWords net a n
   unfolding ownWords
-  own-same a m n h = fun-ext (λ c. go c (eqb (ownerIn (netIn net) c) a) refl)
-    where
-      go : (c : Cell) (b : Bool) → eqb (ownerIn (netIn net) c) a ≡ b → cond b (at m c) z ≡ cond b (at n c) z
-      go c true e = h c (eqb-true (ownerIn (netIn net) c) a e)
-      go c false e = refl
+  own-same a m n h =
+      fun-ext (λ c. elim (eqb (ownerIn (netIn net) c) a) as (λ b. eqb (ownerIn (netIn net) c) a ≡ b → cond b (at m c) z ≡ cond b (at n c) z)
+      [ true ↦ λ e. h c (eqb-true (ownerIn (netIn net) c) a e) | false ↦ λ e. refl ] refl)
 
   rich-local : Local rich (Inv net network)
   rich-local = record {

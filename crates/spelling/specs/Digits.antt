@@ -1,15 +1,8 @@
 -- "Numbers are decimal without leading zeros": each number has one spelling, and each spelling is of one number. Assumes nothing.
-use Prim.Native.Nat.{ℕ, zero, suc, _+_, _*_, _-_, _/_, _%_, _^_, _≤_, _<_}
-use native.Mathlib.Omega.{arith}
-use native.Mathlib.Decide.{decLt}
-use native.Mathlib.Nat.{pow-suc}
-use mathlib.Core.Path.{_≡_, refl, sym, ap, _∙_, subst}
-use mathlib.Core.Bool.{Bool, true, false, not, _&&_, true≢false}
-use mathlib.Core.List.{List, [], _∷_, _++_, append-assoc, append-nil}
-use lib.ListN.{length, length-append}
-use lib.Dec.{leb, eqb}
-use borrow.Author.Tests.{leb-true, le-leb, eqb-false, ne-eqb, not-true}
-use Rattle.whole.specs.Lists.{every, fold}
+use Rattle.whole.specs.Plain.{ℕ, zero, suc, _+_, _*_, _-_, _/_, _%_, _^_, _≤_, _<_, _≡_, refl, sym, ap, _∙_, subst}
+use Rattle.whole.specs.Plain.{Bool, true, false, not, _&&_, true≢false, List, [], _∷_, _++_, append-assoc, append-nil}
+use Rattle.whole.specs.Plain.{leb, eqb, length, length-append, leb-true, le-leb, eqb-false, eq-eqb, ne-eqb, not-true}
+use Rattle.whole.specs.Plain.{pow-suc, decLt, ℕ-discrete, arith, every, fold}
 use Rattle.whole.specs.Folds.{and-left, and-right, both, fold-append, every-append}
 use Rattle.paper.specs.Text.{digit, decimal, decimalOf}
 use Rattle.paper.specs.Listing.{digits}
@@ -20,12 +13,12 @@ spellNat n = digits (suc n) true n []
 
 -- ---- digit by digit, the last one first
 
-stopped : (f n : ℕ) (rest : List ℕ) → digits f false n rest ≡ rest
+pub stopped : (f n : ℕ) (rest : List ℕ) → digits f false n rest ≡ rest
 unfolding digits
 stopped zero n rest = refl
 stopped (suc f) n rest = refl
 
-before : (f : ℕ) (more : Bool) (n : ℕ) (rest : List ℕ) → digits f more n rest ≡ digits f more n [] ++ rest
+pub before : (f : ℕ) (more : Bool) (n : ℕ) (rest : List ℕ) → digits f more n rest ≡ digits f more n [] ++ rest
 unfolding digits
 before zero more n rest = refl
 before (suc f) false n rest = refl
@@ -40,17 +33,16 @@ room : (f g n : ℕ) (rest : List ℕ) → n < f → n < g → digits f true n r
 unfolding digits
 room zero g n rest h k = absurd (omega arith)
 room (suc f) zero n rest h k = absurd (omega arith)
-room (suc f) (suc g) n rest h k = go (eqb (n / 10) 0) refl (λ u v. room f g (n / 10) ((48 + n % 10) ∷ rest) u v)
-  where
-    go : (b : Bool) → eqb (n / 10) 0 ≡ b → (n / 10 < f → n / 10 < g → digits f true (n / 10) ((48 + n % 10) ∷ rest) ≡ digits g true (n / 10) ((48 + n % 10) ∷ rest))
-        → digits f (not b) (n / 10) ((48 + n % 10) ∷ rest) ≡ digits g (not b) (n / 10) ((48 + n % 10) ∷ rest)
-    go true e more = stopped f (n / 10) ((48 + n % 10) ∷ rest) ∙ sym (stopped g (n / 10) ((48 + n % 10) ∷ rest))
-    go false e more = let q = eqb-false (n / 10) 0 e in more (omega arith) (omega arith)
+room (suc f) (suc g) n rest h k =
+    elim (ℕ-discrete (n / 10) 0) [
+      | yes e ↦ rw (eq-eqb (n / 10) 0 e) (stopped f (n / 10) ((48 + n % 10) ∷ rest) ∙ sym (stopped g (n / 10) ((48 + n % 10) ∷ rest)))
+      | no e ↦ rw (ne-eqb (n / 10) 0 e) (room f g (n / 10) ((48 + n % 10) ∷ rest) (omega arith) (omega arith))
+    ]
 
 -- a digit, and a number of more than one
 turn : (f n q d : ℕ) → n / 10 ≡ q → n % 10 ≡ d → digits (suc f) true n [] ≡ digits f (not (eqb q 0)) q ((48 + d) ∷ [])
 unfolding digits
-turn f n q d e r = ap (λ (x : ℕ). digits f (not (eqb x 0)) x ((48 + n % 10) ∷ [])) e ∙ ap (λ (x : ℕ). digits f (not (eqb q 0)) q ((48 + x) ∷ [])) r
+turn f n q d e r = rw (e, r)
 
 pub spell-digit : (n : ℕ) → n < 10 → spellNat n ≡ (48 + n) ∷ []
 unfolding spellNat
@@ -70,35 +62,22 @@ spell-more n d h k =
 by-digits : (P : ℕ → Type 0) → ((d : ℕ) → d < 10 → P d) → ((n d : ℕ) → 1 ≤ n → d < 10 → P n → P (10 * n + d)) → (n : ℕ) → P n
 by-digits P one more n = go (suc n) n (omega arith)
   where
-    step : (n : ℕ) → (n / 10 < n → P (n / 10)) → Dec (n < 10) → P n
-    step n below (yes h) = one n h
-    step n below (no h) =
-        let e : 10 * (n / 10) + n % 10 ≡ n = omega arith in
-        subst P e (more (n / 10) (n % 10) (omega arith) (omega arith) (below (omega arith)))
-
     go : (f n : ℕ) → n < f → P n
     go zero n h = absurd (omega arith)
-    go (suc f) n h = step n (λ l. go f (n / 10) (omega arith)) (decLt n 10)
+    go (suc f) n h =
+        let e : 10 * (n / 10) + n % 10 ≡ n = omega arith in
+        elim (decLt n 10) [ yes l ↦ one n l | no l ↦ subst P e (more (n / 10) (n % 10) (omega arith) (omega arith) (go f (n / 10) (omega arith))) ]
 
 abbrev pushed : ℕ → ℕ → ℕ
 pushed n b = 10 * n + (b - 48)
-
-value-none : decimalOf [] ≡ 0
-unfolding decimalOf fold
-value-none = refl
 
 value-more : (s : List ℕ) (d : ℕ) → decimalOf (s ++ ((48 + d) ∷ [])) ≡ 10 * decimalOf s + d
 unfolding decimalOf fold
 value-more s d = fold-append pushed 0 s ((48 + d) ∷ []) ∙ omega arith
 
 pub spell-value : (n : ℕ) → decimalOf (spellNat n) ≡ n
-spell-value = by-digits (λ n. decimalOf (spellNat n) ≡ n) one more
-  where
-    one : (d : ℕ) → d < 10 → decimalOf (spellNat d) ≡ d
-    one d h = rw (spell-digit d h) (value-more [] d ∙ omega (arith, value-none))
-
-    more : (n d : ℕ) → 1 ≤ n → d < 10 → decimalOf (spellNat n) ≡ n → decimalOf (spellNat (10 * n + d)) ≡ 10 * n + d
-    more n d h k e = rw (spell-more n d h k, value-more, e)
+unfolding decimalOf fold
+spell-value = by-digits (λ n. decimalOf (spellNat n) ≡ n) (λ d h. rw (spell-digit d h) (omega arith)) (λ n d h k e. rw (spell-more n d h k, value-more (spellNat n) d, e))
 
 -- ---- the spelling is a number's
 
@@ -130,39 +109,22 @@ leading-more s d l h = record {
   digits = every-append digit (l .rest) ((48 + d) ∷ []) ∙ both (l .digits) (both (digit-is d h) refl);
 }
 
-nothing-else : every digit [] ≡ true
-unfolding every
-nothing-else = refl
-
-decimal-one : (b : ℕ) → digit b ≡ true → decimal (b ∷ []) ≡ true
-unfolding decimal
-decimal-one b e = e
-
-decimal-many : (b c : ℕ) (t : List ℕ) → digit b ≡ true → eqb b 48 ≡ false → every digit (c ∷ t) ≡ true → decimal (b ∷ (c ∷ t)) ≡ true
-unfolding decimal
-decimal-many b c t e f g = rw (e, f, g)
-
 pub spell-leading : (n : ℕ) → 1 ≤ n → Leading (spellNat n)
-spell-leading = by-digits (λ n. 1 ≤ n → Leading (spellNat n)) one more
-  where
-    alone : (d : ℕ) → d < 10 → 1 ≤ d → every digit [] ≡ true → Leading (spellNat d)
-    alone d h k e = record { head = 48 + d; rest = []; is = spell-digit d h; first = digit-is d h; nonzero = ne-eqb (48 + d) 48 (λ q. omega arith); digits = e }
-
-    one : (d : ℕ) → d < 10 → 1 ≤ d → Leading (spellNat d)
-    one d h k = alone d h k nothing-else
-
-    more : (n d : ℕ) → 1 ≤ n → d < 10 → (1 ≤ n → Leading (spellNat n)) → 1 ≤ 10 * n + d → Leading (spellNat (10 * n + d))
-    more n d h k l u = rw (spell-more n d h k) (leading-more (spellNat n) d (l h) k)
+unfolding every
+spell-leading =
+    by-digits (λ n. 1 ≤ n → Leading (spellNat n))
+    (λ d h k. record { head = 48 + d; rest = []; is = spell-digit d h; first = digit-is d h; nonzero = ne-eqb (48 + d) 48 (λ q. omega arith); digits = refl })
+    (λ n d h k l u. rw (spell-more n d h k) (leading-more (spellNat n) d (l h) k))
 
 pub leading-decimal : (s : List ℕ) → Leading s → decimal s ≡ true
-leading-decimal s l = rw (l .is) (go (l .head) (l .rest) (l .first) (l .nonzero) (l .digits))
-  where
-    go : (b : ℕ) (t : List ℕ) → digit b ≡ true → eqb b 48 ≡ false → every digit t ≡ true → decimal (b ∷ t) ≡ true
-    go b [] e f g = decimal-one b e
-    go b (c ∷ t) e f g = decimal-many b c t e f g
+unfolding decimal
+leading-decimal s l =
+    rw (l .is)
+    (elim (l .rest) as (λ t. every digit t ≡ true → decimal (l .head ∷ t) ≡ true) [ [] ↦ λ g. l .first | c ∷ t ↦ λ g. rw (l .first, l .nonzero, g) ] (l .digits))
 
 pub spell-decimal : (n : ℕ) → decimal (spellNat n) ≡ true
-spell-decimal zero = rw (spell-digit 0 (omega arith)) (decimal-one 48 (digit-is 0 (omega arith)))
+unfolding decimal
+spell-decimal zero = rw (spell-digit 0 (omega arith)) (digit-is 0 (omega arith))
 spell-decimal (suc n) = leading-decimal (spellNat (suc n)) (spell-leading (suc n) (omega arith))
 
 -- ---- and each number's spelling is the only one
@@ -197,21 +159,13 @@ decimal-spell (b ∷ (c ∷ t)) e =
 
 -- ---- how long it is
 
-one-digit : (n : ℕ) → n < 10 → length (spellNat n) ≡ 1
-one-digit n h = ap length (spell-digit n h)
-
 last-digit : (n : ℕ) → 1 ≤ n / 10 → length (spellNat n) ≡ length (spellNat (n / 10)) + 1
 last-digit n h =
     let e : 10 * (n / 10) + n % 10 ≡ n = omega arith in
     ap (λ (x : ℕ). length (spellNat x)) (sym e) ∙ ap length (spell-more (n / 10) (n % 10) h (omega arith)) ∙ length-append (spellNat (n / 10)) ((48 + n % 10) ∷ [])
 
 pub spell-length : (k n : ℕ) → n < 10 ^ suc k → length (spellNat n) ≤ suc k
-spell-length zero n h = omega (arith, one-digit n (omega arith))
-spell-length (suc k) n h = go (decLt n 10) (λ u. spell-length k (n / 10) u)
-  where
-    go : Dec (n < 10) → (n / 10 < 10 ^ suc k → length (spellNat (n / 10)) ≤ suc k) → length (spellNat n) ≤ suc (suc k)
-    go (yes l) below = omega (arith, one-digit n l)
-    go (no l) below =
-        let p : 10 ^ suc (suc k) ≡ 10 ^ suc k * 10 = pow-suc 10 (suc k) in
-        let u = below (omega arith) in
-        omega (arith, last-digit n (omega arith))
+spell-length zero n h = omega (arith, ap length (spell-digit n (omega arith)))
+spell-length (suc k) n h =
+    let p : 10 ^ suc (suc k) ≡ 10 ^ suc k * 10 = pow-suc 10 (suc k) in
+    elim (decLt n 10) [ yes l ↦ omega (arith, ap length (spell-digit n l)) | no l ↦ omega (arith, spell-length k (n / 10) (omega arith), last-digit n (omega arith)) ]

@@ -1,56 +1,38 @@
 -- A line and the row that it says: "a line's word, fields or spelling". Assumes nothing.
-use Prim.Native.Nat.{ℕ, zero, suc, _+_, _≤_, _<_}
-use native.Mathlib.Omega.{arith}
-use mathlib.Core.Path.{_≡_, refl, sym, ap, _∙_}
-use mathlib.Core.Bool.{Bool, true, false, cond, not, _&&_, Bool·beq, true≢false}
-use mathlib.Core.List.{List, [], _∷_, map, tail}
-use lib.ListN.{length, getD}
-use lib.Dec.{eqb, ltb}
-use lib.IntN.{pos}
-use borrow.Author.Tests.{eqb-true, eqb-false, ne-eqb, ltb-true, not-true}
-use Rattle.whole.specs.Lists.{Words, every, sameBytes}
-use Rattle.whole.specs.Folds.{and-left, and-right, both, every-weaken}
-use Rattle.paper.specs.Rows.{Row, Kind, bytes, kinds, noKind, fieldsOf, kind, isStudy}
-use Rattle.paper.specs.Text.{TAB, LF, split, allSpelt, numbersOf, placeOf, lineKind, formed, rowOf}
-use Rattle.spelling.specs.Numbers.{spell, allSpeakable, AllSpoken, all-spoken, all-spelt, numbers-spelt, plain, spell-plain}
+use Rattle.whole.specs.Plain.{ℕ, zero, suc, _+_, _≤_, _<_, _≡_, refl, sym, ap, _∙_, Bool, true, false, cond, not, _&&_}
+use Rattle.whole.specs.Plain.{Bool·beq, true≢false, List, [], _∷_, map, tail, eqb, ltb, pos, length, getD, eqb-true}
+use Rattle.whole.specs.Plain.{eqb-false, ne-eqb, ltb-true, not-true, zero-add, arith, Words, every, sameBytes, numbers}
+use Rattle.whole.specs.Folds.{length-numbers, and-left, and-right, both, every-weaken, every-at, getD-numbers}
+use Rattle.paper.specs.Rows.{Row, Kind, bytes, kinds, unknown, noKind, fieldsOf, kind, isStudy}
+use Rattle.paper.specs.Text.{TAB, LF, split, allSpelt, placeOf, lineKind, formed, rowOf}
+use Rattle.spelling.specs.Numbers.{spell, allSpeakable, all-spoken, all-spelt, numbers-spelt, plain, spell-plain}
+use Rattle.paper.specs.Kept.{either}
 use Rattle.spelling.specs.Pieces.{join, free, split-some, join-split, split-join, join-free}
 
 -- ---- the word of a kind
 
-abbrev noWord : Kind
-noWord = record { spelt = []; fields = [] }
-
 unfoldable pub wordOf : ℕ → List ℕ
-wordOf k = getD kinds k noWord .spelt
+wordOf k = getD kinds k unknown .spelt
 
-kinds-length : length kinds ≡ noKind
-unfolding kinds
-kinds-length = refl
+-- what every kind passes, and what stands for none
+pub of-kind : (p : Kind → Bool) (l : List Kind) (k : ℕ) → every p l ≡ true → p unknown ≡ true → p (getD l k unknown) ≡ true
+unfolding every
+of-kind p [] k e f = f
+of-kind p (a ∷ l) zero e f = and-left (p a) (every p l) e
+of-kind p (a ∷ l) (suc k) e f = of-kind p l k (and-right (p a) (every p l) e) f
 
 pub word-plain : (k : ℕ) → plain (wordOf k) ≡ true
 unfolding wordOf kinds bytes every
-word-plain zero = refl
-word-plain (suc zero) = refl
-word-plain (suc (suc zero)) = refl
-word-plain (suc (suc (suc zero))) = refl
-word-plain (suc (suc (suc (suc zero)))) = refl
-word-plain (suc (suc (suc (suc (suc zero))))) = refl
-word-plain (suc (suc (suc (suc (suc (suc zero)))))) = refl
-word-plain (suc (suc (suc (suc (suc (suc (suc zero))))))) = refl
-word-plain (suc (suc (suc (suc (suc (suc (suc (suc k)))))))) = refl
+word-plain k = of-kind (λ (x : Kind). plain (x .spelt)) kinds k refl refl
 
 -- each word is found in its own place
+word-places : every (λ k. eqb (placeOf 0 kinds (wordOf k)) k) (numbers 0 noKind) ≡ true
+unfolding wordOf kinds bytes placeOf sameBytes every numbers
+word-places = refl
+
 word-place : (k : ℕ) → k < noKind → placeOf 0 kinds (wordOf k) ≡ k
-unfolding wordOf kinds bytes placeOf sameBytes
-word-place zero h = refl
-word-place (suc zero) h = refl
-word-place (suc (suc zero)) h = refl
-word-place (suc (suc (suc zero))) h = refl
-word-place (suc (suc (suc (suc zero)))) h = refl
-word-place (suc (suc (suc (suc (suc zero))))) h = refl
-word-place (suc (suc (suc (suc (suc (suc zero)))))) h = refl
-word-place (suc (suc (suc (suc (suc (suc (suc zero))))))) h = refl
-word-place (suc (suc (suc (suc (suc (suc (suc (suc k)))))))) h = absurd (omega arith)
+unfolding numbers
+word-place k h = eqb-true _ k (rw (getD-numbers 0 noKind k 0 h, zero-add) at (every-at (λ k. eqb (placeOf 0 kinds (wordOf k)) k) (numbers 0 noKind) 0 k word-places (rw (length-numbers 0 noKind) h)))
 
 same-bytes : (l m : List ℕ) → sameBytes l m ≡ true → l ≡ m
 unfolding sameBytes
@@ -62,35 +44,23 @@ same-bytes (x ∷ l) (y ∷ m) e = rw (eqb-true x y (and-left (eqb x y) (sameByt
 place-least : (n : ℕ) (ks : List Kind) (w : List ℕ) → n + length ks ≤ noKind → n ≤ placeOf n ks w
 unfolding placeOf
 place-least n [] w h = omega arith
-place-least n (k ∷ ks) w h = go (sameBytes (k .spelt) w) (place-least (suc n) ks w (omega arith))
-  where
-    go : (b : Bool) → suc n ≤ placeOf (suc n) ks w → n ≤ cond b n (placeOf (suc n) ks w)
-    go true q = omega arith
-    go false q = omega arith
+place-least n (k ∷ ks) w h = either (λ (p : ℕ). n ≤ p) (sameBytes (k .spelt) w) _ _ (omega arith) (omega (arith, place-least (suc n) ks w (omega arith)))
 
 -- what is found in place i is the word that stands there
-place-word : (n : ℕ) (ks : List Kind) (w : List ℕ) (i : ℕ) → n + length ks ≤ noKind → i < length ks → placeOf n ks w ≡ n + i → getD ks i noWord .spelt ≡ w
+place-word : (n : ℕ) (ks : List Kind) (w : List ℕ) (i : ℕ) → n + length ks ≤ noKind → i < length ks → placeOf n ks w ≡ n + i → getD ks i unknown .spelt ≡ w
 unfolding placeOf
 place-word n [] w i h k e = absurd (omega arith)
-place-word n (x ∷ ks) w zero h k e = go (sameBytes (x .spelt) w) refl e
-  where
-    go : (b : Bool) → sameBytes (x .spelt) w ≡ b → cond b n (placeOf (suc n) ks w) ≡ n + 0 → x .spelt ≡ w
-    go true s q = same-bytes (x .spelt) w s
-    go false s q = let l = place-least (suc n) ks w (omega arith) in absurd (omega arith)
-place-word n (x ∷ ks) w (suc i) h k e = go (sameBytes (x .spelt) w) e (λ q. place-word (suc n) ks w i (omega arith) (omega arith) q)
-  where
-    go : (b : Bool) → cond b n (placeOf (suc n) ks w) ≡ n + suc i → (placeOf (suc n) ks w ≡ suc n + i → getD ks i noWord .spelt ≡ w) → getD ks i noWord .spelt ≡ w
-    go true q more = absurd (omega arith)
-    go false q more = more (omega arith)
+place-word n (x ∷ ks) w zero h k e =
+    elim (sameBytes (x .spelt) w) as (λ b. sameBytes (x .spelt) w ≡ b → cond b n (placeOf (suc n) ks w) ≡ n + 0 → x .spelt ≡ w)
+    [ true ↦ λ s q. same-bytes (x .spelt) w s | false ↦ λ s q. absurd (omega (arith, place-least (suc n) ks w (omega arith))) ] refl e
+place-word n (x ∷ ks) w (suc i) h k e =
+    elim (sameBytes (x .spelt) w) as (λ b. cond b n (placeOf (suc n) ks w) ≡ n + suc i → getD ks i unknown .spelt ≡ w)
+    [ true ↦ λ q. absurd (omega arith) | false ↦ λ q. place-word (suc n) ks w i (omega arith) (omega arith) (omega arith) ] e
 
 place-most : (n : ℕ) (ks : List Kind) (w : List ℕ) → n + length ks ≤ noKind → placeOf n ks w ≤ noKind
 unfolding placeOf
 place-most n [] w h = omega arith
-place-most n (k ∷ ks) w h = go (sameBytes (k .spelt) w) (place-most (suc n) ks w (omega arith))
-  where
-    go : (b : Bool) → placeOf (suc n) ks w ≤ noKind → cond b n (placeOf (suc n) ks w) ≤ noKind
-    go true q = omega arith
-    go false q = q
+place-most n (k ∷ ks) w h = either (λ (p : ℕ). p ≤ noKind) (sameBytes (k .spelt) w) _ _ (omega arith) (place-most (suc n) ks w (omega arith))
 
 -- ---- a row that a line can say
 
@@ -156,32 +126,17 @@ some-pieces (p ∷ ps) h = refl
 
 pub formed-said : (f : Bool) (line : List ℕ) → formed f line ≡ true → Said f line
 unfolding formed rowOf lineKind spellLine wordOf
-formed-said f line e = record {
-  row = record { whole = refl; known = known; numbers = spoken .may };
-  first = and-right (not (eqb k noKind)) (Bool·beq f (eqb k 0)) heads;
-  is = sym (join-split TAB line) ∙ ap (join TAB) (some-pieces (split TAB line) (split-some TAB line) ∙ pieces);
-}
-  where
-    k : ℕ
-    k = placeOf 0 kinds (getD (split TAB line) 0 [])
-
-    ps : List (List ℕ)
-    ps = tail (split TAB line)
-
-    heads : not (eqb k noKind) && Bool·beq f (eqb k 0) ≡ true
-    heads = and-left (not (eqb k noKind) && Bool·beq f (eqb k 0)) (allSpelt (fieldsOf k) ps) e
-
-    known : k < noKind
-    known =
-        let u = eqb-false k noKind (not-true (eqb k noKind) (and-left (not (eqb k noKind)) (Bool·beq f (eqb k 0)) heads)) in
-        let l = place-most 0 kinds (getD (split TAB line) 0 []) (omega (arith, kinds-length)) in
-        omega arith
-
-    spoken : AllSpoken (fieldsOf k) ps
-    spoken = all-spoken (fieldsOf k) ps (and-right (not (eqb k noKind) && Bool·beq f (eqb k 0)) (allSpelt (fieldsOf k) ps) e)
-
-    word : getD kinds k noWord .spelt ≡ getD (split TAB line) 0 []
-    word = place-word 0 kinds (getD (split TAB line) 0 []) k (omega (arith, kinds-length)) (omega (arith, known, kinds-length)) (omega arith)
-
-    pieces : getD (split TAB line) 0 [] ∷ ps ≡ getD kinds k noWord .spelt ∷ map spell (numbersOf ps)
-    pieces = rw (word, spoken .is)
+formed-said f line e =
+    let w = getD (split TAB line) 0 [] in
+    let ps = tail (split TAB line) in
+    let k = placeOf 0 kinds w in
+    let p = and-left (not (eqb k noKind) && Bool·beq f (eqb k 0)) (allSpelt (fieldsOf k) ps) e in
+    let u = eqb-false k noKind (not-true (eqb k noKind) (and-left (not (eqb k noKind)) (Bool·beq f (eqb k 0)) p)) in
+    let known : k < noKind = omega (arith, place-most 0 kinds w (omega arith)) in
+    let spoken = all-spoken (fieldsOf k) ps (and-right (not (eqb k noKind) && Bool·beq f (eqb k 0)) (allSpelt (fieldsOf k) ps) e) in
+    let word : getD kinds k unknown .spelt ≡ w = place-word 0 kinds w k (omega arith) (omega arith) (omega arith) in
+    record {
+      row = record { whole = refl; known = known; numbers = spoken .may };
+      first = and-right (not (eqb k noKind)) (Bool·beq f (eqb k 0)) p;
+      is = sym (join-split TAB line) ∙ ap (join TAB) (some-pieces (split TAB line) (split-some TAB line) ∙ rw (word, spoken .is));
+    }

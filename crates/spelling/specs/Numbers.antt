@@ -1,15 +1,7 @@
 -- A field's number and its spelling: "a minus stands only before a nonzero peak". Assumes nothing.
-use Prim.Native.Nat.{ℕ, zero, suc, _^_, _≤_, _<_}
-use native.Mathlib.Omega.{arith}
-use mathlib.Core.Path.{_≡_, refl, sym, ap, _∙_, subst}
-use mathlib.Core.Bool.{Bool, true, false, not, _&&_, _||_, true≢false}
-use mathlib.Core.List.{List, [], _∷_, map}
-use lib.ListN.{length, getD}
-use lib.Dec.{ltb, eqb}
-use lib.IntN.{ℤ, pos, negsuc, negℤ, natAbs}
-use lib.Signed.{nonNeg}
-use borrow.Author.Tests.{eqb-true, ne-eqb, lt-ltb}
-use Rattle.whole.specs.Lists.{Words, every}
+use Rattle.whole.specs.Plain.{ℕ, zero, suc, _^_, _≤_, _<_, _≡_, refl, sym, ap, _∙_, Bool, true, false, not, _&&_, _||_}
+use Rattle.whole.specs.Plain.{or-true, true≢false, List, [], _∷_, map, ltb, eqb, ℤ, pos, negsuc, negℤ, natAbs, nonNeg}
+use Rattle.whole.specs.Plain.{length, getD, eqb-true, ne-eqb, lt-ltb, decLt, arith, Words, every}
 use Rattle.whole.specs.Folds.{and-left, and-right, both, every-weaken}
 use Rattle.paper.specs.Rows.{Field, signed}
 use Rattle.paper.specs.Text.{MINUS, digit, decimal, decimalOf, negative, spelt, allSpelt, numberOf, numbersOf}
@@ -30,10 +22,6 @@ allSpeakable (f ∷ fs) [] = false
 allSpeakable (f ∷ fs) (x ∷ w) = speakable f x && allSpeakable fs w
 
 -- ---- from the number
-
--- a number's spelling starts with a digit
-starts : (n : ℕ) → Leading (spellNat (suc n))
-starts n = spell-leading (suc n) (omega arith)
 
 no-minus : (b : ℕ) → digit b ≡ true → eqb b MINUS ≡ false
 no-minus b e = let r = digit-range b e in ne-eqb b MINUS (λ q. omega arith)
@@ -62,11 +50,7 @@ minus-leading t l = rw (leading-decimal t l) (ap (λ (s : List ℕ). not (eqb (g
 pub spell-spelt : (f : Field) (x : ℤ) → speakable f x ≡ true → spelt f (spell x) ≡ true
 unfolding spelt spell speakable
 spell-spelt f (pos n) e = rw (spell-decimal n)
-spell-spelt f (negsuc n) e = rw (e, minus-leading (spellNat (suc n)) (starts n)) (or-true (decimal (MINUS ∷ spellNat (suc n))))
-  where
-    or-true : (b : Bool) → b || true ≡ true
-    or-true true = refl
-    or-true false = refl
+spell-spelt f (negsuc n) e = rw (e, minus-leading (spellNat (suc n)) (spell-leading (suc n) (omega arith)), or-true)
 
 -- ---- from the spelling
 
@@ -88,50 +72,25 @@ minus-spell zero h = absurd (omega arith)
 minus-spell (suc n) h = refl
 
 over-zero : (t : List ℕ) → decimal t ≡ true → not (eqb (getD t 0 48) 48) ≡ true → 1 ≤ decimalOf t
-over-zero t e f = go (decimalOf t) refl
-  where
-    zero-spell : decimalOf t ≡ 0 → t ≡ 48 ∷ []
-    zero-spell q = sym (decimal-spell t e) ∙ ap spellNat q ∙ spell-digit 0 (omega arith)
-
-    go : (n : ℕ) → decimalOf t ≡ n → 1 ≤ n
-    go zero q = absurd (true≢false (sym (ap (λ (s : List ℕ). not (eqb (getD s 0 48) 48)) (sym (zero-spell q)) ∙ f)))
-    go (suc n) q = omega arith
-
-signed-may : (f : Field) (x : ℤ) → signed f ≡ true → speakable f x ≡ true
-unfolding speakable
-signed-may f x e = rw e (go (nonNeg x))
-  where
-    go : (b : Bool) → b || true ≡ true
-    go true = refl
-    go false = refl
+over-zero t e f =
+    let zero-spell : decimalOf t ≡ 0 → t ≡ 48 ∷ [] = λ q. sym (decimal-spell t e) ∙ ap spellNat q ∙ spell-digit 0 (omega arith) in
+    elim (decLt 0 (decimalOf t)) [ yes h ↦ h | no h ↦ absurd (true≢false (sym f ∙ ap (λ (s : List ℕ). not (eqb (getD s 0 48) 48)) (zero-spell (omega arith)))) ]
 
 negative-spoken : (f : Field) (s : List ℕ) → signed f ≡ true → negative s ≡ true → Spoken f s
-unfolding negative
+unfolding negative speakable
 negative-spoken f [] g e = absurd (true≢false (sym e))
-negative-spoken f (b ∷ t) g e = subst (λ (c : ℕ). Spoken f (c ∷ t)) (sym m) (record { may = may; is = is })
-  where
-    head : eqb b MINUS && decimal t ≡ true
-    head = and-left (eqb b MINUS && decimal t) (not (eqb (getD t 0 48) 48)) e
-
-    m : b ≡ MINUS
-    m = eqb-true b MINUS (and-left (eqb b MINUS) (decimal t) head)
-
-    d : decimal t ≡ true
-    d = and-right (eqb b MINUS) (decimal t) head
-
-    is : spell (numberOf (MINUS ∷ t)) ≡ MINUS ∷ t
-    is = ap spell (minus-number t) ∙ minus-spell (decimalOf t) (over-zero t d (and-right (eqb b MINUS && decimal t) (not (eqb (getD t 0 48) 48)) e)) ∙ ap (λ (s : List ℕ). MINUS ∷ s) (decimal-spell t d)
-
-    may : speakable f (numberOf (MINUS ∷ t)) ≡ true
-    may = signed-may f (numberOf (MINUS ∷ t)) g
+negative-spoken f (b ∷ t) g e =
+    let p = and-left (eqb b MINUS && decimal t) (not (eqb (getD t 0 48) 48)) e in
+    let m : b ≡ MINUS = eqb-true b MINUS (and-left (eqb b MINUS) (decimal t) p) in
+    let d : decimal t ≡ true = and-right (eqb b MINUS) (decimal t) p in
+    let o = over-zero t d (and-right (eqb b MINUS && decimal t) (not (eqb (getD t 0 48) 48)) e) in
+    rw m (record { may = rw (g, or-true); is = ap spell (minus-number t) ∙ minus-spell (decimalOf t) o ∙ ap (λ (s : List ℕ). MINUS ∷ s) (decimal-spell t d) })
 
 spelt-spoken : (f : Field) (s : List ℕ) → spelt f s ≡ true → Spoken f s
 unfolding spelt
-spelt-spoken f s e = go (decimal s) refl e
-  where
-    go : (b : Bool) → decimal s ≡ b → b || (signed f && negative s) ≡ true → Spoken f s
-    go true d e = decimal-spoken f s d
-    go false d e = negative-spoken f s (and-left (signed f) (negative s) e) (and-right (signed f) (negative s) e)
+spelt-spoken f s e =
+    elim (decimal s) as (λ b. decimal s ≡ b → b || (signed f && negative s) ≡ true → Spoken f s)
+    [ true ↦ λ d e. decimal-spoken f s d | false ↦ λ d e. negative-spoken f s (and-left (signed f) (negative s) e) (and-right (signed f) (negative s) e) ] refl e
 
 -- ---- a line's numbers
 

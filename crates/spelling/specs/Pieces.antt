@@ -1,14 +1,7 @@
 -- Pieces parted by a byte, and put together again. Assumes nothing.
-use Prim.Native.Nat.{ℕ, _*_, _≤_, _<_}
-use native.Mathlib.Omega.{arith}
-use mathlib.Core.Path.{_≡_, refl, sym, ap, _∙_}
-use mathlib.Core.Logic.{_≢_}
-use mathlib.Core.Bool.{Bool, true, false, not}
-use mathlib.Core.List.{List, [], _∷_, _++_}
-use lib.ListN.{length, length-append}
-use lib.Dec.{eqb, ltb}
-use borrow.Author.Tests.{eqb-true, eq-eqb, ne-eqb, ltb-true, not-true}
-use Rattle.whole.specs.Lists.{every, lead, final}
+use Rattle.whole.specs.Plain.{ℕ, _*_, _≤_, _<_, _≡_, refl, sym, ap, _∙_, _≢_, Bool, true, false, not, List, [], _∷_}
+use Rattle.whole.specs.Plain.{_++_, eqb, ltb, length, length-append, eqb-true, eq-eqb, ne-eqb, ltb-true, not-true}
+use Rattle.whole.specs.Plain.{arith, every, lead, final}
 use Rattle.whole.specs.Folds.{and-left, and-right, both, every-append}
 use Rattle.paper.specs.Text.{split, cut}
 
@@ -44,15 +37,11 @@ join-cut at true b (p ∷ ps) h e = ap (λ (c : ℕ). c ∷ join at (p ∷ ps)) 
 join-cut at false b [] h e = absurd (omega arith)
 join-cut at false b (p ∷ ps) h e = join-push at b p ps
 
-join-one : (at : ℕ) (p : List ℕ) → join at (p ∷ []) ≡ p
-unfolding join
-join-one at p = refl
-
 -- ---- every text is its pieces put together
 
 pub join-split : (at : ℕ) (s : List ℕ) → join at (split at s) ≡ s
-unfolding split
-join-split at [] = join-one at []
+unfolding split join
+join-split at [] = refl
 join-split at (b ∷ t) = join-cut at (eqb b at) b (split at t) (split-some at t) (λ e. eqb-true b at e) ∙ ap (λ (s : List ℕ). b ∷ s) (join-split at t)
 
 -- ---- and pieces without the byte are found again

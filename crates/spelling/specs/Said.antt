@@ -1,18 +1,10 @@
 -- The rows of a network record are lines that a text can say, in few bytes. Assumes nothing.
-use Prim.Native.Nat.{ℕ, zero, suc, _≤_, _<_}
-use native.Mathlib.Omega.{arith}
-use mathlib.Core.Path.{_≡_, refl, sym, ap}
-use mathlib.Core.Bool.{Bool, true, false, _&&_, _||_, true≢false}
-use mathlib.Core.List.{List, [], _∷_, map, tail}
-use lib.ListN.{length, getD, length-map}
-use lib.Dec.{leb, ltb, lit≤}
-use lib.IntN.{ℤ, pos, negsuc, natAbs}
-use lib.Signed.{leZ, ltZ, nonNeg}
-use borrow.Author.Tests.{leb-true, lt-ltb}
-use Rattle.whole.specs.Lists.{Words, z, word, between, every}
-use Rattle.whole.specs.Folds.{and-left, and-right, both}
+use Rattle.whole.specs.Plain.{ℕ, suc, _≤_, _<_, _≡_, refl, sym, ap, Bool, true, false, _&&_, _||_, or-true, true≢false}
+use Rattle.whole.specs.Plain.{List, [], _∷_, map, tail, leb, ltb, ℤ, pos, negsuc, natAbs, leZ, ltZ, nonNeg, length}
+use Rattle.whole.specs.Plain.{getD, length-map, leb-true, lt-ltb, arith, Words, z, word, between, every}
+use Rattle.whole.specs.Folds.{and-left, and-right, both, every-at}
 use Rattle.paper.specs.Limits as Limits
-use Rattle.paper.specs.Rows.{Row, Field, bytes, kinds, noKind, fieldsOf, kind, signed}
+use Rattle.paper.specs.Rows.{unknown, Row, Field, Kind, bytes, kinds, noKind, fieldsOf, kind, signed}
 use Rattle.paper.specs.Text.{TAB}
 use Rattle.facts.specs.Fields.{noField, InRange, in-range}
 use Rattle.facts.specs.Sound.{kind-is}
@@ -20,7 +12,7 @@ use Rattle.facts.specs.Passing.{Taken}
 use Rattle.facts.specs.Layout.{arity-most}
 use Rattle.spelling.specs.Numbers.{spell, speakable, allSpeakable, spell-size}
 use Rattle.spelling.specs.Pieces.{join, join-length}
-use Rattle.spelling.specs.Lines.{wordOf, Sayable, spellLine}
+use Rattle.spelling.specs.Lines.{of-kind, wordOf, Sayable, spellLine}
 
 -- ---- a number in its field's range can be said
 
@@ -31,15 +23,9 @@ low-sign (negsuc a) (negsuc n) e h = absurd (true≢false e)
 
 speak-one : (f : Field) (x : ℤ) → between (f .low) (f .high) x ≡ true → speakable f x ≡ true
 unfolding speakable between
-speak-one f x e = go (signed f) refl
-  where
-    or-true : (b : Bool) → b || true ≡ true
-    or-true true = refl
-    or-true false = refl
-
-    go : (b : Bool) → signed f ≡ b → nonNeg x || b ≡ true
-    go true q = or-true (nonNeg x)
-    go false q = rw (low-sign (f .low) x q (and-left (leZ (f .low) x) (leZ x (f .high)) e))
+speak-one f x e =
+    elim (signed f) as (λ b. signed f ≡ b → nonNeg x || b ≡ true)
+    [ true ↦ λ q. or-true (nonNeg x) | false ↦ λ q. rw (low-sign (f .low) x q (and-left (leZ (f .low) x) (leZ x (f .high)) e)) ] refl
 
 abbrev InFields : List Field → Words → Type 0
 InFields fs w = (i : ℕ) → i < length fs → between (getD fs i noField .low) (getD fs i noField .high) (word w i) ≡ true
@@ -54,16 +40,8 @@ speak-all (f ∷ fs) (x ∷ w) e h = both (speak-one f x (h 0 (omega arith))) (s
 -- ---- a row without faults can be said, where it has no word too many
 
 arity-some : (k : ℕ) → k < noKind → 1 ≤ length (fieldsOf k)
-unfolding fieldsOf kinds
-arity-some zero h = lit≤ tt
-arity-some (suc zero) h = lit≤ tt
-arity-some (suc (suc zero)) h = lit≤ tt
-arity-some (suc (suc (suc zero))) h = lit≤ tt
-arity-some (suc (suc (suc (suc zero)))) h = lit≤ tt
-arity-some (suc (suc (suc (suc (suc zero))))) h = lit≤ tt
-arity-some (suc (suc (suc (suc (suc (suc zero)))))) h = lit≤ tt
-arity-some (suc (suc (suc (suc (suc (suc (suc zero))))))) h = lit≤ tt
-arity-some (suc (suc (suc (suc (suc (suc (suc (suc k)))))))) h = absurd (omega arith)
+unfolding fieldsOf kinds every
+arity-some k h = leb-true 1 _ (every-at (λ (x : Kind). leb 1 (length (x .fields))) kinds unknown k refl h)
 
 words-of : (r : Row) → word r 0 ≡ pos (kind r) → 1 ≤ length (tail r) → r ≡ pos (kind r) ∷ tail r
 words-of [] e h = absurd (omega arith)
@@ -102,15 +80,7 @@ small f = leb (natAbs (f .low)) Limits.injectionEnd && leb (natAbs (f .high)) Li
 
 fields-small : (k : ℕ) → every small (fieldsOf k) ≡ true
 unfolding fieldsOf kinds every
-fields-small zero = refl
-fields-small (suc zero) = refl
-fields-small (suc (suc zero)) = refl
-fields-small (suc (suc (suc zero))) = refl
-fields-small (suc (suc (suc (suc zero)))) = refl
-fields-small (suc (suc (suc (suc (suc zero))))) = refl
-fields-small (suc (suc (suc (suc (suc (suc zero)))))) = refl
-fields-small (suc (suc (suc (suc (suc (suc (suc zero))))))) = refl
-fields-small (suc (suc (suc (suc (suc (suc (suc (suc k)))))))) = refl
+fields-small k = of-kind (λ (x : Kind). every small (x .fields)) kinds k refl refl
 
 ends-size : (low high x : ℤ) (m : ℕ) → natAbs low ≤ m → natAbs high ≤ m → leZ low x ≡ true → leZ x high ≡ true → natAbs x ≤ m
 ends-size low (pos b) (pos n) m h k e f = let l = leb-true n b f in omega arith
@@ -140,16 +110,8 @@ numbers-short (f ∷ fs) (x ∷ w) e s h =
     (numbers-short fs w (omega arith) (and-right (small f) (every small fs) s) (λ i k. h (suc i) (omega arith)))
 
 word-short : (k : ℕ) → short (wordOf k) ≡ true
-unfolding wordOf kinds bytes
-word-short zero = refl
-word-short (suc zero) = refl
-word-short (suc (suc zero)) = refl
-word-short (suc (suc (suc zero))) = refl
-word-short (suc (suc (suc (suc zero)))) = refl
-word-short (suc (suc (suc (suc (suc zero))))) = refl
-word-short (suc (suc (suc (suc (suc (suc zero)))))) = refl
-word-short (suc (suc (suc (suc (suc (suc (suc zero))))))) = refl
-word-short (suc (suc (suc (suc (suc (suc (suc (suc k)))))))) = refl
+unfolding wordOf kinds bytes every
+word-short k = of-kind (λ (x : Kind). short (x .spelt)) kinds k refl refl
 
 module _ (first : Bool) (head : Row) (before : List Row) (r : Row) (t : Taken first head before r) (few : length r ≤ suc (length (fieldsOf (kind r)))) where
   pub line-short : ltb (length (spellLine r)) 121 ≡ true

@@ -1,14 +1,7 @@
 -- A table of lines that passes, written down as a record, is a network: what the record says is the table again. Assumes nothing.
-use Prim.Native.Nat.{ℕ, suc, _-_, _≤_, _<_}
-use native.Mathlib.Omega.{arith}
-use mathlib.Core.Path.{_≡_, refl, sym, ap, _∙_, subst}
-use mathlib.Core.Bool.{Bool, true, false, Bool·beq, true≢false}
-use mathlib.Core.List.{List, [], _∷_, _++_, tail, append-assoc}
-use lib.ListN.{length, replicate}
-use lib.Seq.{take-at, drop-at}
-use lib.IntN.{ℤ, pos, negsuc}
-use borrow.Author.Tests.{eq-eqb, eqb-true, le-leb}
-use Rattle.whole.specs.Lists.{Words, z, between, same, sameWords, filled}
+use Rattle.whole.specs.Plain.{ℕ, suc, _-_, _<_, _≡_, refl, sym, ap, _∙_, subst, Bool, true, false, Bool·beq, true≢false}
+use Rattle.whole.specs.Plain.{List, [], _∷_, _++_, tail, append-assoc, ℤ, pos, negsuc, length, replicate, take-at}
+use Rattle.whole.specs.Plain.{drop-at, eq-eqb, eqb-true, le-leb, arith, Words, z, between, same, sameWords, filled}
 use Rattle.whole.specs.Folds.{and-right, both}
 use Rattle.paper.specs.Limits as Limits
 use Rattle.paper.specs.Rows.{Row, Field, kinds, fieldsOf, kind, isStudy}
@@ -20,15 +13,11 @@ use Rattle.spelling.specs.Numbers.{speakable, allSpeakable}
 use Rattle.spelling.specs.Lines.{Sayable}
 use Rattle.spelling.specs.Texts.{Sayables}
 
-same-self : (x : ℤ) → same x x ≡ true
-unfolding same
-same-self (pos a) = eq-eqb a a refl
-same-self (negsuc a) = eq-eqb a a refl
-
 same-words : (w : Words) → sameWords w w ≡ true
-unfolding sameWords
+unfolding sameWords same
 same-words [] = refl
-same-words (x ∷ w) = both (same-self x) (same-words w)
+same-words (pos a ∷ w) = both (eq-eqb a a refl) (same-words w)
+same-words (negsuc a ∷ w) = both (eq-eqb a a refl) (same-words w)
 
 -- ---- a row
 
@@ -67,19 +56,15 @@ pub record Study (s : Row) : Type 0 where
   pub w : ℤ
   pub is : s ≡ z ∷ x ∷ y ∷ w ∷ []
 
-study-fields : length (fieldsOf 0) ≡ 3
+pub study-fields : length (fieldsOf 0) ≡ 3
 unfolding fieldsOf kinds
 study-fields = refl
-
-beq-true : (b : Bool) → Bool·beq true b ≡ true → b ≡ true
-beq-true true e = refl
-beq-true false e = absurd (true≢false (sym e))
 
 pub study-row : (r : Row) → Sayable r → Bool·beq true (isStudy r) ≡ true → Study r
 study-row r s e = go (tail r) (tail-length r s ∙ ap (λ (k : ℕ). length (fieldsOf k)) k ∙ study-fields) (s .whole ∙ ap (λ (k : ℕ). pos k ∷ tail r) k)
   where
     k : kind r ≡ 0
-    k = eqb-true (kind r) 0 (beq-true (isStudy r) e)
+    k = eqb-true (kind r) 0 (elim (isStudy r) as (λ b. Bool·beq true b ≡ true → b ≡ true) [ true ↦ λ q. q | false ↦ λ q. q ] e)
 
     go : (l : Words) → length l ≡ 3 → r ≡ z ∷ l → Study r
     go [] h q = absurd (omega arith)
@@ -98,16 +83,10 @@ row-count : (x y w : ℤ) (rs : List Row) → rowCount (networkOf ((z ∷ x ∷ 
 unfolding networkOf filled
 row-count x y w rs = refl
 
-count-fits : (n : ℕ) → n ≤ Limits.rowEnd → between z (pos Limits.rowEnd) (pos n) ≡ true
-unfolding between
-count-fits n h = both (le-leb 0 n (omega arith)) (le-leb n Limits.rowEnd h)
-
 study-network : (x y w : ℤ) (rs : List Row) → Sayables false rs → passes ((z ∷ x ∷ y ∷ w ∷ []) ∷ rs) ≡ true → isNetwork (networkOf ((z ∷ x ∷ y ∷ w ∷ []) ∷ rs)) ≡ true
-unfolding isNetwork
-study-network x y w rs s e = rw (table-back x y w rs s, e, same-words, counted) refl
-  where
-    counted : between z (pos Limits.rowEnd) (rowCount (networkOf ((z ∷ x ∷ y ∷ w ∷ []) ∷ rs))) ≡ true
-    counted = rw row-count (count-fits (length rs) (row-most (z ∷ x ∷ y ∷ w ∷ []) rs e))
+unfolding isNetwork between
+study-network x y w rs s e =
+    rw (table-back x y w rs s, e, same-words, row-count x y w rs, le-leb 0 (length rs) (omega arith), le-leb (length rs) Limits.rowEnd (row-most (z ∷ x ∷ y ∷ w ∷ []) rs e))
 
 pub table-network : (rows : Table) → 0 < length rows → Sayables true rows → passes rows ≡ true → isNetwork (networkOf rows) ≡ true
 table-network [] h s e = absurd (omega arith)

@@ -1,12 +1,7 @@
 -- T-spelling: a text of which no line is at fault by FORM is the spelling of exactly one list of lines, and the reader goes by these lines alone.
 -- Assumes nothing.
-use Prim.Native.Nat.{ℕ, _<_}
-use native.Mathlib.Omega.{arith}
-use mathlib.Core.Path.{_≡_, refl, sym, ap, _∙_}
-use mathlib.Core.Bool.{Bool, true, false, not, _&&_, Bool·beq, true≢false}
-use mathlib.Core.List.{List, [], _∷_, _++_, map}
-use lib.ListN.{length, length-append}
-use Rattle.whole.specs.Lists.{every, empty, lead, final}
+use Rattle.whole.specs.Plain.{ℕ, _<_, _≡_, refl, sym, ap, _∙_, Bool, true, false, not, _&&_, Bool·beq, true≢false, List}
+use Rattle.whole.specs.Plain.{[], _∷_, _++_, map, length, length-append, arith, every, empty, lead, final}
 use Rattle.whole.specs.Folds.{and-left, and-right, both, every-append}
 use Rattle.paper.specs.Rows.{Row, isStudy}
 use Rattle.paper.specs.Text.{LF, split, formed, rowOf}
@@ -46,18 +41,11 @@ unfolding every
 lines-free [] = refl
 lines-free (r ∷ rows) = both (line-free r) (lines-free rows)
 
-last-free : every (free LF) ([] ∷ []) ≡ true
-unfolding every
-last-free = refl
-
-last-there : {A : Type 0} (l : List A) (a : A) → 0 < length (l ++ (a ∷ []))
-last-there l a = omega (arith, length-append l (a ∷ []))
-
 text-pieces : (rows : List Row) → split LF (spellText rows) ≡ map spellLine rows ++ ([] ∷ [])
-unfolding spellText
+unfolding spellText every
 text-pieces rows =
-    split-join LF (map spellLine rows ++ ([] ∷ [])) (last-there (map spellLine rows) [])
-    (every-append (free LF) (map spellLine rows) ([] ∷ []) ∙ both (lines-free rows) last-free)
+    split-join LF (map spellLine rows ++ ([] ∷ [])) (omega (arith, length-append (map spellLine rows) ([] ∷ [])))
+    (every-append (free LF) (map spellLine rows) ([] ∷ []) ∙ both (lines-free rows) refl)
 
 pub text-lead : (rows : List Row) → lead (split LF (spellText rows)) ≡ map spellLine rows
 text-lead rows = ap lead (text-pieces rows) ∙ lead-last (map spellLine rows) []
@@ -103,26 +91,17 @@ some-rows (l ∷ ls) e = omega arith
 
 pub spelt-spelling : (text : List ℕ) → wellSpelt text ≡ true → Spelling (linesIn text) text
 unfolding wellSpelt spellText
-spelt-spelling text e = record {
-  some = some-rows ls (and-right (empty (final [] ps)) (not (empty ls)) heads);
-  lines = said .0;
-  is = sym (join-split LF text) ∙ ap (join LF) (sym (lead-final ps [] (split-some LF text)) ∙ ap (λ (x : List ℕ). ls ++ (x ∷ [])) last ∙ ap (λ (x : List (List ℕ)). x ++ ([] ∷ [])) (sym (said .1)));
-}
-  where
-    ps : List (List ℕ)
-    ps = split LF text
-
-    ls : List (List ℕ)
-    ls = lead ps
-
-    heads : empty (final [] ps) && not (empty ls) ≡ true
-    heads = and-left (empty (final [] ps) && not (empty ls)) (allFormed true ls) e
-
-    last : final [] ps ≡ []
-    last = empty-is (final [] ps) (and-left (empty (final [] ps)) (not (empty ls)) heads)
-
-    said : Sayables true (map rowOf ls) × (map spellLine (map rowOf ls) ≡ ls)
-    said = said-rows true ls (and-right (empty (final [] ps) && not (empty ls)) (allFormed true ls) e)
+spelt-spelling text e =
+    let ps = split LF text in
+    let ls = lead ps in
+    let p = and-left (empty (final [] ps) && not (empty ls)) (allFormed true ls) e in
+    let last : final [] ps ≡ [] = empty-is (final [] ps) (and-left (empty (final [] ps)) (not (empty ls)) p) in
+    let said = said-rows true ls (and-right (empty (final [] ps) && not (empty ls)) (allFormed true ls) e) in
+    record {
+      some = some-rows ls (and-right (empty (final [] ps)) (not (empty ls)) p);
+      lines = said .0;
+      is = sym (join-split LF text) ∙ ap (join LF) (sym (lead-final ps [] (split-some LF text)) ∙ rw (last, said .1));
+    }
 
 -- ---- exactly one
 

@@ -1,31 +1,26 @@
 -- Every word that an accepted step writes is within its end. Assumes nothing.
-use Prim.Native.Nat.{ℕ, _-_, _%_, _≤_, _<_}
-use native.Mathlib.Nat.{mod-lt}
-use mathlib.Core.Path.{_≡_, refl}
-use mathlib.Core.Bool.{Bool, true, _&&_, _||_}
-use mathlib.Core.List.{List, [], _∷_}
-use lib.ListN.{length, set, getD-replicate}
-use lib.IntN.{ℤ, pos, natAbs}
-use Rattle.whole.specs.Lists.{Words, word, fold}
-use Rattle.whole.specs.Members.{Among, top, below}
+use Rattle.whole.specs.Plain.{ℕ, suc, _%_, _≤_, _<_, _≡_, Bool, true, _&&_, List, ℤ, natAbs, length, getD-replicate}
+use Rattle.whole.specs.Plain.{mod-lt, ℕ-discrete, decLt, arith, Words, word}
+use Rattle.whole.specs.Members.{Among, All, all-among}
 use Rattle.whole.specs.Folds.{and-left}
 use Rattle.whole.specs.TurnLaws.{turns-keeps}
+use Rattle.paper.specs.Classes.{line-branch}
 use Rattle.paper.specs.Limits as Limits
-use Rattle.paper.specs.Rows.{isLine, isL, isC, steps}
-use Rattle.paper.specs.Areas.{Net, areaCount, nodesOf}
-use Rattle.paper.specs.Records.{countAt, voltAt, currentAt, toCurrentAt, historyAt, slotCount}
-use Rattle.paper.specs.Legs.{End, Branch, Heard, heard, legsBy, legsOf, current, passedOn}
-use Rattle.paper.specs.Advance.{Memory, putIf, putRow, putVolts, newRecords, putSent, newStore}
+use Rattle.paper.specs.Rows.{isLine, steps}
+use Rattle.paper.specs.Areas.{Net, areaCount}
+use Rattle.paper.specs.Records.{slotCount, Found, Section, currents, toCurrents, histories, sections, endOf, ownerOf}
+use Rattle.paper.specs.Apart.{end-of, next-of, owned}
+use Rattle.paper.specs.Legs.{End, Branch, Heard, heard, legsBy, legsOf, branchIn, passedOn}
+use Rattle.paper.specs.Advance.{Memory, putIf, found, newRecords, putSent, newStore}
 use Rattle.facts.specs.Nets.{NetSound, rowAt}
-use Rattle.local.specs.Sound.{Sound, sound}
-use Rattle.local.specs.Own.{legs-length}
-use Rattle.local.specs.Written.{row-as}
-use Rattle.local.specs.Nodes.{NodeOf, node-of}
+use Rattle.local.specs.Sound.{Sound, sound, row-there}
+use Rattle.local.specs.Own.{legs-length, branch-is, row-is, keeper}
+use Rattle.local.specs.Written.{records-keep, records-own, records-past}
 use Rattle.local.specs.Puts.{put-with}
 use Rattle.local.specs.Slots.{slotsAt, slotOf, some-slots, slots-inside, sent-as}
-use Rattle.stays.specs.Formed.{Formed, endAt, slotEnd, end-count, end-volt, end-current, end-to, end-history}
+use Rattle.stays.specs.Formed.{Formed, slotEnd}
 use Rattle.stays.specs.Volts.{AllVolts}
-use Rattle.stays.specs.Sizes.{current-size, ends-ranged, own-branch, InRange}
+use Rattle.stays.specs.Sizes.{current-size, ends-ranged, InRange}
 
 -- ---- words within their ends
 
@@ -34,10 +29,6 @@ Bounded e w = (j : ℕ) → natAbs (word w j) ≤ e j
 
 put-bounded : (e : ℕ → ℕ) (b : Bool) (w : Words) (i : ℕ) (x : ℤ) → (b ≡ true → natAbs x ≤ e i) → Bounded e w → Bounded e (putIf b w i x)
 put-bounded e b w i x h p j = put-with (λ (y : ℤ). natAbs y ≤ e j) b w i j x (p j) (λ t q. rw q at (h t))
-
-set-bounded : (e : ℕ → ℕ) (w : Words) (i : ℕ) (x : ℤ) → natAbs x ≤ e i → Bounded e w → Bounded e (set w i x)
-unfolding putIf
-set-bounded e w i x h p = put-bounded e true w i x (λ _. h) p
 
 -- ---- the records and the stores
 
@@ -54,33 +45,42 @@ module _ (N : Net) (s : NetSound N) (m : Memory) (f : Formed N m) (a k : ℕ) (o
   snd : Sound N
   snd = sound N s
 
-  volts-bounded : (ns : List ℕ) → ((n : ℕ) → Among n ns → NodeOf N a n) → (w : Words) → Bounded (endAt N) w → Bounded (endAt N) (putVolts v ns w)
-  unfolding putVolts fold
-  volts-bounded [] h w p = p
-  volts-bounded (n ∷ ns) h w p =
-      let q = h n (top refl) in
-      volts-bounded ns (λ i j. h i (below j)) (set w (voltAt n) (word v n)) (set-bounded (endAt N) w (voltAt n) (word v n) (rw (end-volt N snd n (q .low) (q .high)) (volts n)) p)
-
   module _ (inside : (i : ℕ) → i < length (N .rows) → InRange v (rowAt N i) (by i)) where
-    row-bounded : (i : ℕ) (w : Words) → i < length (N .rows) → Bounded (endAt N) w → Bounded (endAt N) (putRow bs v i w)
-    row-bounded i w h p =
-        rw (row-as N a k (m .records) ears v i w h)
-        (put-bounded (endAt N) _ _ (historyAt i) _ third (put-bounded (endAt N) _ _ (toCurrentAt i) _ second (put-bounded (endAt N) (by i .fromEnd .own) w (currentAt i) _ first p)))
+    abbrev seen : Found
+    seen = found k bs v (m .records)
+
+    -- what is written into a word that is used
+    abbrev Small : Section → Type 0
+    Small s = (i : ℕ) → s .used N i ≡ true → natAbs (s .next N seen i) ≤ s .end N
+
+    branch-at : (i : ℕ) → i < length (N .rows) → branchIn bs i ≡ by i
+    branch-at = branch-is N a k (m .records) ears
+
+    small : {s : Section} → Among s sections → Small s
+    unfolding sections All
+    small = all-among Small sections (λ i u. room, (λ i u. volts (suc i), (from-small, (to-small, (history-small, tt)))))
       where
-        first : by i .fromEnd .own ≡ true → natAbs (current v (by i .fromEnd .wire)) ≤ endAt N (currentAt i)
-        first o = rw (end-current N snd i h, own-branch N m f s a k i o) (current-size v (by i .fromEnd .wire) volts (ends-ranged N m f s a k i .0))
+        from-small : Small currents
+        from-small i u = rw (branch-at i (row-there N i u)) (current-size v (by i .fromEnd .wire) volts (ends-ranged N m f s a k i .0))
 
-        second : isLine (rowAt N i) && by i .toEnd .own ≡ true → natAbs (current v (by i .toEnd .wire)) ≤ endAt N (toCurrentAt i)
-        second o = rw (end-to N snd i h, and-left (isLine (rowAt N i)) _ o) (current-size v (by i .toEnd .wire) volts (ends-ranged N m f s a k i .1))
+        to-small : Small toCurrents
+        to-small i u = rw (branch-at i (row-there N i (line-branch (rowAt N i) u))) (current-size v (by i .toEnd .wire) volts (ends-ranged N m f s a k i .1))
 
-        third : (isL (rowAt N i) || isC (rowAt N i)) && by i .fromEnd .own ≡ true → natAbs (passedOn v (rowAt N i) (by i .fromEnd .wire)) ≤ endAt N (historyAt i)
-        third o = rw (end-history N snd i h, and-left (isL (rowAt N i) || isC (rowAt N i)) _ o) (inside i h .atFrom)
+        history-small : Small histories
+        history-small i u =
+            let h = row-there N i (keeper (rowAt N i) u) in
+            rw (branch-at i h, row-is N a k (m .records) ears i) (inside i h .atFrom)
 
-    pub records-bounded : Bounded (endAt N) (newRecords N a k bs v (m .records))
-    unfolding newRecords
-    records-bounded =
-        turns-keeps (Bounded (endAt N)) 0 (length bs) (putRow bs v) (λ i w _ h p. row-bounded i w (rw (legs-length N a k (m .records) ears) at h) p) _
-        (volts-bounded (nodesOf N a) (λ n p. node-of N a p) _ (set-bounded (endAt N) (m .records) (countAt a) (pos k) (rw (end-count N snd a one most) room) (f .records)))
+    pub records-bounded : Bounded (endOf N) (newRecords N a k bs v (m .records))
+    records-bounded j = go (ℕ-discrete (ownerOf N j) a) (decLt j (length (m .records)))
+      where
+        go : Dec (ownerOf N j ≡ a) → Dec (j < length (m .records)) → natAbs (word (newRecords N a k bs v (m .records)) j) ≤ endOf N j
+        go (no n) l = rw (records-keep N a k bs v (m .records) j n) (f .records j)
+        go (yes o) (no l) = rw (records-past N a k bs v (m .records) j (omega arith)) (omega arith)
+        go (yes o) (yes l) =
+            let w = owned N a j one o in
+            let p = w .at in
+            rw (records-own N a k bs v (m .records) j l o, p .is, next-of N (p .among) (p .place) (p .inside) seen, end-of N (p .among) (p .place) (p .inside), w .used) (small (p .among) (p .place) (w .used))
 
     store-bounded : (end : Branch → End) → ((i : ℕ) → i < length (N .rows) → natAbs (passedOn v (rowAt N i) (end (by i) .wire)) ≤ Limits.historyEnd)
         → (w : Words) → Bounded (slotEnd N) w → Bounded (slotEnd N) (newStore N k end bs v w)

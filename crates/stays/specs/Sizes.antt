@@ -1,31 +1,26 @@
 -- "current magnitudes are at most 1.4·10^17": a conductance of 10^9 at most, times a voltage between two nodes of 4·10^7 at most, and a history of
 -- 10^17 at most. What is passed on is in its range by refusal 17. Assumes nothing.
-use Prim.Native.Nat.{ℕ, zero, suc, _*_, _-_, _^_, _≤_, _<_}
-use native.Mathlib.Omega.{arith}
-use mathlib.Core.Path.{_≡_, refl, sym, ap, _∙_, subst}
-use mathlib.Core.Bool.{Bool, true, false, cond, _&&_, _||_, true≢false}
-use mathlib.Core.List.{List, [], _∷_}
-use lib.ListN.{length, getD, replicate}
-use lib.Dec.{eqb, ltb}
-use lib.IntN.{ℤ, pos, natAbs, _-ℤ_, _*ℤ_}
-use borrow.Author.Tests.{leb-true, not-false}
-use Rattle.whole.specs.Lists.{Words, z, word, upTo, numbers}
+use Rattle.whole.specs.Plain.{ℕ, zero, suc, _*_, _-_, _^_, _≤_, _<_, _≡_, refl, sym, ap, _∙_, subst, Bool, true, false}
+use Rattle.whole.specs.Plain.{cond, _&&_, List, [], _∷_, eqb, ltb, ℤ, pos, natAbs, _-ℤ_, _*ℤ_, length, getD, replicate}
+use Rattle.whole.specs.Plain.{leb-true, not-false, arith, Words, z, word, upTo, numbers}
 use Rattle.whole.specs.Int.{abs-neg, abs-add-le, abs-sub-le, abs-mul-le}
 use Rattle.whole.specs.Folds.{and-left, and-right, length-numbers, getD-map, getD-numbers}
 use Rattle.whole.specs.Places.{place, place-none}
 use Rattle.paper.specs.Limits as Limits
-use Rattle.paper.specs.Rows.{Row, isBranch, isLine, isL, isC, from, to}
+use Rattle.paper.specs.Rows.{Row, isBranch, isLine, from, to}
 use Rattle.paper.specs.Conductance.{conductance}
 use Rattle.paper.specs.Areas.{Net, rowArea, step}
 use Rattle.paper.specs.Records.{historyAt, slotCount}
 use Rattle.paper.specs.Legs.{Leg, idle, otherEnd, Branch, branch, Heard, here, sentTo, sentAt, heardBy, heard, isOpen, conducts, lineEnd, lineLegs, plainLegs, legsBy, legsOf, through, current, passedOn}
+use Rattle.paper.specs.Apart.{histories-in, end-most}
 use Rattle.paper.specs.Solve.{beyond, firstBeyond}
 use Rattle.paper.specs.Advance.{Memory}
 use Rattle.facts.specs.Nets.{NetSound, rowAt}
-use Rattle.local.specs.Sound.{sound, row-there, line-branch}
+use Rattle.paper.specs.Classes.{line-branch}
+use Rattle.local.specs.Sound.{row-there}
 use Rattle.local.specs.Own.{deaf, byKind, row-is, legs-length, branch-is}
 use Rattle.local.specs.Slots.{slotOf, delayAt}
-use Rattle.stays.specs.Formed.{Formed, slotEnd, end-history}
+use Rattle.stays.specs.Formed.{Formed, slotEnd}
 use Rattle.stays.specs.Volts.{AllVolts}
 
 -- a leg within the paper's ends
@@ -87,11 +82,7 @@ module _ (N : Net) (m : Memory) (f : Formed N m) (s : NetSound N) (a k : ℕ) wh
   heard-at i h = rw (heard-is i h) (heard-by i)
 
   history-size : (i : ℕ) → i < length (N .rows) → natAbs (word (m .records) (historyAt i)) ≤ Limits.historyEnd
-  history-size i h = omega (arith, f .records (historyAt i), end-history N (sound N s) i h, most (isL (rowAt N i) || isC (rowAt N i)))
-    where
-      most : (b : Bool) → cond b Limits.historyEnd 0 ≤ Limits.historyEnd
-      most true = omega arith
-      most false = omega arith
+  history-size i h = omega (arith, f .records (historyAt i), end-most N histories-in i (omega (arith, s .rowMost)))
 
   -- ---- both legs of each row
 
@@ -127,16 +118,6 @@ module _ (N : Net) (m : Memory) (f : Formed N m) (s : NetSound N) (a k : ℕ) wh
           (record { g = open-most i b; h = w }, record { g = open-most i b; h = omega (arith, abs-neg (word (m .records) (historyAt i))) })
       go false true false l b = (idle-ranged, idle-ranged)
       go false false o l b = (idle-ranged, idle-ranged)
-
-  -- an own end is a branch's
-  pub own-branch : (i : ℕ) → by i .fromEnd .own ≡ true → isBranch (rowAt N i) ≡ true
-  unfolding legsBy lineLegs plainLegs
-  own-branch i = go (isLine (rowAt N i)) (isBranch (rowAt N i)) (eqb (rowArea N (rowAt N i)) a) refl refl
-    where
-      go : (x y o : Bool) → isLine (rowAt N i) ≡ x → isBranch (rowAt N i) ≡ y → byKind N a k (m .records) ears i x (y && o) .fromEnd .own ≡ true → isBranch (rowAt N i) ≡ true
-      go true y o l b e = line-branch (rowAt N i) l
-      go false true o l b e = b
-      go false false o l b e = absurd (true≢false (sym e))
 
 -- ---- "17 HISTORY: a next history or sent value beyond 10^17"
 

@@ -1,15 +1,7 @@
 -- T-fresh and T-stays: what reset writes is well formed, and a call leaves a well-formed state well formed. Assumes nothing.
-use Prim.Native.Nat.{ℕ, zero, suc, _+_, _-_, _≤_, _<_}
-use native.Mathlib.Decide.{ℕ-discrete}
-use native.Mathlib.Omega.{arith}
-use mathlib.Core.Path.{_≡_, refl, sym, ap, _∙_}
-use mathlib.Core.Logic.{_≢_}
-use mathlib.Core.Bool.{Bool, true, false}
-use mathlib.Core.List.{List}
-use lib.ListN.{length, replicate}
-use lib.Signed.{nonNeg}
+use Rattle.whole.specs.Plain.{ℕ, zero, suc, _+_, _-_, _≤_, _<_, _≡_, refl, sym, ap, _∙_, _≢_, Bool, true, false, List}
+use Rattle.whole.specs.Plain.{nonNeg, length, replicate, ℕ-discrete, arith, Words, z, word, nat}
 use Rattle.paper.specs.declared.Advance.{Advance}
-use Rattle.whole.specs.Lists.{Words, z, word, nat}
 use Rattle.paper.specs.Limits as Limits
 use Rattle.paper.specs.Answers.{accepted}
 use Rattle.paper.specs.Rows.{from, to, steps}
@@ -21,8 +13,8 @@ use Rattle.paper.specs.Advance.{Memory, written, onNet}
 use Rattle.paper.specs.Resetting.{fresh}
 use Rattle.facts.specs.Nets.{NetSound, rowAt, area-of}
 use Rattle.local.specs.Sound.{Sound, sound}
-use Rattle.local.specs.Own.{own-count}
-use Rattle.local.specs.Written.{new, records-length, records-keep, records-other, count-put}
+use Rattle.local.specs.Own.{other-count}
+use Rattle.local.specs.Written.{new, records-length, records-keep, count-put}
 use Rattle.local.specs.Slots.{delayAt, sent-length}
 use Rattle.local.specs.Waits.{Free, not-late}
 use Rattle.local.specs.Outcome.{stepOf, legsNow, voltsOf, large, Taken, taken, refused, Solving, floats, leaves, tips, exceeds, solves, solving}
@@ -63,15 +55,15 @@ pub record Long (m : Memory) : Type 0 where
 
 -- ---- counts after the step of one area
 
-module _ (N : Net) (f : Sound N) (m : Memory) (long : Long m) (a k : ℕ) (one : 1 ≤ a) (most : a ≤ 32) (ears : List Heard) (v : Words) where
+module _ (N : Net) (f : Sound N) (m : Memory) (long : Long m) (a k : ℕ) (one : 1 ≤ a) (most : a ≤ areaCount N) (ears : List Heard) (v : Words) where
   abbrev after : Words
   after = new N a k (m .records) ears v (m .records)
 
   pub counted : countOf after a ≡ k
-  counted = ap nat (count-put N a k (m .records) ears v f one most (m .records) (long .records))
+  counted = ap nat (count-put N a k (m .records) ears v f (m .records) (long .records) one most)
 
   pub uncounted : (b : ℕ) → 1 ≤ b → b ≤ 32 → b ≢ a → countOf after b ≡ countOf (m .records) b
-  uncounted b l h n = ap nat (records-keep N a k (m .records) ears v f one most (m .records) (countAt b) (λ e. n (sym (own-count N b l h) ∙ e)))
+  uncounted b l h n = ap nat (records-keep N a k _ v (m .records) (countAt b) (other-count N a b one l h n))
 
   -- "areas at a line's two ends differ by at most d in count": x and y are the areas at its ends
   near-stays : (x y d : ℕ) → 1 ≤ x → x ≤ 32 → 1 ≤ y → y ≤ 32 → k ≡ suc (countOf (m .records) a)
@@ -114,7 +106,7 @@ module _ (N : Net) (s : NetSound N) (a : ℕ) (m : Memory) (long : Long m) (good
   unfolding written
   next-long =
       record {
-        records = records-length N a k (m .records) ears v (m .records) ∙ long .records;
+        records = records-length N a k (legsNow N a m) v (m .records) ∙ long .records;
         froms = sent-length N a k (m .records) ears v (λ b. b .fromEnd) (m .froms) ∙ long .froms;
         tos = sent-length N a k (m .records) ears v (λ b. b .toEnd) (m .tos) ∙ long .tos;
       }
@@ -126,20 +118,17 @@ module _ (N : Net) (s : NetSound N) (a : ℕ) (m : Memory) (long : Long m) (good
         signs = λ j h _. sign j h;
         records = records-bounded N s m f a k one most room v volts inside;
         from-near = λ i h l.
-            near-stays N snd m long a k one top ears v (areaOf N (from (rowAt N i))) (areaOf N (to (rowAt N i))) (delayAt N i)
+            near-stays N snd m long a k one most ears v (areaOf N (from (rowAt N i))) (areaOf N (to (rowAt N i))) (delayAt N i)
             (snd .from-area i l) (omega (arith, area-of N (from (rowAt N i)), snd .areas)) (snd .to-area i l) (omega (arith, area-of N (to (rowAt N i)), snd .areas)) refl
             (free i h l .at-from) (f .from-near i h l);
         to-near = λ i h l.
-            near-stays N snd m long a k one top ears v (areaOf N (to (rowAt N i))) (areaOf N (from (rowAt N i))) (delayAt N i)
+            near-stays N snd m long a k one most ears v (areaOf N (to (rowAt N i))) (areaOf N (from (rowAt N i))) (delayAt N i)
             (snd .to-area i l) (omega (arith, area-of N (to (rowAt N i)), snd .areas)) (snd .from-area i l) (omega (arith, area-of N (from (rowAt N i)), snd .areas)) refl
             (free i h l .at-to) (f .to-near i h l);
         froms = froms-bounded N s m f a k one most room v volts inside;
         tos = tos-bounded N s m f a k one most room v volts inside;
       }
     where
-      top : a ≤ 32
-      top = omega (arith, snd .areas)
-
       volts : AllVolts v
       volts = step-volts N s a k (legsNow N a m)
 
@@ -150,10 +139,10 @@ module _ (N : Net) (s : NetSound N) (a : ℕ) (m : Memory) (long : Long m) (good
       sign j h = go (ℕ-discrete j (countAt a))
         where
           go : Dec (j ≡ countAt a) → nonNeg (word (new N a k (m .records) ears v (m .records)) j) ≡ true
-          go (yes e) = rw (e, count-put N a k (m .records) ears v snd one top (m .records) (long .records))
+          go (yes e) = rw (e, count-put N a k (m .records) ears v snd (m .records) (long .records) one most)
           go (no n) =
-              rw (records-other N a k (m .records) ears v (m .records) j
-              (record { count = n; volts = λ i q e. omega (arith, q .low); froms = λ i l o e. omega arith; tos = λ i l o e. omega arith; histories = λ i l o e. omega arith }))
+              let q : suc j - 1 ≡ j = omega arith in
+              rw (records-keep N a k (legsNow N a m) v (m .records) j (rw q at (other-count N a (suc j) one (omega arith) (omega arith) (λ e. n (omega arith)))))
               (f .signs j h (rw (long .records) (omega arith)))
 
   solved-small : Solving N a k (legsNow N a m) → solve N a k (legsNow N a m) ≡ move (legsNow N a m) v → large N a k (legsNow N a m) ≡ 0

@@ -1,16 +1,10 @@
 -- "Each x within the voltage range goes to the nearest whole number", which is within it too, and so are the sources' values: every voltage of a
 -- step is in the voltage range. Assumes nothing.
-use Prim.Native.Nat.{ℕ, _≤_}
-use native.Mathlib.Omega.{arith}
-use mathlib.Core.Path.{_≡_, refl, sym}
-use mathlib.Core.Bool.{Bool, true, false, cond}
-use mathlib.Core.List.{List, [], _∷_, map}
-use lib.ListN.{length, set, take}
+use Rattle.whole.specs.Plain.{ℕ, _≤_, _≡_, refl, sym, Bool, true, false, cond, List, [], _∷_, map, ℤ, natAbs, length}
+use Rattle.whole.specs.Plain.{set, take, arith, Words, word}
 use lib.Ieee.{Float}
-use lib.IntN.{ℤ, natAbs}
 use Rattle.paper.specs.declared.Rounded.{Rounded}
 use Rattle.paper.specs.declared.Rounded.the-variants.{Whole, Outside}
-use Rattle.whole.specs.Lists.{Words, word}
 use Rattle.whole.specs.Members.{Among, top, below, map-among}
 use Rattle.paper.specs.Limits as Limits
 use Rattle.paper.specs.Areas.{Net, freeOf}

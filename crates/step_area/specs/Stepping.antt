@@ -1,42 +1,35 @@
 -- An area's step from the tables is the paper's. Assumes nothing.
-use Prim.Native.Nat.{ℕ, zero, suc, _+_, _-_, _≤_, _<_}
-use mathlib.Core.Path.{_≡_, refl, sym, ap, subst, _∙_}
-use mathlib.Core.Bool.{Bool, true, false, true≢false}
-use mathlib.Core.List.{List, [], _∷_, map}
-use native.Mathlib.Omega.{arith}
-use lib.ListN.{length}
-use lib.IntN.{pos}
+use Rattle.whole.specs.Plain.{ℕ, zero, suc, _≤_, _≡_, refl, sym, ap, subst, _∙_, Bool, true, false, true≢false, List}
+use Rattle.whole.specs.Plain.{[], _∷_, map, pos, arith, Words, z}
 use lib.Ieee.{Float}
 use Rattle.paper.specs.declared.Advance.{Advance}
 use Rattle.paper.specs.declared.Advance.the-variants.{Took, Floating, Range, Unbalanced, History}
-use Rattle.whole.specs.Lists.{Words, z}
 use Rattle.paper.specs.Limits as Limits
 use Rattle.paper.specs.Rows as Rows
 use Rattle.paper.specs.Answers.{accepted}
-use Rattle.paper.specs.Areas.{Net, areaCount, fixed, freeOf}
-use Rattle.paper.specs.Legs.{Leg, leg, Branch, legsOf, heard, bothLegs}
+use Rattle.paper.specs.Areas.{Net, fixed, freeOf}
+use Rattle.paper.specs.Legs.{Leg, leg, Branch, bothLegs}
 use Rattle.paper.specs.Floating as Paper
 use Rattle.paper.specs.Solve.{Step, stop, move, passing, solve, settling, solvedStep, stillOf, andFloating}
-use Rattle.paper.specs.Advance.{Memory, memory, Advanced, advanced, written, finish, takeStep, ready}
-use Rattle.facts.specs.Nets.{NetSound}
+use Rattle.paper.specs.Advance.{Memory, memory, advanced, written, finish, takeStep, ready}
 use Rattle.local.specs.Outcome.{Solving, floats, leaves, tips, exceeds, solves, solving, voltsOf}
 use Rattle.plan_ends.specs.Own.{ownEnds, Framed, ownNodes}
 use Rattle.plan_own.specs.declared.Own.{Own}
-use Rattle.plan_own.specs.Grown.{part}
+use Rattle.plan_lay.specs.Grown.{part}
 use Rattle.plan_own.specs.Owns.{ownIn, Ours}
 use Rattle.plan_own.specs.Kept.{legsPut}
 use Rattle.step_factors.specs.Blocks.{renewed-none}
 use Rattle.step_floating.specs.Local.{floating-joins, joins-bare}
+use Rattle.step_legs.specs.Written.{SameBut}
 use Rattle.step_own.specs.Ends.{legOfEnd, bareOfEnd, Kept}
-use Rattle.step_own.specs.Laid.{Laid}
+use Rattle.step_own.specs.Laid.{conducting-same}
 use Rattle.step_own.specs.Paper.{own-floating}
-use Rattle.step_flow.specs.Found.{flown}
 use Rattle.step_prepare.specs.Serving as Serving
 use Rattle.step_prepare.specs.Serving.{Serving}
 use Rattle.step_try.specs.declared.At.{At}
 use Rattle.step_try.specs.declared.Outcome.{Outcome}
 use Rattle.step_try.specs.Outcomes.{Tried, answered}
-use Rattle.step_try.specs.Trying.{Trying, SameBut, conducting-same, branches, Flowing, Tries}
+use Rattle.step_try.specs.Trying.{Trying, branches, Flowing, Tries}
 use Rattle.step_commit.specs.Records.{Recordable, recordsPut}
 use Rattle.step_commit.specs.Stores.{Sendable, sentBy, fromEnd, toEnd}
 use Rattle.step_commit.specs.Asked.{recordable, sendable}
@@ -231,13 +224,10 @@ module _ {N : Net} {low high : ℕ} {plan owns : List (List ℕ)} {legs : List W
         → m′ ≡ memory (recordsPut lines (part (o .base) (o .«nodes_end») nodes) (r .volts) (turn .area) (turn .k) (m .records)) (sentBy plan (turn .k) fromEnd lines (m .froms)) (sentBy plan (turn .k) toEnd lines (m .tos))
         → advanced (r .answer) m′ ≡ ready N (turn .area) (turn .k) m
     taken-written {m′} q =
-        taken-step N a (turn .k) m m′ (r .answer) (r .volts) took-it (q ∙ rw (flows .flows, nodes-are) (written-is one (flows .laid) (R .tables .planned) (r .volts)))
+        taken-step N a (turn .k) m m′ (r .answer) (r .volts) took-it (q ∙ rw (flows .flows, nodes-are) (written-is one (flows .laid) (R .tables .planned) (r .volts) (R .tables .sound) (omega (arith, R .tables .most, R .stepping .most)) (R .stepping .kept .records-long)))
 
   -- ---- from the table that the lines stand in again
   module _ {lines : List Words} {r : Outcome} (same : SameBut (legsOf′ o legs) lines) (t : Tries N (turn .area) (turn .k) (m .records) (m .froms) (m .tos) lines r) (e : accepted (r .answer) ≡ true) where
-    abbrev again : List Words
-    again = legsOf′ o (legsPut o legs lines)
-
     pub asked : Recordable (legsOf′ o (legsPut o legs lines)) (part (o .base) (o .«nodes_end») nodes) (m .records) (turn .area) (turn .k) × Sendable plan (legsOf′ o (legsPut o legs lines)) (m .froms) (m .tos)
     asked = rw (legs-after same) (records-asked t e, stores-asked t e)
 

@@ -1,25 +1,19 @@
 -- The tables of a network's areas: what stands in each, and what of it is kept from step to step. Assumes nothing.
-use Prim.Native.Nat.{ℕ, suc, _+_, _-_, _≤_, _<_}
-use mathlib.Core.Path.{_≡_, sym, ap, subst, _∙_}
-use mathlib.Core.Logic.{_⊎_, inl, inr}
-use mathlib.Core.List.{List, []}
-use native.Mathlib.Omega.{arith}
-use native.Mathlib.Decide.{ℕ-discrete, decLt}
-use lib.ListN.{length, length-set}
+use Rattle.whole.specs.Plain.{ℕ, _+_, _-_, _≤_, _<_, _≡_, sym, ap, subst, _∙_, _⊎_, inl, inr, List, length, length-set}
+use Rattle.whole.specs.Plain.{ℕ-discrete, decLt, arith, Words}
 use borrow.Rule.Slice.PartMut.{mid-len}
 use lib.Ieee.{Float}
-use Rattle.whole.specs.Lists.{Words}
 use Rattle.paper.specs.Limits as Limits
 use Rattle.paper.specs.Areas.{Net, areaCount, freeOf}
 use Rattle.facts.specs.Nets.{NetSound, area-count-most}
 use Rattle.plan_ends.specs.Own.{Framed}
 use Rattle.plan_rows.specs.Planned.{Planned}
 use Rattle.plan_own.specs.declared.Own.{Own}
-use Rattle.plan_own.specs.Grown.{part}
+use Rattle.plan_lay.specs.Grown.{part}
 use Rattle.plan_own.specs.Owns as Owns
-use Rattle.plan_own.specs.Owns.{ownIn, wordsOf, prepared, untilPut, Ours, Apart}
+use Rattle.plan_own.specs.Owns.{ownIn, prepared, untilPut, Ours, Apart}
 use Rattle.plan_own.specs.Kept.{legsPut, tables-legs, ours-legs, other-below, other-above, end-in, new-long, put-here, put-below, put-above, own-put, own-other}
-use Rattle.step_factors.specs.Factors.{Square, Serves}
+use Rattle.step_factors.specs.Factors.{Square}
 use Rattle.step_factors.specs.Blocks.{Renewed, serves-beside}
 use Rattle.step_prepare.specs.declared.Prepared.{Prepared}
 use Rattle.step_prepare.specs.Serving.{Serving, Standing, Prepares, floats}
@@ -166,11 +160,10 @@ module _ {N : Net} {low high k : ℕ} {plan owns : List (List ℕ)} {legs : List
       other b n = own-other owns a b (prepared (ownIn owns a) u) n
 
       same : (P : Own → Type 0) → ((o : Own) → P o → P (prepared o u)) → (b : ℕ) → P (ownIn owns b) → P (ownIn (untilPut owns a u) b)
-      same P keep b x = by (ℕ-discrete b a)
-        where
-          by : Dec (b ≡ a) → P (ownIn (untilPut owns a u) b)
-          by (yes e) = subst (λ (n : ℕ). P (ownIn (untilPut owns a u) n)) (sym e) (subst P (sym here) (keep (ownIn owns a) (subst (λ (n : ℕ). P (ownIn owns n)) e x)))
-          by (no e) = subst P (sym (other b e)) x
+      same P keep b x = elim (ℕ-discrete b a) [
+        | yes e ↦ subst (λ (n : ℕ). P (ownIn (untilPut owns a u) n)) (sym e) (subst P (sym here) (keep (ownIn owns a) (subst (λ (n : ℕ). P (ownIn owns n)) e x)))
+        | no e ↦ subst P (sym (other b e)) x
+      ]
 
       kept : (b j : ℕ) → low ≤ b → b ≤ high → k ≤ j → j < ownIn (untilPut owns a u) b .until → Dec (b ≡ a) → Serving N b j (ownIn (untilPut owns a u) b .base) (ownLegs (untilPut owns a u) b legs) f
       kept b j p q x y (yes e) =

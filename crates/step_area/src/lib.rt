@@ -1,13 +1,13 @@
 // One step of one area, from the tables: 14 to 17 in turn, or the step is taken and written. What is kept for the positions of the area's switches is
 // renewed where one has changed.
-ghost use mathlib.Core.Path.{_≡_};
-ghost use Prim.Native.Nat.{ℕ, _≤_};
+ghost use Rattle.whole.specs.Plain.{ℕ, _≤_, _≡_};
 ghost use Rattle.whole.specs.Loans.{was, is};
 ghost use Rattle.paper.specs.Limits as Limits;
 ghost use Rattle.paper.specs.Areas.{Net};
 ghost use Rattle.paper.specs.Advance.{memory, advanced};
 ghost use Rattle.paper.specs.Advance as Paper;
 ghost use Rattle.paper.specs.Answers.{accepted};
+ghost use Rattle.paper.specs.Lent.{before, after};
 ghost use Rattle.step_area.specs.Tabled.{Known, Renews};
 ghost use Rattle.step_area.specs.Stepping.{atOf, Movable, Moves, Going, Steps};
 use paper::Advance;
@@ -56,7 +56,8 @@ fn renew(
     k: usize,
 ) -> usize
     requires { ⌜ Known k (now plan) (now owns) (now legs) (now nodes) (now factors) area ⌝ }
-    ensures { λ r. ⌜ Renews k area (was plan) (was nodes) (was owns) (was legs) (was factors) r (is owns) (is legs) (is factors) ⌝ }
+    ensures { λ r. ⌜ Renews k area (was plan) (was nodes) (was owns) (was legs) (was factors) r (is owns) (is legs)
+        (is factors) ⌝ }
 {
     let o = plan_own::own_at(owns, area);
     if k < o.until {
@@ -105,8 +106,10 @@ fn stepped(
     o: Own,
     turn: Turn,
 ) -> Advance
-    requires { ⌜ Movable (now plan) (now legs) (now nodes) (now sources) (now factors) (now records) (now froms) (now tos) o turn ⌝ }
-    ensures { λ r. ⌜ Moves (was plan) (was nodes) (was sources) (was factors) o turn (was legs) (memory (was records) (was froms) (was tos)) r (is legs) (memory (is records) (is froms) (is tos)) ⌝ }
+    requires { ⌜ Movable (now plan) (now legs) (now nodes) (now sources) (now factors) (now records) (now froms)
+        (now tos) o turn ⌝ }
+    ensures { λ r. ⌜ Moves (was plan) (was nodes) (was sources) (was factors) o turn (was legs)
+        (before records froms tos) r (is legs) (after records froms tos) ⌝ }
 {
     let legs_from = o.legs;
     let legs_to = o.legs_end;
@@ -159,8 +162,10 @@ pub fn ready(
     tos: &mut [i64],
     turn: Turn,
 ) -> Advance
-    requires { ⌜ Going (now plan) (now owns) (now legs) (now nodes) (now sources) (now factors) (now records) (now froms) (now tos) turn ⌝ }
-    ensures { λ r. ⌜ Steps (was plan) (was nodes) (was sources) turn (was owns) (was legs) (was factors) (memory (was records) (was froms) (was tos)) r (is owns) (is legs) (is factors) (memory (is records) (is froms) (is tos)) ⌝ }
+    requires { ⌜ Going (now plan) (now owns) (now legs) (now nodes) (now sources) (now factors) (now records)
+        (now froms) (now tos) turn ⌝ }
+    ensures { λ r. ⌜ Steps (was plan) (was nodes) (was sources) turn (was owns) (was legs) (was factors)
+        (before records froms tos) r (is owns) (is legs) (is factors) (after records froms tos) ⌝ }
 {
     let node = renew(plan, owns, legs, nodes, factors, turn.area, turn.k);
     if node != 0 {

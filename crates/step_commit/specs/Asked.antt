@@ -1,16 +1,10 @@
 -- Where an area's legs stand as a step leaves them, all that is asked of a caller holds. Assumes nothing.
-use Prim.Native.Nat.{ℕ, _/_, _≤_, _<_}
-use native.Mathlib.Omega.{arith}
-use mathlib.Core.Path.{_≡_, ap, sym, subst}
-use mathlib.Core.Logic.{⊎-elim}
-use mathlib.Core.List.{List, map, List·Memᴰ·append-cases}
-use borrow.Author.Tests.{eq-eqb}
-use lib.ListN.{length}
-use Rattle.whole.specs.Lists.{Words}
+use Rattle.whole.specs.Plain.{ℕ, _/_, _≤_, _<_, _≡_, ap, sym, subst, ⊎-elim, List, map, List·Memᴰ·append-cases, length}
+use Rattle.whole.specs.Plain.{eq-eqb, arith, Words}
 use Rattle.whole.specs.Members.{Among, among-at, keep-among, numbers-among}
 use Rattle.paper.specs.Rows.{steps}
 use Rattle.paper.specs.Faults.{slots}
-use Rattle.paper.specs.Areas.{Net, step, areaCount, nodesOf, freeOf}
+use Rattle.paper.specs.Areas.{Net, areaCount, nodesOf, freeOf}
 use Rattle.paper.specs.Records.{offset}
 use Rattle.facts.specs.Nets.{NetSound, rowAt, slots-within, area-count-most}
 use Rattle.plan_ends.specs.Own.{endAt, fixedOf, ownNodes}
@@ -19,8 +13,7 @@ use Rattle.plan_rows.specs.Planned.{rowIn, rowOf, Planned}
 use Rattle.step_legs.specs.Wires.{wireAt, Wires}
 use Rattle.step_own.specs.Ends.{Kept}
 use Rattle.step_own.specs.Laid.{Laid, end-own, wire-at, conducting-wires}
-use Rattle.step_flow.specs.Found.{flown}
-use Rattle.step_flow.specs.Flown.{flown-count, wire-stays, wires-stay}
+use Rattle.step_flow.specs.Flown.{flown, flown-count, wire-stays, wires-stay}
 use Rattle.step_commit.specs.Records.{Recordable}
 use Rattle.step_commit.specs.Stores.{Slotted, Sendable}
 

@@ -1,13 +1,6 @@
--- What the two ends of a row put in turn, from what is found of each, is what the paper puts for the row. Assumes nothing.
-use Prim.Native.Nat.{ℕ, suc, _+_, _%_}
-use native.Mathlib.Omega.{arith}
-use mathlib.Core.Path.{_≡_, refl, sym, ap, _∙_}
-use mathlib.Core.Bool.{Bool, true, false, cond, _&&_, _||_, and-true, and-false, true≢false}
-use mathlib.Core.List.{List, [], _∷_, map}
-use borrow.Author.Tests.{eqb-true}
-use lib.IntN.{ℤ}
-use lib.ListN.{set}
-use Rattle.whole.specs.Lists.{Words, fold}
+-- What an end of a row puts, from what is found of it; what the two put into the stores in turn is what the paper puts for the row. Assumes nothing.
+use Rattle.whole.specs.Plain.{ℕ, suc, _+_, _%_, _≡_, refl, sym, ap, _∙_, Bool, true, false, cond, _&&_, _||_, and-false}
+use Rattle.whole.specs.Plain.{List, [], _∷_, map, ℤ, set, arith, Words, fold}
 use Rattle.paper.specs.Rows.{Row, kind, isLine, isL, isC}
 use Rattle.paper.specs.Records.{currentAt, toCurrentAt, historyAt}
 use Rattle.paper.specs.Legs.{Leg, idle, current, echo, passedOn}
@@ -15,8 +8,7 @@ use Rattle.paper.specs.Advance.{putIf}
 use Rattle.plan_rows.specs.Planned.{rowIn}
 use Rattle.step_legs.specs.declared.Wire.{Wire}
 use Rattle.step_legs.specs.Wires.{legOf, wireIn, currentIn, passedIn, wiresIn}
-use Rattle.step_flow.specs.Found.{passedBy, flown, flown-wire, flown-current, flown-passed}
-use Rattle.step_flow.specs.Flown.{Long}
+use Rattle.step_flow.specs.Flown.{passedBy, flown, flown-wire, flown-current, flown-passed, Long}
 use Rattle.step_commit.specs.Records.{legPut}
 use Rattle.step_commit.specs.Stores.{fromEnd, toEnd, sentPut}
 
@@ -42,15 +34,15 @@ pub record EndOf (r : Row) (i e : ℕ) (w : Wire) : Type 0 where
   pub side : w .end ≡ e
   pub kind-is : w .kind ≡ kind r
 
-swap : (a b : Bool) → (a ≡ true → b ≡ false) → (x : Words) (i j : ℕ) (y z : ℤ) → putIf b (putIf a x i y) j z ≡ putIf a (putIf b x j z) i y
-unfolding putIf
-swap true true h x i j y z = absurd (true≢false (h refl))
-swap true false h x i j y z = refl
-swap false b h x i j y z = refl
+-- what it puts into the records
+module _ (v : Words) {r : Row} {i : ℕ} {w : Wire} (x : Words) where
+  pub from-puts : EndOf r i 1 w → found legPut v w x ≡ putIf (isL r || isC r) (set x (currentAt i) (current v (legOf w))) (historyAt i) (passedOn v r (legOf w))
+  unfolding legPut passedBy passedOn
+  from-puts f = rw (f .row, f .side, f .kind-is)
 
--- a line is neither an L nor a C
-line-alone : (r : Row) → isLine r ≡ true → (isL r || isC r) ≡ false
-line-alone r e = rw (eqb-true (kind r) 4 e)
+  pub to-puts : EndOf r i 2 w → found legPut v w x ≡ putIf (isLine r) x (toCurrentAt i) (current v (legOf w))
+  unfolding legPut
+  to-puts t = rw (t .row, t .side, t .kind-is)
 
 -- a word that is put where a leg is the area's, and one that never is
 put-own : (o a : Bool) (f : Leg → ℤ) (l : Leg) (x : Words) (i : ℕ) → cond o (putIf (a && true) x i (f l)) x ≡ putIf (a && o) x i (f (cond o l idle))
@@ -72,18 +64,6 @@ module _ (v : Words) {r : Row} {i : ℕ} {w₁ w₂ : Wire} (f : EndOf r i 1 w�
 
   abbrev both : (Wire → Words → Words) → Words
   both put = let y = cond o₁ (put w₁ x) x in cond o₂ (put w₂ y) y
-
-  pub row-put : putIf ((isL r || isC r) && o₁) (putIf (isLine r && o₂) (putIf o₁ x (currentAt i) (current v l₁)) (toCurrentAt i) (current v l₂)) (historyAt i) (passedOn v r l₁) ≡ both (found legPut v)
-  unfolding legPut putIf passedBy passedOn
-  row-put = rw (f .row, f .side, f .kind-is, t .row, t .side, t .kind-is) (by o₁ o₂)
-    where
-      by : (o₁ o₂ : Bool)
-          → putIf ((isL r || isC r) && o₁) (putIf (isLine r && o₂) (putIf o₁ x (currentAt i) (current v (cond o₁ (legOf w₁) idle))) (toCurrentAt i) (current v (cond o₂ (legOf w₂) idle))) (historyAt i) (passedOn v r (cond o₁ (legOf w₁) idle))
-          ≡ let y = cond o₁ (putIf (isL r || isC r) (set x (currentAt i) (current v (legOf w₁))) (historyAt i) (passedOn v r (legOf w₁))) x in cond o₂ (putIf (isLine r) y (toCurrentAt i) (current v (legOf w₂))) y
-      by true true = simp and-true (swap (isLine r) (isL r || isC r) (line-alone r) _ _ _ _ _)
-      by true false = simp (and-true, and-false)
-      by false true = simp (and-true, and-false)
-      by false false = simp and-false
 
   module _ (plan : List (List ℕ)) (k : ℕ) where
     abbrev at : ℕ

@@ -1,6 +1,6 @@
 pub mod Records
 pub mod Stores
-pub mod Parted
+pub mod Reached
 pub mod Ends
 pub mod Asked
 pub mod Paper

@@ -1,34 +1,42 @@
 -- What the legs of an area's step write is what the paper has an accepted step write. Assumes nothing.
-use Prim.Native.Nat.{ℕ, _+_, _*_, _/_, _%_, _≤_, _<_}
-use native.Mathlib.Omega.{arith}
-use mathlib.Core.Path.{_≡_, ap, _∙_}
-use mathlib.Core.Bool.{Bool}
-use mathlib.Core.List.{List, map}
-use lib.IntN.{ℤ, pos}
-use lib.ListN.{length, set}
-use Rattle.whole.specs.Lists.{Words, fold}
+use Rattle.whole.specs.Plain.{ℕ, suc, _+_, _-_, _*_, _/_, _%_, _≤_, _<_, _≡_, refl, sym, ap, _∙_, subst, ⊎-elim, Bool}
+use Rattle.whole.specs.Plain.{true, false, cond, _||_, List, map, List·Memᴰ·append-cases, Memᴰ·append-left}
+use Rattle.whole.specs.Plain.{Memᴰ·append-right, eqb, ℤ, pos, length, set, length-set, getD-set-same, ext-getD, eq-eqb}
+use Rattle.whole.specs.Plain.{ltb-true, ℕ-discrete, arith, Words, z, word, numbers, fold}
+use Rattle.whole.specs.Folds.{both, fold-keeps, fold-map}
+use Rattle.whole.specs.Members.{Among, Kept, All, all-among, among-keep, keep-among, among-numbers, numbers-among}
 use Rattle.whole.specs.Turns.{turns}
-use Rattle.paper.specs.Rows.{Row, kind}
-use Rattle.paper.specs.Areas.{Net}
-use Rattle.paper.specs.Records.{countAt}
-use Rattle.paper.specs.Legs.{Leg, End, Branch, branch, Heard, legsOf, heard}
-use Rattle.paper.specs.Advance.{memory, branchIn, putRow, newRecords, putSent, newStore, written}
-use Rattle.facts.specs.Nets.{rowAt}
-use Rattle.plan_ends.specs.Own.{ownEnd, ownNodes}
+use Rattle.paper.specs.Classes.{line-branch}
+use Rattle.paper.specs.Limits as Limits
+use Rattle.paper.specs.Rows.{Row, kind, isBranch, isLine, isL, isC, from, to}
+use Rattle.paper.specs.Areas.{Net, areaOf, areaCount, rowArea, fixed, nodesOf, freeOf}
+use Rattle.paper.specs.Records as Records
+use Rattle.paper.specs.Records.{voltAt, currentAt, toCurrentAt, historyAt, Section, counts, voltages, currents, toCurrents, histories, sections}
+use Rattle.paper.specs.Apart.{owned}
+use Rattle.paper.specs.Legs.{Leg, End, Branch, branch, Heard, legsBy, legsOf, branchIn, heard, current, echo, passedOn}
+use Rattle.paper.specs.Advance.{memory, putIf, newRecords, putSent, newStore, written}
+use Rattle.facts.specs.Nets.{NetSound, rowAt}
+use Rattle.local.specs.Sound.{Sound, sound, row-there}
+use Rattle.local.specs.Own.{line-no, keeper}
+use Rattle.local.specs.Nodes.{NodeOf, node-of, of-node, free-of, of-free}
+use Rattle.local.specs.Puts.{put-length, put-other, put-same, put-with}
+use Rattle.local.specs.Written.{records-length, records-keep, count-put, volt-put, current-put, to-put, history-put}
+use Rattle.plan_ends.specs.Own.{ownerOf, rowOfEnd, sideOfEnd, ownEnd, ownEnds, fixedOf, ownNodes}
 use Rattle.plan_rows.specs.Planned.{Planned}
 use Rattle.step_legs.specs.declared.Wire.{Wire}
-use Rattle.step_legs.specs.Wires.{wireIn, currentIn, passedIn}
+use Rattle.step_legs.specs.Wires.{legOf, wireIn, currentIn, passedIn}
 use Rattle.step_own.specs.Ends.{wireOf, endLeg}
 use Rattle.step_own.specs.EndLegs.{from-leg, to-leg}
 use Rattle.step_own.specs.Branches.{branch-at, legs-length, row-is, from-own, to-own}
 use Rattle.step_own.specs.Laid.{Laid, wires-are}
 use Rattle.step_own.specs.Pass.{turn, pass}
-use Rattle.step_flow.specs.Found.{flown}
-use Rattle.step_commit.specs.Records.{legPut, recordsPut}
+use Rattle.step_flow.specs.Flown.{passedBy, flown}
+use Rattle.step_commit.specs.Records.{legPut, recordsPut, voltsPut}
 use Rattle.step_commit.specs.Stores.{fromEnd, toEnd, sentPut, sentBy}
-use Rattle.step_commit.specs.Parted.{volts-own}
+use Rattle.step_commit.specs.Reached.{fold-keep, fold-reach}
 use Rattle.step_commit.specs.Asked.{place-is, slots-is}
-use Rattle.step_commit.specs.Ends.{found, by-wires, EndOf, row-put, from-put, to-put}
+use Rattle.step_commit.specs.Ends.{found, by-wires, EndOf, from-puts, to-puts, from-put}
+use Rattle.step_commit.specs.Ends as Ends
 
 -- a branch, by its parts
 abbrev end : Bool → Leg → End
@@ -39,8 +47,11 @@ parts e f g = rw (← e, ← f, ← g)
 
 module _ {N : Net} {a k : ℕ} {recs froms tos : Words} {legs : List Words} {plan : List (List ℕ)}
     (one : 1 ≤ a) (l : Laid N a k recs froms tos legs) (p : Planned N plan) (v : Words) where
+  abbrev ears : List Heard
+  ears = heard N a k froms tos
+
   abbrev bs : List Branch
-  bs = legsOf N a k recs (heard N a k froms tos)
+  bs = legsOf N a k recs ears
 
   abbrev lines : List Words
   lines = map (flown v) legs
@@ -64,9 +75,6 @@ module _ {N : Net} {a k : ℕ} {recs froms tos : Words} {legs : List Words} {pla
     to-end : EndOf (rowAt N i) i 2 (wireOf N k recs froms tos (2 * i + 1))
     to-end = record { row = omega arith; side = omega arith; kind-is = ap (λ (j : ℕ). kind (rowAt N j)) (omega arith) }
 
-    abbrev ears : List Heard
-    ears = heard N a k froms tos
-
     branch-is : branchIn bs i ≡ branch (rowAt N i) (end (ownEnd N a (2 * i)) (endLeg N a k recs froms tos (2 * i))) (end (ownEnd N a (2 * i + 1)) (endLeg N a k recs froms tos (2 * i + 1)))
     unfolding ownEnd
     branch-is =
@@ -77,23 +85,15 @@ module _ {N : Net} {a k : ℕ} {recs froms tos : Words} {legs : List Words} {pla
         branch-at N a k recs ears i h
         ∙ rw (e, f, g, o, from-leg N a k recs froms tos i h one, to-leg N a k recs froms tos i h one) (parts (row-is N a k recs ears i) (from-own N a k recs ears i one) (to-own N a k recs ears i one))
 
-    row-turn : (x : Words) → putRow bs v i x ≡ turn N a k recs froms tos (found legPut v) (2 * i + 1) (turn N a k recs froms tos (found legPut v) (2 * i) x)
-    unfolding putRow endLeg
-    row-turn x = rw branch-is (row-put v from-end to-end (ownEnd N a (2 * i)) (ownEnd N a (2 * i + 1)) x)
-
     from-turn : (x : Words) → putSent N k (λ b. b .fromEnd) bs v i x ≡ turn N a k recs froms tos (found (sent fromEnd) v) (2 * i + 1) (turn N a k recs froms tos (found (sent fromEnd) v) (2 * i) x)
     unfolding putSent endLeg
-    from-turn x = rw (branch-is, ← place-is p i h, ← slots-is p i h) (from-put v from-end to-end (ownEnd N a (2 * i)) (ownEnd N a (2 * i + 1)) x plan k)
+    from-turn x = rw (branch-is, ← place-is p i h, ← slots-is p i h) (Ends.from-put v from-end to-end (ownEnd N a (2 * i)) (ownEnd N a (2 * i + 1)) x plan k)
 
     to-turn : (x : Words) → putSent N k (λ b. b .toEnd) bs v i x ≡ turn N a k recs froms tos (found (sent toEnd) v) (2 * i + 1) (turn N a k recs froms tos (found (sent toEnd) v) (2 * i) x)
     unfolding putSent endLeg
-    to-turn x = rw (branch-is, ← place-is p i h, ← slots-is p i h) (to-put v from-end to-end (ownEnd N a (2 * i)) (ownEnd N a (2 * i + 1)) x plan k)
+    to-turn x = rw (branch-is, ← place-is p i h, ← slots-is p i h) (Ends.to-put v from-end to-end (ownEnd N a (2 * i)) (ownEnd N a (2 * i + 1)) x plan k)
 
-  -- ---- the three parts
-
-  pub records-are : recordsPut lines (ownNodes N a) v a k recs ≡ newRecords N a k bs v recs
-  unfolding recordsPut newRecords
-  records-are = rw (volts-own N a v (set recs (countAt a) (pos k))) (by-rows legPut (putRow bs v) _ (λ i x h. row-turn i h x))
+  -- ---- the stores
 
   pub froms-are : sentBy plan k fromEnd lines froms ≡ newStore N k (λ b. b .fromEnd) bs v froms
   unfolding sentBy newStore
@@ -103,6 +103,228 @@ module _ {N : Net} {a k : ℕ} {recs froms tos : Words} {legs : List Words} {pla
   unfolding sentBy newStore
   tos-are = by-rows (sent toEnd) (putSent N k (λ b. b .toEnd) bs v) tos (λ i x h. to-turn i h x)
 
-  pub written-is : memory (recordsPut lines (ownNodes N a) v a k recs) (sentBy plan k fromEnd lines froms) (sentBy plan k toEnd lines tos) ≡ written N a k bs v (memory recs froms tos)
-  unfolding written
-  written-is = rw (records-are, froms-are, tos-are)
+  -- ---- the records: each word of the area's own is put, and what is put there is what the paper's step writes
+
+  module _ (s : NetSound N) (most : a ≤ areaCount N) (long : length recs ≡ Limits.recordWords) where
+    abbrev after : Words
+    after = newRecords N a k bs v recs
+
+    abbrev Right : ℕ → Words → Type 0
+    Right j w = word w j ≡ word after j
+
+    abbrev Long : Words → Type 0
+    Long w = length w ≡ length recs
+
+    snd : Sound N
+    snd = sound N s
+
+    abbrev put : ℕ → Words → Words
+    put e x = found legPut v (wireOf N k recs froms tos e) x
+
+    abbrev by : ℕ → Branch
+    by = legsBy N a k recs ears
+
+    module _ (i : ℕ) (h : i < length (N .rows)) (j : ℕ) (x : Words) where
+      module _ (o : ownEnd N a (2 * i) ≡ true) where
+        from-wire : legOf (wireOf N k recs froms tos (2 * i)) ≡ by i .fromEnd .wire
+        unfolding endLeg
+        from-wire = rw o at (from-leg N a k recs froms tos i h one)
+
+        from-owned : by i .fromEnd .own ≡ true
+        unfolding ownEnd
+        from-owned =
+            let e : 2 * i / 2 ≡ i = omega arith in
+            let f : 1 + 2 * i % 2 ≡ 1 = omega arith in
+            from-own N a k recs ears i one ∙ (rw (e, f) at o)
+
+        current-right : current v (legOf (wireOf N k recs froms tos (2 * i))) ≡ word after (currentAt i)
+        current-right = ap (current v) from-wire ∙ sym (current-put N a k recs ears v snd recs long i h from-owned)
+
+        history-right : isL (rowAt N i) || isC (rowAt N i) ≡ true → passedOn v (rowAt N i) (legOf (wireOf N k recs froms tos (2 * i))) ≡ word after (historyAt i)
+        history-right c = ap (passedOn v (rowAt N i)) from-wire ∙ sym (history-put N a k recs ears v snd recs long i h (both c from-owned))
+
+        from-keeps : Right j x → Right j (put (2 * i) x)
+        unfolding putIf
+        from-keeps p =
+            rw (from-puts v x (from-end i h))
+            (put-with (λ (y : ℤ). y ≡ word after j) (isL (rowAt N i) || isC (rowAt N i)) _ (historyAt i) j _
+            (put-with (λ (y : ℤ). y ≡ word after j) true x (currentAt i) j _ p (λ _ q. current-right ∙ ap (word after) q))
+            (λ c q. history-right c ∙ ap (word after) q))
+
+        current-reached : Long x → Right (currentAt i) (put (2 * i) x)
+        current-reached n =
+            rw (from-puts v x (from-end i h))
+            (put-other (isL (rowAt N i) || isC (rowAt N i)) _ (historyAt i) (currentAt i) _ (λ _ e. omega (arith, snd .rows))
+            ∙ getD-set-same x (currentAt i) _ z (omega (arith, snd .rows)) ∙ current-right)
+
+        history-reached : isL (rowAt N i) || isC (rowAt N i) ≡ true → Long x → Right (historyAt i) (put (2 * i) x)
+        history-reached c n =
+            rw (from-puts v x (from-end i h))
+            (put-same (isL (rowAt N i) || isC (rowAt N i)) _ (historyAt i) _ c (omega (arith, length-set x (currentAt i) (current v (legOf (wireOf N k recs froms tos (2 * i)))), snd .rows)) ∙ history-right c)
+
+      module _ (o : ownEnd N a (2 * i + 1) ≡ true) where
+        to-right : isLine (rowAt N i) ≡ true → current v (legOf (wireOf N k recs froms tos (2 * i + 1))) ≡ word after (toCurrentAt i)
+        unfolding endLeg ownEnd
+        to-right c =
+            let e : (2 * i + 1) / 2 ≡ i = omega arith in
+            let f : 1 + (2 * i + 1) % 2 ≡ 2 = omega arith in
+            let q : by i .toEnd .own ≡ true = to-own N a k recs ears i one ∙ (rw (e, f) at o) in
+            ap (current v) (rw o at (to-leg N a k recs froms tos i h one)) ∙ sym (to-put N a k recs ears v snd recs long i h (both c q))
+
+        to-keeps : Right j x → Right j (put (2 * i + 1) x)
+        to-keeps p = rw (to-puts v x (to-end i h)) (put-with (λ (y : ℤ). y ≡ word after j) (isLine (rowAt N i)) x (toCurrentAt i) j _ p (λ c q. to-right c ∙ ap (word after) q))
+
+        to-reached : isLine (rowAt N i) ≡ true → Long x → Right (toCurrentAt i) (put (2 * i + 1) x)
+        to-reached c n = rw (to-puts v x (to-end i h)) (put-same (isLine (rowAt N i)) x (toCurrentAt i) _ c (omega (arith, snd .rows)) ∙ to-right c)
+
+    -- the turns of an area's ends and nodes
+
+    end-keeps : (j : ℕ) (x : Words) (e : ℕ) → Among e (ownEnds N a) → Right j x → Right j (put e x)
+    unfolding ownEnds
+    end-keeps j x e m p = go (ℕ-discrete (e % 2) 0)
+      where
+        c : Kept (ownEnd N a) (numbers 0 (2 * length (N .rows))) e
+        c = keep-among (ownEnd N a) (numbers 0 (2 * length (N .rows))) m
+
+        inside : e / 2 < length (N .rows)
+        inside = omega (arith, numbers-among 0 (2 * length (N .rows)) (c .among) .1)
+
+        go : Dec (e % 2 ≡ 0) → Right j (put e x)
+        go (yes q) = let d : e ≡ 2 * (e / 2) = omega arith in subst (λ (n : ℕ). ownEnd N a n ≡ true → Right j (put n x)) (sym d) (λ o. from-keeps (e / 2) inside j x o p) (c .passes)
+        go (no q) = let d : e ≡ 2 * (e / 2) + 1 = omega arith in subst (λ (n : ℕ). ownEnd N a n ≡ true → Right j (put n x)) (sym d) (λ o. to-keeps (e / 2) inside j x o p) (c .passes)
+
+    end-among : (e : ℕ) → e < 2 * length (N .rows) → ownEnd N a e ≡ true → Among e (ownEnds N a)
+    unfolding ownEnds
+    end-among e h o = among-keep (ownEnd N a) (numbers 0 (2 * length (N .rows))) (among-numbers 0 (2 * length (N .rows)) (omega arith) (omega arith)) o
+
+    put-long : (x : Words) (e : ℕ) → Long x → Long (put e x)
+    unfolding legPut
+    put-long x e n = go (eqb (sideOfEnd e) 1)
+      where
+        go : (b : Bool) → Long (cond b (putIf (eqb (kind (rowOfEnd N e)) 2 || eqb (kind (rowOfEnd N e)) 3) (set x (currentAt (e / 2)) (current v (legOf (wireOf N k recs froms tos e)))) (historyAt (e / 2)) (passedBy (kind (rowOfEnd N e)) (echo v (legOf (wireOf N k recs froms tos e)))))
+            (putIf (eqb (kind (rowOfEnd N e)) 4) x (toCurrentAt (e / 2)) (current v (legOf (wireOf N k recs froms tos e)))))
+        go true = simp (put-length, length-set) n
+        go false = simp put-length n
+
+    node-of-own : (n : ℕ) → Among n (ownNodes N a) → NodeOf N a n
+    unfolding fixedOf
+    node-of-own n m = ⊎-elim (λ l. free-of N a l .0) (λ l. node-of N a (keep-among (fixed N) (nodesOf N a) l .among)) (List·Memᴰ·append-cases (freeOf N a) m)
+
+    own-of-node : (n : ℕ) → NodeOf N a n → Among n (ownNodes N a)
+    unfolding fixedOf
+    own-of-node n q = go (fixed N n) refl
+      where
+        go : (b : Bool) → fixed N n ≡ b → Among n (ownNodes N a)
+        go true e = Memᴰ·append-right (freeOf N a) (among-keep (fixed N) (nodesOf N a) (of-node N a n q) e)
+        go false e = Memᴰ·append-left (fixedOf N a) (of-free N a n q e)
+
+    volt-right : (n : ℕ) → Among n (ownNodes N a) → word v n ≡ word after (voltAt N n)
+    volt-right n m = sym (volt-put N a k recs ears v snd recs long n (node-of-own n m))
+
+    abbrev start : Words
+    start = set recs (0 + (a - 1)) (pos k)
+
+    abbrev volts : Words
+    volts = voltsPut v (ownNodes N a) start
+
+    abbrev all : Words
+    all = fold (λ x e. put e x) volts (ownEnds N a)
+
+    records-fold : recordsPut lines (ownNodes N a) v a k recs ≡ all
+    unfolding recordsPut
+    records-fold =
+        by-wires legPut v legs (record { nine = λ j h. l .conducting .framed .line j h .long }) _
+        ∙ rw (wires-are l) (fold-map (λ x w. found legPut v w x) (wireOf N k recs froms tos) volts (ownEnds N a))
+
+    volts-keep : (j : ℕ) → Right j start → Right j volts
+    unfolding voltsPut putIf
+    volts-keep j p =
+        fold-keep (λ u n. set u (voltAt N n) (word v n)) (Right j) (ownNodes N a)
+        (λ u n m q. put-with (λ (y : ℤ). y ≡ word after j) true u (voltAt N n) j (word v n) q (λ _ e. volt-right n m ∙ ap (word after) e)) start p
+
+    volt-at : (n : ℕ) → Among n (ownNodes N a) → n ≤ 32 → Right (voltAt N n) volts
+    unfolding voltsPut putIf
+    volt-at n m h =
+        fold-reach (λ u n. set u (voltAt N n) (word v n)) (Right (voltAt N n)) Long (λ u i q. length-set u (voltAt N i) (word v i) ∙ q) (ownNodes N a) m
+        (λ u i l q. put-with (λ (y : ℤ). y ≡ word after (voltAt N n)) true u (voltAt N i) (voltAt N n) (word v i) q (λ _ e. volt-right i l ∙ ap (word after) e))
+        (λ u q. getD-set-same u (voltAt N n) (word v n) z (omega arith) ∙ volt-right n m) start (length-set recs (0 + (a - 1)) (pos k))
+
+    ends-keep : (j : ℕ) → Right j volts → Right j all
+    ends-keep j p = fold-keep (λ x e. put e x) (Right j) (ownEnds N a) (λ x e m q. end-keeps j x e m q) volts p
+
+    count-is : word after (0 + (a - 1)) ≡ pos k
+    count-is = let e : 0 + (a - 1) ≡ a - 1 = omega arith in rw e (count-put N a k recs ears v snd recs long one most)
+
+    start-keeps : (j : ℕ) → Right j recs → Right j start
+    unfolding putIf
+    start-keeps j p = put-with (λ (y : ℤ). y ≡ word after j) true recs (0 + (a - 1)) j (pos k) p (λ _ e. sym count-is ∙ ap (word after) e)
+
+    volts-long : Long volts
+    unfolding voltsPut
+    volts-long = fold-keeps Long (λ u n. set u (voltAt N n) (word v n)) (λ u n q. length-set u (voltAt N n) (word v n) ∙ q) start (ownNodes N a) (length-set recs (0 + (a - 1)) (pos k))
+
+    all-long : Long all
+    all-long = fold-keeps Long (λ x e. put e x) put-long volts (ownEnds N a) volts-long
+
+    -- each section's own words are reached
+    abbrev Reached : Section → Type 0
+    Reached t = (i : ℕ) → i < t .words → t .used N i ≡ true → t .area N i ≡ a → Right (t .start + i) all
+
+    by-end : (e j : ℕ) → e < 2 * length (N .rows) → ownEnd N a e ≡ true → ((x : Words) → Long x → Right j (put e x)) → Right j all
+    by-end e j h o r = fold-reach (λ x e. put e x) (Right j) Long put-long (ownEnds N a) (end-among e h o) (λ x d m q. end-keeps j x d m q) r volts volts-long
+
+    own-from : (i : ℕ) → isBranch (rowAt N i) ≡ true → cond (isLine (rowAt N i)) (areaOf N (from (rowAt N i))) (rowArea N (rowAt N i)) ≡ a → ownEnd N a (2 * i) ≡ true
+    unfolding ownEnd ownerOf
+    own-from i b o =
+        let e : 2 * i / 2 ≡ i = omega arith in
+        let f : 1 + 2 * i % 2 ≡ 1 = omega arith in
+        rw (e, f, b) (eq-eqb _ a o)
+
+    own-to : (i : ℕ) → isLine (rowAt N i) ≡ true → areaOf N (to (rowAt N i)) ≡ a → ownEnd N a (2 * i + 1) ≡ true
+    unfolding ownEnd ownerOf
+    own-to i b o =
+        let e : (2 * i + 1) / 2 ≡ i = omega arith in
+        let f : 1 + (2 * i + 1) % 2 ≡ 2 = omega arith in
+        rw (e, f, b) (eq-eqb _ a o)
+
+    reached : {t : Section} → Among t sections → Reached t
+    unfolding sections All
+    reached = all-among Reached sections (count-reached, (volt-reached, (from-reached, (to-reached-all, (held-reached, tt)))))
+      where
+        count-reached : Reached counts
+        count-reached i h u o =
+            let e : i ≡ a - 1 = omega arith in
+            rw e (ends-keep (0 + (a - 1)) (volts-keep (0 + (a - 1)) (getD-set-same recs (0 + (a - 1)) (pos k) z (omega (arith, snd .areas)) ∙ sym count-is)))
+
+        volt-reached : Reached voltages
+        volt-reached i h u o =
+            let n : NodeOf N a (suc i) = record { area = o; low = omega arith; high = omega (arith, ltb-true i (N .nodes) u) } in
+            let e : 32 + suc i - 1 ≡ 32 + i = omega arith in
+            ends-keep (32 + i) (rw e at (volt-at (suc i) (own-of-node (suc i) n) (omega arith)))
+
+        from-reached : Reached currents
+        from-reached i h u o = let t = row-there N i u in by-end (2 * i) (currentAt i) (omega arith) (own-from i u o) (λ x n. current-reached i t (currentAt i) x (own-from i u o) n)
+
+        to-reached-all : Reached toCurrents
+        to-reached-all i h u o = let t = row-there N i (line-branch (rowAt N i) u) in by-end (2 * i + 1) (toCurrentAt i) (omega arith) (own-to i u o) (λ x n. to-reached i t (toCurrentAt i) x (own-to i u o) u n)
+
+        held-reached : Reached histories
+        held-reached i h u o =
+            let b = keeper (rowAt N i) u in
+            let t = row-there N i b in
+            let f = own-from i b (rw (line-no (rowAt N i) u) o) in
+            by-end (2 * i) (historyAt i) (omega arith) f (λ x n. history-reached i t (historyAt i) x f u n)
+
+    right : (j : ℕ) → Right j all
+    right j = go (ℕ-discrete (Records.ownerOf N j) a)
+      where
+        go : Dec (Records.ownerOf N j ≡ a) → Right j all
+        go (no n) = ends-keep j (volts-keep j (start-keeps j (sym (records-keep N a k bs v recs j n))))
+        go (yes o) = let w = owned N a j one o in let p = w .at in rw (p .is) (reached (p .among) (p .place) (p .inside) (w .used) (w .area))
+
+    pub records-are : recordsPut lines (ownNodes N a) v a k recs ≡ newRecords N a k bs v recs
+    records-are = records-fold ∙ ext-getD z all after (all-long ∙ sym (records-length N a k bs v recs)) (λ j _. right j)
+
+    pub written-is : memory (recordsPut lines (ownNodes N a) v a k recs) (sentBy plan k fromEnd lines froms) (sentBy plan k toEnd lines tos) ≡ written N a k bs v (memory recs froms tos)
+    unfolding written
+    written-is = rw (records-are, froms-are, tos-are)

@@ -1,15 +1,9 @@
 -- What an area's legs and nodes write into the records. Assumes nothing.
-use Prim.Native.Nat.{ℕ, _≤_, _<_}
-use mathlib.Core.Path.{_≡_}
-use mathlib.Core.Bool.{cond, _||_}
-use mathlib.Core.List.{List}
-use lib.Dec.{eqb}
-use lib.IntN.{ℤ, pos}
-use lib.ListN.{length, getD, set}
-use Rattle.whole.specs.Lists.{Words, fold}
+use Rattle.whole.specs.Plain.{ℕ, _+_, _-_, _≤_, _<_, _≡_, cond, _||_, List, eqb, ℤ, pos, length, getD, set, Words, word}
+use Rattle.whole.specs.Plain.{fold}
 use Rattle.paper.specs.Limits as Limits
-use Rattle.paper.specs.Records.{countAt, currentAt, toCurrentAt, historyAt}
-use Rattle.paper.specs.Advance.{putIf, putVolts}
+use Rattle.paper.specs.Records.{counts, voltages, currentAt, toCurrentAt, historyAt}
+use Rattle.paper.specs.Advance.{putIf}
 use Rattle.step_legs.specs.declared.Wire.{Wire}
 use Rattle.step_legs.specs.Wires.{wireIn, currentIn, passedIn, Wires}
 
@@ -20,11 +14,15 @@ legPut w i p r =
     cond (eqb (w .end) 1) (putIf (eqb (w .kind) 2 || eqb (w .kind) 3) (set r (currentAt (w .row)) i) (historyAt (w .row)) p)
     (putIf (eqb (w .kind) 4) r (toCurrentAt (w .row)) i)
 
+-- the voltages of some nodes, each from 1
+unfoldable pub voltsPut : Words → List ℕ → Words → Words
+voltsPut v nodes r = fold (λ u n. set u (voltages .start + n - 1) (word v n)) r nodes
+
 abbrev pub linePut : Words → Words → Words
 linePut r l = legPut (wireIn l) (currentIn l) (passedIn l) r
 
 unfoldable pub recordsPut : List Words → List ℕ → Words → ℕ → ℕ → Words → Words
-recordsPut legs nodes v a k r = fold linePut (putVolts v nodes (set r (countAt a) (pos k))) legs
+recordsPut legs nodes v a k r = fold linePut (voltsPut v nodes (set r (counts .start + (a - 1)) (pos k))) legs
 
 pub record Nodes (nodes : List ℕ) : Type 0 where
   pub end : (i : ℕ) → i < length nodes → getD nodes i 0 ≤ Limits.nodeEnd

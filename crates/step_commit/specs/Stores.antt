@@ -1,12 +1,5 @@
 -- What an area's legs that are line ends write into a line store. Assumes nothing.
-use Prim.Native.Nat.{ℕ, _+_, _%_, _≤_, _<_}
-use mathlib.Core.Path.{_≡_}
-use mathlib.Core.Bool.{Bool, not, _&&_}
-use mathlib.Core.List.{List}
-use lib.Dec.{eqb}
-use lib.IntN.{ℤ}
-use lib.ListN.{length}
-use Rattle.whole.specs.Lists.{Words, fold}
+use Rattle.whole.specs.Plain.{ℕ, _+_, _%_, _≤_, _<_, _≡_, Bool, not, _&&_, List, eqb, ℤ, length, Words, fold}
 use Rattle.paper.specs.Limits as Limits
 use Rattle.paper.specs.Advance.{putIf}
 use Rattle.plan_rows.specs.Planned.{rowIn}

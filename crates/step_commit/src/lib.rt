@@ -1,28 +1,16 @@
 // What an accepted step of one area writes: its count, its voltages, the words of its rows, and what its line ends send. A leg's line has its current and
 // what it passes on; nothing is worked out again.
-ghost use mathlib.Core.Path.{_≡_};
-ghost use Prim.Native.Nat.{_+_, _≤_, _<_, _%_};
-ghost use lib.ListN.{length, set};
-ghost use Rattle.whole.specs.Lists.{fold};
+ghost use Rattle.whole.specs.Plain.{_+_, _≤_, _<_, _%_, _≡_, length, set, fold};
 ghost use Rattle.whole.specs.Loans.{was, is};
 ghost use Rattle.paper.specs.Limits as Limits;
-ghost use Rattle.paper.specs.Advance.{putVolts};
 ghost use Rattle.step_legs.specs.Wires.{Wires};
-ghost use Rattle.step_commit.specs.Records.{legPut, linePut, recordsPut, Nodes, Recordable};
+ghost use Rattle.step_commit.specs.Records.{voltsPut, legPut, linePut, recordsPut, Nodes, Recordable};
 ghost use Rattle.step_commit.specs.Stores.{fromEnd, toEnd, sentPut, sentBy, Slotted, Sendable};
 use paper::kinds;
+use paper::sections;
 use plan_rows::Table;
 use step_legs::Line;
 use step_legs::Wire;
-
-// Where the records' sections are: node n's voltage at VOLTAGES + n, n from 1; the words of the row in place i, from 0, at the others + i.
-const VOLTAGES: usize = 31;
-
-const CURRENTS: usize = 64;
-
-const TO_CURRENTS: usize = 144;
-
-const HISTORIES: usize = 224;
 
 // Of a leg's line, what the step found.
 const CURRENT: usize = 7;
@@ -34,12 +22,12 @@ const PASSED: usize = 8;
 // The voltages of the area's nodes.
 fn put_volts(nodes: &[usize], v: &[i64; 33], records: &mut [i64])
     requires { ⌜ Nodes (now nodes) × (length (now records) ≡ Limits.recordWords) ⌝ }
-    ensures { λ _. ⌜ is records ≡ putVolts (was v) (was nodes) (was records) ⌝ }
+    ensures { λ _. ⌜ is records ≡ voltsPut (was v) (was nodes) (was records) ⌝ }
 {
     let mut i = 0;
     while i < nodes.len() {
         let n = nodes[i];
-        records[VOLTAGES + n] = v[n];
+        records[sections::VOLTS + n - 1] = v[n];
         i += 1;
     }
 }
@@ -51,12 +39,12 @@ fn put_leg(l: Wire, current: i64, passed: i64, records: &mut [i64])
 {
     let row = l.row;
     if l.end == 1 {
-        records[CURRENTS + row] = current;
+        records[sections::CURRENTS + row] = current;
         if (l.kind == kinds::L) | (l.kind == kinds::C) {
-            records[HISTORIES + row] = passed;
+            records[sections::HISTORIES + row] = passed;
         }
     } else if l.kind == kinds::LINE {
-        records[TO_CURRENTS + row] = current;
+        records[sections::TO_CURRENTS + row] = current;
     }
 }
 
@@ -86,7 +74,7 @@ pub fn put_records(
     requires { ⌜ Recordable (now legs) (now nodes) (now records) area k ⌝ }
     ensures { λ _. ⌜ is records ≡ recordsPut (was legs) (was nodes) (was v) area k (was records) ⌝ }
 {
-    records[area - 1] = k as i64;
+    records[sections::COUNTS + (area - 1)] = k as i64;
     put_volts(nodes, v, records);
     put_legs(legs, records);
 }

@@ -1,16 +1,7 @@
 -- The conductances of legs at a step, by the plan's rows, and the step before which they stay. Assumes nothing.
-use Prim.Native.Nat.{ℕ, _+_, _≤_, _<_}
-use mathlib.Core.Path.{_≡_, refl, sym, ap, _∙_}
-use mathlib.Core.Bool.{Bool, true, false, cond, not, _&&_}
-use mathlib.Core.List.{List, []}
-use native.Mathlib.Omega.{arith}
-use native.Mathlib.Decide.{ℕ-discrete}
-use borrow.Author.Tests.{eq-eqb, ne-eqb, ltb-true, ltb-false, le-leb, lt-leb}
-use lib.Dec.{eqb, leb, ltb}
-use lib.IntN.{pos}
-use lib.ListN.{length, getD, set, length-set}
-use lib.Seq.{getD-set-same, getD-set-other}
-use Rattle.whole.specs.Lists.{Words, word, nat}
+use Rattle.whole.specs.Plain.{ℕ, _+_, _≤_, _<_, _≡_, refl, ap, _∙_, Bool, true, false, cond, not, _&&_, List, [], eqb}
+use Rattle.whole.specs.Plain.{leb, ltb, pos, length, getD, set, length-set, getD-set-same, getD-set-other, eq-eqb}
+use Rattle.whole.specs.Plain.{ne-eqb, ltb-true, ltb-false, le-leb, lt-leb, ℕ-discrete, arith, Words, word, nat}
 use Rattle.paper.specs.Limits as Limits
 use Rattle.plan_rows.specs.declared.Row.{Row}
 use Rattle.plan_rows.specs.Planned.{rowIn}
@@ -56,11 +47,7 @@ module _ (k : ℕ) (r : Row) where
 
   pub conducts-most : conductsOf k r ≤ r .g
   unfolding conductsOf
-  conducts-most = by (openOf k r)
-    where
-      by : (b : Bool) → cond b 0 (r .g) ≤ r .g
-      by true = omega arith
-      by false = omega arith
+  conducts-most = elim (openOf k r) as (λ b. cond b 0 (r .g) ≤ r .g) [ true ↦ omega arith | false ↦ omega arith ]
 
 -- ---- how long
 

@@ -1,14 +1,7 @@
 -- What is conducted by the plan is the paper's conductances, at each step before the next change. Assumes nothing.
-use Prim.Native.Nat.{ℕ, _/_, _*_, _≤_, _<_}
-use mathlib.Core.Path.{_≡_, refl, ap, _∙_}
-use mathlib.Core.Bool.{Bool, true, false}
-use mathlib.Core.List.{List, []}
-use native.Mathlib.Omega.{arith}
-use borrow.Author.Tests.{eqb-true}
-use lib.IntN.{ℤ, pos}
-use lib.ListN.{length, getD, set, length-set}
-use lib.Seq.{getD-set-same, getD-set-other}
-use Rattle.whole.specs.Lists.{Words, z, word, nat}
+use Rattle.whole.specs.Plain.{ℕ, _/_, _*_, _≤_, _<_, _≡_, refl, ap, _∙_, Bool, true, false, List, [], ℤ, pos, length}
+use Rattle.whole.specs.Plain.{getD, set, length-set, getD-set-same, getD-set-other, eqb-true, arith, Words, z, word}
+use Rattle.whole.specs.Plain.{nat}
 use Rattle.paper.specs.Rows as Rows
 use Rattle.paper.specs.Rows.{isBranch, isSwitch}
 use Rattle.paper.specs.Conductance.{conductance}
@@ -21,7 +14,7 @@ use Rattle.plan_rows.specs.Planned.{rowIn, rowOf, conductanceAt, Planned}
 use Rattle.step_factors.specs.Positions.{stays}
 use Rattle.step_own.specs.Ends.{gAt}
 use Rattle.step_own.specs.EndSizes as Sizes
-use Rattle.step_own.specs.Laid.{Conducting, end-own}
+use Rattle.step_own.specs.Laid.{Conducting, frame-kept, end-own}
 use Rattle.step_conduct.specs.Conducted.{openOf, conductsOf, rowOfLine, conducted, Stays, Rated, Conducted}
 
 pub never-open : (N : Net) (recs : Words) (k i : ℕ) → isSwitch (rowAt N i) ≡ false → isOpen N recs k i ≡ false
@@ -30,14 +23,7 @@ never-open N recs k i e = rw e
 
 -- a line's frame does not hold its conductance
 frame-stays : {N : Net} {e : ℕ} {l : Words} (x : ℤ) → FrameOf N e l → FrameOf N e (set l 5 x)
-frame-stays {N} {e} {l} x f = record {
-  long = length-set l 5 x ∙ f .long;
-  near = getD-set-other l 5 0 x z (λ q. omega arith) ∙ f .near;
-  far = getD-set-other l 5 1 x z (λ q. omega arith) ∙ f .far;
-  row = getD-set-other l 5 2 x z (λ q. omega arith) ∙ f .row;
-  end = getD-set-other l 5 3 x z (λ q. omega arith) ∙ f .end;
-  kind = getD-set-other l 5 4 x z (λ q. omega arith) ∙ f .kind;
-}
+frame-stays {l = l} x f = frame-kept (length-set l 5 x) (λ i h. getD-set-other l 5 i x z (λ q. omega arith)) f
 
 module _ {N : Net} {a : ℕ} {plan : List (List ℕ)} {legs : List Words} (s : NetSound N) (one : 1 ≤ a) (p : Planned N plan) (f : Framed N a legs) where
   -- the end of line j, and its row

@@ -1,13 +1,10 @@
 // The conductances of an area's legs at a step, and how long they stay: "R and closed SW: i = g·u. Open SW: i = 0 and no conductance."
-ghost use mathlib.Core.Path.{_≡_};
-ghost use mathlib.Core.List.{[]};
-ghost use Prim.Native.Nat.{_≤_, _<_};
-ghost use lib.ListN.{set, length, getD};
-ghost use Rattle.whole.specs.Lists.{word, nat};
+ghost use Rattle.whole.specs.Plain.{_≤_, _<_, _≡_, [], set, length, getD, word, nat};
 ghost use Rattle.whole.specs.Loans.{was, is};
 ghost use Rattle.paper.specs.Limits as Limits;
 ghost use Rattle.plan_rows.specs.Planned.{rowIn};
-ghost use Rattle.step_conduct.specs.Conducted.{openOf, conductsOf, Sooner, Stays, Rated, RatedLine, conducted, Conducted};
+ghost use Rattle.step_conduct.specs.Conducted.{openOf, conductsOf, Sooner, Stays, Rated, RatedLine, conducted};
+ghost use Rattle.step_conduct.specs.Conducted.{Conducted};
 use paper::kinds;
 use plan_rows::Row;
 use plan_rows::Table;

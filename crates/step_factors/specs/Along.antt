@@ -1,7 +1,5 @@
 -- Two counted loops whose states stay related, by a relation that knows the turn. Assumes nothing.
-use Prim.Native.Nat.{ℕ, zero, suc, _+_, _-_, _≤_, _<_}
-use mathlib.Core.Path.{_≡_}
-use native.Mathlib.Omega.{arith}
+use Rattle.whole.specs.Plain.{ℕ, zero, suc, _+_, _-_, _≤_, _<_, _≡_, arith}
 use native.Mathlib.Numerals.{add-one}
 use Rattle.whole.specs.Turns.{run, turns, downs}
 

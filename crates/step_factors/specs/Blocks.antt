@@ -1,13 +1,6 @@
 -- Blocks of one table beside one another: work on one area's lines leaves the others', and so the factors that stand there. Assumes nothing.
-use Prim.Native.Nat.{ℕ, _+_, _≤_, _<_}
-use mathlib.Core.Path.{_≡_, refl, ap, _∙_}
-use mathlib.Core.Logic.{_⊎_, inl, inr, ⊎-elim}
-use mathlib.Core.Bool.{Bool, true, false, cond}
-use mathlib.Core.List.{List, []}
-use native.Mathlib.Omega.{arith}
-use lib.Dec.{eqb}
-use lib.ListN.{set, length, length-set}
-use lib.Seq.{getD-set-other}
+use Rattle.whole.specs.Plain.{ℕ, _+_, _≤_, _<_, _≡_, refl, ap, _∙_, _⊎_, inl, inr, ⊎-elim, Bool, true, false, cond}
+use Rattle.whole.specs.Plain.{List, [], eqb, set, length, length-set, getD-set-other, arith}
 use lib.Ieee.{Float}
 use Rattle.whole.specs.TurnLaws.{turns-keeps}
 use Rattle.whole.specs.Written.{set-at}

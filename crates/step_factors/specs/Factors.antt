@@ -1,9 +1,6 @@
 -- What it is that the factors of a matrix serve every right side: beside the stated elimination of any system that has this matrix, the table has the
 -- stated cells from each row's diagonal on, and before it the multipliers by which the stated right sides come about. Assumes nothing.
-use Prim.Native.Nat.{ℕ, _+_, _≤_, _<_}
-use mathlib.Core.Path.{_≡_}
-use mathlib.Core.List.{List, []}
-use lib.ListN.{getD, length}
+use Rattle.whole.specs.Plain.{ℕ, _+_, _≤_, _<_, _≡_, List, [], getD, length}
 use lib.Ieee.{Float}
 use Rattle.whole.specs.Turns.{turns}
 use Rattle.paper.specs.Elimination.{System, line, cell, row, less, eliminated}

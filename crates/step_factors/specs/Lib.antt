@@ -1,6 +1,5 @@
 pub mod Factored
 pub mod Along
-pub mod Meets
 pub mod Factors
 pub mod Serving
 pub mod Substituted

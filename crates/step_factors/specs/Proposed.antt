@@ -1,11 +1,7 @@
 -- The paper's step from kept factors: they serve every step whose legs, but for their histories, are those that they were made from. Assumes nothing.
-use Prim.Native.Nat.{ℕ, _≤_, _<_}
-use mathlib.Core.Path.{_≡_, sym, ap, _∙_}
-use mathlib.Core.List.{List, [], map}
-use lib.ListN.{length, getD, take, replicate, length-map}
-use lib.IntN.{ℤ}
+use Rattle.whole.specs.Plain.{ℕ, _≤_, _<_, _≡_, sym, ap, _∙_, List, [], map, ℤ, length, getD, take, replicate}
+use Rattle.whole.specs.Plain.{length-map, Words, filled}
 use lib.Ieee.{Float, nan}
-use Rattle.whole.specs.Lists.{Words, filled}
 use Rattle.whole.specs.Folds.{getD-map, map-cong}
 use Rattle.whole.specs.Filled.{getD-filled-in, filled-least}
 use Rattle.paper.specs.Limits as Limits
@@ -75,17 +71,13 @@ module _ (legs : List Leg) (free : List ℕ) (still : Words) (inject : ℕ → �
     pivot = λ p h. rw (system-row p h, system-line p h) (sym (row-cell legs free (getD free p 0) p h));
   }
 
-  system-right : (p : ℕ) → p < length free → row (all .rows) p .right ≡ double (rightSide legs still (inject (getD free p 0)) (getD free p 0))
-  unfolding equation
-  system-right p h = rw (system-row p h)
-
   -- from the kept factors of legs that differ in their histories alone
   pub kept-proposed : (base n : ℕ) (kept : List Leg) (a : List (List Float)) (b : List Float) → n ≡ length free → n ≤ 32
       → Serves base n (matrixOf (map bare kept) free) a → map bare legs ≡ map bare kept → n ≤ length b
       → ((p : ℕ) → p < n → cell b p ≡ double (rightSide legs still (inject (getD free p 0)) (getD free p 0)))
       → map nearestOf (take n (substituted base n a b)) ≡ proposed legs free still inject
-  unfolding proposed
+  unfolding proposed equation
   kept-proposed base n kept a b e few w same long at =
       let o : Of n (matrixOf (map bare kept) free) all = rw e (rw same at system-of) in
-      let r : Rights n b all = record { long = long; at = λ p h. at p h ∙ sym (system-right p (rw e at h)) } in
+      let r : Rights n b all = record { long = long; at = λ p h. at p h ∙ sym (rw (system-row p (rw e at h))) } in
       rw (sym e) (ap (map nearestOf) (substituted-take base n all a few (w .at all o) b r))

@@ -1,14 +1,7 @@
 -- From the factors of a matrix, the substitution for a right side has the stated voltages. Assumes nothing.
-use Prim.Native.Nat.{ℕ, _+_, _≤_, _<_}
-use mathlib.Core.Path.{_≡_, refl, sym, ap, _∙_}
-use mathlib.Core.Bool.{Bool, true, false}
-use mathlib.Core.List.{List}
-use native.Mathlib.Omega.{arith}
-use borrow.Author.Tests.{eqb-true, eqb-false}
-use lib.Dec.{eqb}
-use lib.ListN.{length, set, take, length-set, length-replicate}
-use lib.Seq.{getD-set-same, getD-set-other, getD-take, length-take-le, ext-getD}
-use lib.IntN.{pos}
+use Rattle.whole.specs.Plain.{ℕ, _+_, _≤_, _<_, _≡_, refl, sym, ap, _∙_, true, false, List, eqb, pos, length, set, take}
+use Rattle.whole.specs.Plain.{length-set, length-replicate, getD-set-same, getD-set-other, getD-take, length-take-le}
+use Rattle.whole.specs.Plain.{ext-getD, eqb-true, eqb-false, arith}
 use lib.Ieee.{Float, fin, nan}
 use Rattle.whole.specs.TurnLaws.{turns-cong}
 use Rattle.paper.specs.Elimination.{System, line, cell, row, less, quotient, eliminated, rest, rowSolved, solved, voltages}
@@ -24,11 +17,10 @@ pub record Rights (n : ℕ) (b : List Float) (s : System) : Type 0 where
 -- one place set: there, and elsewhere
 set-to : (P : ℕ → Float → Type 0) (l : List Float) (q : ℕ) (x : Float) → q < length l → P q x → (c : ℕ) → ((c ≡ q → ⊥) → P c (cell l c))
     → P c (cell (set l q x) c)
-set-to P l q x h p c other = by-place (eqb c q) refl
-  where
-    by-place : (t : Bool) → eqb c q ≡ t → P c (cell (set l q x) c)
-    by-place true e = let d : c ≡ q = eqb-true c q e in rw (d, getD-set-same l q x nan h) p
-    by-place false e = let d : c ≡ q → ⊥ = eqb-false c q e in rw (getD-set-other l q c x nan d) (other d)
+set-to P l q x h p c other = elim (eqb c q) as (λ t. eqb c q ≡ t → P c (cell (set l q x) c)) [
+  | true ↦ λ e. let d : c ≡ q = eqb-true c q e in rw (d, getD-set-same l q x nan h) p
+  | false ↦ λ e. let d : c ≡ q → ⊥ = eqb-false c q e in rw (getD-set-other l q c x nan d) (other d)
+] refl
 
 -- forwards: q rows have their last right sides
 record Forward (n : ℕ) (s : System) (q : ℕ) (y : List Float) : Type 0 where
@@ -98,9 +90,6 @@ module _ (base n : ℕ) (s : System) (a : List (List Float)) (few : n ≤ 32) (w
       let none : Float = fin false 0 (pos 0) in
       downs-along (Back n s) (rowSolved n (eliminated n s)) (rowBack base n a) n (λ q x y l k. back-next q x y l k)
       (record { wide = rw (length-replicate 32 none) few; long = f .long; done = λ r l m. absurd (omega arith); still = f .done })
-
-  pub substituted-is : (b : List Float) → Rights n b s → (p : ℕ) → p < n → cell (substituted base n a b) p ≡ cell (voltages n s) p
-  substituted-is b g p h = solved-beside b g .done p (omega arith) h
 
   -- as the paper takes them: the first n
   pub substituted-take : (b : List Float) → Rights n b s → take n (substituted base n a b) ≡ take n (voltages n s)

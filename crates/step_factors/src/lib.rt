@@ -1,11 +1,11 @@
 // "Elimination" in two: a matrix changes only where a switch does, a right side at each step. `factor` eliminates the matrix alone and keeps each
 // multiplier in the place that it was made from; `substitute` then solves for one right side. Each cell and each right side meets the stated
 // operations in the stated order. All areas share one table: an area's n lines stand there from `base` on.
-ghost use mathlib.Core.Path.{_≡_};
-ghost use Prim.Native.Nat.{_+_, _<_, _≤_};
+ghost use Rattle.whole.specs.Plain.{_+_, _<_, _≤_, _≡_};
 ghost use Rattle.whole.specs.Loans.{was, is};
 ghost use Rattle.paper.specs.Elimination.{line, quotient};
-ghost use Rattle.step_factors.specs.Factored.{lineFactored, allFactored, factored, left, forward, back, substituted};
+ghost use Rattle.step_factors.specs.Factored.{lineFactored, allFactored, factored, left, forward, back};
+ghost use Rattle.step_factors.specs.Factored.{substituted};
 use paper::Equation;
 
 pub type Matrix = [[f64; 32]; 32];

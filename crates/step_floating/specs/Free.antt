@@ -1,14 +1,6 @@
 -- The free nodes of an area: in rising order, and all of its nodes but the fixed ones. Assumes nothing.
-use Prim.Native.Nat.{ℕ, zero, suc, _≤_, _<_}
-use native.Mathlib.Omega.{arith}
-use native.Mathlib.Decide.{decLt}
-use mathlib.Core.Path.{_≡_, refl, ap}
-use mathlib.Core.Bool.{Bool, true, false, not, _&&_}
-use mathlib.Core.List.{List, [], _∷_}
-use borrow.Author.Tests.{eqb-true, eq-eqb}
-use lib.Dec.{eqb}
-use lib.ListN.{length, getD}
-use Rattle.whole.specs.Lists.{keep, numbers, any}
+use Rattle.whole.specs.Plain.{ℕ, zero, suc, _≤_, _<_, _≡_, refl, ap, Bool, true, false, not, _&&_, List, [], _∷_, eqb}
+use Rattle.whole.specs.Plain.{length, getD, eqb-true, eq-eqb, decLt, arith, keep, numbers, any}
 use Rattle.whole.specs.Folds.{length-keep, count-le, length-numbers}
 use Rattle.whole.specs.Members.{among-at, keep-among, numbers-among}
 use Rattle.whole.specs.Rising.{Rising, rising-numbers, rising-keep, rising-over}

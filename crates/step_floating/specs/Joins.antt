@@ -1,12 +1,6 @@
 -- The joins of the legs that conduct, by the legs' places. Assumes nothing.
-use Prim.Native.Nat.{ℕ, zero, suc, _<_}
-use native.Mathlib.Omega.{arith}
-use mathlib.Core.Path.{_≡_, refl}
-use mathlib.Core.Logic.{_⊎_, inl, inr}
-use mathlib.Core.Bool.{Bool, true, false, cond}
-use mathlib.Core.List.{List, [], _∷_, map}
-use lib.ListN.{length, getD}
-use Rattle.whole.specs.Lists.{keep}
+use Rattle.whole.specs.Plain.{ℕ, zero, suc, _<_, _≡_, refl, _⊎_, inl, inr, Bool, true, false, cond, List, [], _∷_, map}
+use Rattle.whole.specs.Plain.{length, getD, arith, keep}
 use Rattle.paper.specs.Legs.{Leg, idle}
 use Rattle.paper.specs.Spread.{Join}
 use Rattle.paper.specs.Floating.{conducting, legJoin}
@@ -38,10 +32,6 @@ unfolding keep
 joins-all P [] h j i = absurd (omega (arith, in-some i))
 joins-all P (l ∷ legs) h j i = go (conducting l) refl (joins-all P legs (λ t k. h (suc t) (omega arith)) j) i
   where
-    head : P (legJoin l) → (In j (legJoins legs) → P j) → (j ≡ legJoin l) ⊎ In j (legJoins legs) → P j
-    head p more (inl e) = rw e p
-    head p more (inr i) = more i
-
     go : (b : Bool) → conducting l ≡ b → (In j (legJoins legs) → P j) → In j (map legJoin (cond b (l ∷ keep conducting legs) (keep conducting legs))) → P j
-    go true e more i = head (h 0 (omega arith) e) more (in-cases i)
+    go true e more i = elim (in-cases i) [ inl q ↦ rw q (h 0 (omega arith) e) | inr k ↦ more k ]
     go false e more i = more i

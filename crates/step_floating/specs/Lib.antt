@@ -1,7 +1,6 @@
 pub mod Search
 pub mod Joins
 pub mod Marks
-pub mod Going
 pub mod Answer
 pub mod Free
 pub mod Local

@@ -1,17 +1,7 @@
 -- What the answer goes by. An area's legs lead nowhere else, so the nodes outside of it may count as reached; neither histories nor legs that carry
 -- nothing count. Assumes nothing.
-use Prim.Native.Nat.{ℕ, _≤_, _<_}
-use native.Mathlib.Omega.{arith}
-use native.Mathlib.Decide.{ℕ-discrete}
-use mathlib.Core.Path.{_≡_, refl, sym, ap, _∙_}
-use mathlib.Core.Logic.{_⊎_, inl, inr}
-use mathlib.Core.Bool.{Bool, true, false, cond, not}
-use mathlib.Core.List.{List, [], _∷_, map}
-use borrow.Author.Tests.{eq-eqb, ne-eqb}
-use lib.Dec.{eqb}
-use lib.IntN.{ℤ}
-use lib.ListN.{length, getD}
-use Rattle.whole.specs.Lists.{z, keep}
+use Rattle.whole.specs.Plain.{ℕ, _≤_, _<_, _≡_, refl, sym, ap, _∙_, _⊎_, inl, inr, Bool, true, false, cond, not, List}
+use Rattle.whole.specs.Plain.{[], _∷_, map, eqb, ℤ, length, getD, eq-eqb, ne-eqb, ℕ-discrete, arith, z, keep}
 use Rattle.paper.specs.Limits as Limits
 use Rattle.paper.specs.Legs.{Leg, leg, idle}
 use Rattle.paper.specs.Areas.{Net, areaOf, fixed, freeOf}
@@ -33,8 +23,7 @@ pub data Local (N : Net) (a n : ℕ) : Type 0 where
 
 -- legs from such to such
 pub record Locals (N : Net) (a : ℕ) (legs : List Leg) : Type 0 where
-  pub near : (j : ℕ) → j < length legs → Local N a (getD legs j idle .near)
-  pub far : (j : ℕ) → j < length legs → Local N a (getD legs j idle .far)
+  pub ends : (j : ℕ) → j < length legs → Local N a (getD legs j idle .near) × Local N a (getD legs j idle .far)
 
 -- ---- two searches that start alike on nodes that no leg leaves
 module _ (legs : List Leg) (P : ℕ → Type 0) (closed : (j : Join) → In j (legJoins legs) → P (j .one) × P (j .two)) where
@@ -51,7 +40,7 @@ module _ (legs : List Leg) (P : ℕ → Type 0) (closed : (j : Join) → In j (l
   unfolding Inside
   reached-alike f f′ m m′ u end alike n h z =
       reached-complete f′ m′ legs n (λ j i. let q = closed j i in (omega (arith, end (j .one) (q .0)), omega (arith, end (j .two) (q .1)))) u
-      (record { node = g .node; way = g .way; ground = go (g .ground) }) (end (g .node) there)
+      (record { node = g .node; way = g .way; ground = elim (g .ground) [ inl q ↦ inl q | inr q ↦ alike (g .node) there q ] }) (end (g .node) there)
     where
       g : Grounded f legs n
       g = reached-sound f m legs n z
@@ -59,17 +48,9 @@ module _ (legs : List Leg) (P : ℕ → Type 0) (closed : (j : Join) → In j (l
       there : P (g .node)
       there = path-in (g .way .path) h
 
-      go : (g .node ≡ 0) ⊎ (f (g .node) ≡ true) → (g .node ≡ 0) ⊎ (f′ (g .node) ≡ true)
-      go (inl q) = inl q
-      go (inr q) = alike (g .node) there q
-
 -- ---- an area's search
 same-zero : (x y : ℕ) → (x ≡ 0 → y ≡ 0) → (y ≡ 0 → x ≡ 0) → eqb x 0 ≡ eqb y 0
-same-zero x y f g = go (ℕ-discrete x 0)
-  where
-    go : Dec (x ≡ 0) → eqb x 0 ≡ eqb y 0
-    go (yes e) = eq-eqb x 0 e ∙ sym (eq-eqb y 0 (f e))
-    go (no e) = ne-eqb x 0 e ∙ sym (ne-eqb y 0 (λ q. e (g q)))
+same-zero x y f g = elim (ℕ-discrete x 0) [ yes e ↦ eq-eqb x 0 e ∙ sym (eq-eqb y 0 (f e)) | no e ↦ ne-eqb x 0 e ∙ sym (ne-eqb y 0 (λ q. e (g q))) ]
 
 module _ (N : Net) (s : NetSound N) (a : ℕ) (one : 1 ≤ a) {legs : List Leg} (k : Locals N a legs) where
   abbrev free : List ℕ
@@ -88,7 +69,7 @@ module _ (N : Net) (s : NetSound N) (a : ℕ) (one : 1 ≤ a) {legs : List Leg} 
   back n (inside h e) t = inr (loose-fixed N s a one n h e ∙ t)
 
   closed : (j : Join) → In j (legJoins legs) → Local N a (j .one) × Local N a (j .two)
-  closed = joins-all (λ j. Local N a (j .one) × Local N a (j .two)) legs (λ t h c. (k .near t h, k .far t h))
+  closed = joins-all (λ j. Local N a (j .one) × Local N a (j .two)) legs (λ t h c. k .ends t h)
 
   pub floating-local : floating (loose free) Limits.nodeEnd free legs ≡ floating (fixed N) (N .nodes) free legs
   unfolding floating
@@ -119,14 +100,3 @@ joins-more x h l m e = go (conducting x)
 pub joins-bare : (l : List Leg) → legJoins (map (λ x. leg (x .near) (x .far) (x .g) z) l) ≡ legJoins l
 joins-bare [] = refl
 joins-bare (x ∷ l) = joins-more x z (map (λ x. leg (x .near) (x .far) (x .g) z) l) l (joins-bare l)
-
--- no leg that is idle
-pub joins-own : {A : Type 0} (own : A → Bool) (f : A → Leg) (l : List A) → legJoins (map (λ a. cond (own a) (f a) idle) l) ≡ legJoins (map f (keep own l))
-unfolding keep
-joins-own own f [] = refl
-joins-own own f (a ∷ l) = by (own a) (joins-own own f l)
-  where
-    by : (b : Bool) → legJoins (map (λ a. cond (own a) (f a) idle) l) ≡ legJoins (map f (keep own l))
-        → legJoins (cond b (f a) idle ∷ map (λ a. cond (own a) (f a) idle) l) ≡ legJoins (map f (cond b (a ∷ keep own l) (keep own l)))
-    by true e = joins-more (f a) (f a .h) (map (λ a. cond (own a) (f a) idle) l) (map f (keep own l)) e
-    by false e = e

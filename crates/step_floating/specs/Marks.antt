@@ -1,14 +1,7 @@
 -- Marks by node: the first ones, what a node reached changes, and the sum that falls with it. Assumes nothing.
-use Prim.Native.Nat.{ℕ, zero, suc, _+_, _<_}
-use native.Mathlib.Omega.{arith}
-use mathlib.Core.Path.{_≡_, refl, sym, ap, _∙_}
-use mathlib.Core.Logic.{_⊎_, inl, inr}
-use mathlib.Core.Bool.{Bool, true, false, cond, not, _&&_}
-use mathlib.Core.List.{List, [], _∷_}
-use lib.Dec.{eqb}
-use lib.ListN.{length, getD, set, length-set, length-map, replicate, getD-replicate}
-use lib.Seq.{ext-getD}
-use Rattle.whole.specs.Lists.{numbers, fold, any, sum}
+use Rattle.whole.specs.Plain.{ℕ, zero, suc, _+_, _<_, _≡_, refl, sym, ap, _∙_, inl, inr, Bool, true, false, cond, not}
+use Rattle.whole.specs.Plain.{_&&_, List, [], _∷_, eqb, length, getD, set, length-set, length-map, replicate}
+use Rattle.whole.specs.Plain.{getD-replicate, ext-getD, arith, numbers, fold, any, sum}
 use Rattle.whole.specs.Folds.{fold-keeps, getD-map, getD-numbers, length-numbers}
 use Rattle.whole.specs.Written.{fold-set}
 use Rattle.paper.specs.Limits as Limits
@@ -55,19 +48,11 @@ zero-any (x ∷ m) (suc n) d e = zero-any m n d e
 
 module _ (m : List ℕ) (i : ℕ) where
   pub zero-set : (n : ℕ) → getD m n 0 ≡ 0 → getD (set m i 0) n 0 ≡ 0
-  zero-set n e = go (set-cases m i 0 n 0)
-    where
-      go : ((i ≡ n) × (getD (set m i 0) n 0 ≡ 0)) ⊎ (getD (set m i 0) n 0 ≡ getD m n 0) → getD (set m i 0) n 0 ≡ 0
-      go (inl p) = p .1
-      go (inr p) = p ∙ e
+  zero-set n e = elim (set-cases m i 0 n 0) [ inl p ↦ p .1 | inr p ↦ p ∙ e ]
 
   -- what holds of i and of the nodes marked 0 before
   pub set-zero : (P : ℕ → Type 0) → P i → ((n : ℕ) → getD m n 0 ≡ 0 → P n) → (n : ℕ) → getD (set m i 0) n 0 ≡ 0 → P n
-  set-zero P p h n e = go (set-cases m i 0 n 0)
-    where
-      go : ((i ≡ n) × (getD (set m i 0) n 0 ≡ 0)) ⊎ (getD (set m i 0) n 0 ≡ getD m n 0) → P n
-      go (inl q) = rw (← q .0) p
-      go (inr q) = h n (sym q ∙ e)
+  set-zero P p h n e = elim (set-cases m i 0 n 0) [ inl q ↦ rw (← q .0) p | inr q ↦ h n (sym q ∙ e) ]
 
 -- ---- their sum
 abbrev pub weight : List ℕ → ℕ

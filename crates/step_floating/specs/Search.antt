@@ -1,10 +1,5 @@
 -- The search for a floating node: which nodes count as reached from the start, and what one leg's turn does to the marks. Assumes nothing.
-use Prim.Native.Nat.{ℕ, _+_}
-use mathlib.Core.Bool.{Bool, cond, not, _&&_}
-use mathlib.Core.List.{List}
-use lib.Dec.{eqb, ltb}
-use lib.ListN.{getD, set}
-use Rattle.whole.specs.Lists.{any}
+use Rattle.whole.specs.Plain.{ℕ, _+_, Bool, cond, not, _&&_, List, eqb, ltb, getD, set, any}
 use Rattle.paper.specs.Legs.{Leg}
 use Rattle.paper.specs.Floating.{conducting}
 

@@ -1,19 +1,12 @@
 -- 17: what the legs pass on, against the end of a history, line by line; and as a search over the wires. Assumes nothing.
-use Prim.Native.Nat.{ℕ, suc, _+_, _≤_, _<_}
-use native.Mathlib.Omega.{arith}
+use Rattle.whole.specs.Plain.{ℕ, suc, _+_, _≤_, _<_, _≡_, refl, Bool, true, false, cond, not, List, [], _∷_, map}
+use Rattle.whole.specs.Plain.{length, getD, drop, drop-of-length-le, drop-cons, arith, Words, upTo}
 use native.Mathlib.Numerals.{add-one}
-use mathlib.Core.Path.{_≡_, refl}
-use mathlib.Core.Bool.{Bool, true, false, cond, not}
-use mathlib.Core.List.{List, [], _∷_, map}
-use lib.ListN.{length, getD, drop, drop-of-length-le}
-use lib.Seq.{drop-cons}
-use Rattle.whole.specs.Lists.{Words, upTo}
 use Rattle.paper.specs.Limits as Limits
 use Rattle.paper.specs.Legs.{echo}
 use Rattle.step_legs.specs.declared.Wire.{Wire}
 use Rattle.step_legs.specs.Wires.{legOf, wireIn, passedIn, wiresIn}
-use Rattle.step_flow.specs.Found.{passedBy, flown, flown-word, flown-passed}
-use Rattle.step_flow.specs.Flown.{Long}
+use Rattle.step_flow.specs.Flown.{passedBy, flown, flown-word, flown-passed, Long}
 
 unfoldable pub beyondLine : Words → Bool
 beyondLine l = not (upTo Limits.historyEnd (passedIn l))

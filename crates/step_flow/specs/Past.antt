@@ -1,16 +1,8 @@
 -- The lowest of some nodes at which two quantities by node differ by more than a limit; of the currents that leave and the injections it is the
 -- paper's. Assumes nothing.
-use Prim.Native.Nat.{ℕ, _≤_}
-use mathlib.Core.Path.{_≡_}
-use mathlib.Core.Bool.{Bool, not}
-use mathlib.Core.List.{List}
-use native.Mathlib.Omega.{arith}
-use lib.IntN.{_-ℤ_}
-use lib.ListN.{length}
-use lib.Seq.{take-all}
+use Rattle.whole.specs.Plain.{ℕ, _≤_, _≡_, Bool, not, List, _-ℤ_, length, take-all, arith, Words, word, upTo, first}
 use mir.Syntax.{w64}
 use mir.Val.{SFits}
-use Rattle.whole.specs.Lists.{Words, word, upTo, first}
 use Rattle.whole.specs.Size.{∣_∣≤_, sub, fits}
 use Rattle.paper.specs.Limits as Limits
 use Rattle.paper.specs.Legs.{Leg, current}

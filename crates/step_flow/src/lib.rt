@@ -1,19 +1,13 @@
 // What flows once the voltages are known: each leg's current and i + g·u are worked out once and kept in its line. The balance at the free nodes (16)
 // and the values that are passed on (17) are judged by what is kept.
-ghost use mathlib.Core.Path.{_≡_};
-ghost use mathlib.Core.List.{[], map};
-ghost use Prim.Native.Nat.{_<_};
-ghost use lib.ListN.{set, length, getD};
-ghost use lib.Dec.{T};
-ghost use lib.Signed.{nonNeg};
-ghost use Rattle.whole.specs.Lists.{nat};
+ghost use Rattle.whole.specs.Plain.{_<_, _≡_, [], map, T, nonNeg, set, length, getD, nat};
 ghost use Rattle.whole.specs.Loans.{was, is};
 ghost use Rattle.paper.specs.Legs.{current};
 ghost use Rattle.step_legs.specs.Wires.{Carries, Wires, Sized, legsIn};
 ghost use Rattle.step_legs.specs.Shares.{Volts};
 ghost use Rattle.step_legs.specs.Sums.{Sums};
 ghost use Rattle.step_legs.specs.Free.{Free};
-ghost use Rattle.step_flow.specs.Found.{Small, passedBy, foundOf, keeping, flown};
+ghost use Rattle.step_flow.specs.Flown.{Small, passedBy, foundOf, keeping, flown};
 ghost use Rattle.step_flow.specs.Past.{Near, firstPast};
 ghost use Rattle.step_flow.specs.Beyond.{firstRow};
 use paper::History;

@@ -1,12 +1,6 @@
 -- A leg's history at a step: of a line's end what the far end sent, of another's what the records hold. Assumes nothing.
-use Prim.Native.Nat.{ℕ, _+_, _≤_, _<_}
-use mathlib.Core.Path.{_≡_, refl}
-use mathlib.Core.Bool.{Bool, true, false, cond}
-use mathlib.Core.List.{List}
-use lib.Dec.{eqb}
-use lib.ListN.{length, set}
-use lib.IntN.{ℤ}
-use Rattle.whole.specs.Lists.{Words, word}
+use Rattle.whole.specs.Plain.{ℕ, _+_, _≤_, _<_, _≡_, refl, Bool, true, false, cond, List, map, eqb, ℤ, length, set}
+use Rattle.whole.specs.Plain.{length-set, getD-set-other, arith, Words, z, word}
 use Rattle.paper.specs.Limits as Limits
 use Rattle.paper.specs.Records as Records
 use Rattle.received.specs.declared.Side.{Side}
@@ -16,6 +10,7 @@ use Rattle.plan_rows.specs.declared.Row.{Row}
 use Rattle.plan_rows.specs.Planned.{rowIn}
 use Rattle.step_legs.specs.declared.Wire.{Wire}
 use Rattle.step_legs.specs.Wires.{wireIn, wireAt, Wires}
+use Rattle.step_legs.specs.Written.{SameBut, writtenTo, to-same, to-all}
 use Rattle.step_own.specs.Ends.{facing, farStore, Kept}
 
 -- a line's slots lie within the stores
@@ -47,6 +42,15 @@ historyOf plan recs froms tos k w =
 -- a leg's line with its history
 unfoldable pub heardLine : List (List ℕ) → Words → Words → Words → ℕ → Words → Words
 heardLine plan recs froms tos k l = set l 6 (historyOf plan recs froms tos k (wireIn l))
+
+-- all else of a line stays
+module _ (plan : List (List ℕ)) (recs froms tos : Words) (k : ℕ) (legs : List Words) where
+  pub to-heard : (j : ℕ) → SameBut legs (writtenTo (heardLine plan recs froms tos k) j legs)
+  unfolding heardLine
+  to-heard j = to-same (heardLine plan recs froms tos k) (λ l. length-set l 6 _) (λ l i h. getD-set-other l 6 i _ z (λ e. omega arith)) j legs
+
+  pub all-heard : {after : List Words} → after ≡ map (heardLine plan recs froms tos k) legs → SameBut legs after
+  all-heard e = rw (e, ← to-all (heardLine plan recs froms tos k) legs) (to-heard (length legs))
 
 -- what a pass over the legs goes by: the slots of each leg that is a line's end
 pub record Hears (plan : List (List ℕ)) (legs : List Words) (recs froms tos : Words) : Type 0 where

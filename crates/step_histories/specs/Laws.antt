@@ -1,14 +1,6 @@
 -- What is heard, of a network's own legs: the rings are there, and the legs are then laid. Assumes nothing.
-use Prim.Native.Nat.{ℕ, _/_, _≤_, _<_}
-use mathlib.Core.Path.{_≡_, sym, ap, _∙_}
-use mathlib.Core.Bool.{true, cond}
-use mathlib.Core.List.{List, [], map}
-use native.Mathlib.Omega.{arith}
-use borrow.Author.Tests.{eq-eqb}
-use lib.ListN.{length, getD, length-map, length-set}
-use lib.Seq.{getD-set-same}
-use lib.IntN.{ℤ}
-use Rattle.whole.specs.Lists.{Words, z, word, nat}
+use Rattle.whole.specs.Plain.{ℕ, _/_, _≤_, _<_, _≡_, refl, sym, ap, _∙_, true, cond, List, [], map, ℤ, length, getD}
+use Rattle.whole.specs.Plain.{length-map, getD-set-same, eq-eqb, arith, Words, z, word, nat}
 use Rattle.whole.specs.Folds.{getD-map}
 use Rattle.paper.specs.Rows.{isLine}
 use Rattle.paper.specs.Faults.{delay, slots}
@@ -19,12 +11,11 @@ use Rattle.facts.specs.Nets.{NetSound, rowAt, slots-within}
 use Rattle.received.specs.Received.{heard-is}
 use Rattle.plan_rows.specs.declared.Row.{Row}
 use Rattle.plan_rows.specs.Planned.{rowIn, rowOf, Planned}
-use Rattle.plan_ends.specs.Own.{rowOfEnd, sideOfEnd, endAt, FrameOf}
-use Rattle.step_legs.specs.Wires.{wireIn, wireAt}
+use Rattle.plan_ends.specs.Own.{rowOfEnd, sideOfEnd, endAt}
+use Rattle.step_legs.specs.Wires.{wireAt}
 use Rattle.step_own.specs.Ends.{farStore, facing, hAt, Kept}
-use Rattle.step_own.specs.Laid.{Conducting, Laid, end-own, conducting-wires}
-use Rattle.step_histories.specs.Heard.{Ring, Hears, sentBy, historyOf, heardLine}
-use Rattle.step_histories.specs.Lines.{written-word}
+use Rattle.step_own.specs.Laid.{Conducting, Laid, end-own, conducting-wires, conducting-same}
+use Rattle.step_histories.specs.Heard.{Ring, Hears, sentBy, historyOf, heardLine, all-heard}
 
 -- ---- the plan's row
 module _ {N : Net} {plan : List (List ℕ)} (p : Planned N plan) (i : ℕ) (h : i < length (N .rows)) where
@@ -64,9 +55,6 @@ module _ {N : Net} {a k : ℕ} {plan : List (List ℕ)} {legs : List Words} (s :
           rw (f .row) (ring-of p (endAt N a j / 2) (row-in j h) s (eq-eqb _ 4 (sym (ap nat (f .kind)) ∙ e)))
 
   module _ (recs froms tos : Words) where
-    abbrev heard : Words → Words
-    heard = heardLine plan recs froms tos k
-
     history-is : (j : ℕ) → j < length legs → historyOf plan recs froms tos k (wireAt legs j) ≡ hAt N k recs froms tos (endAt N a j)
     unfolding historyOf hAt
     history-is j h =
@@ -75,44 +63,11 @@ module _ {N : Net} {a k : ℕ} {plan : List (List ℕ)} {legs : List Words} (s :
         rw (f .kind, f .row, f .end)
         (ap (λ (x : ℤ). cond (isLine (rowOfEnd N e)) x (facing (sideOfEnd e) (word recs (historyAt (e / 2))))) (sent-is p (e / 2) (row-in j h) (sideOfEnd e) froms tos k))
 
-    -- a line of the area's, with its history
-    module _ (j : ℕ) (h : j < length legs) where
-      abbrev l : Words
-      l = getD legs j []
-
-      abbrev f : FrameOf N (endAt N a j) l
-      f = c .framed .line j h
-
-      stays : (i : ℕ) → (i ≡ 6 → ⊥) → word (heard l) i ≡ word l i
-      unfolding heardLine
-      stays i e = written-word (λ x. historyOf plan recs froms tos k (wireIn x)) l i e
-
-      frame-of : FrameOf N (endAt N a j) (heard l)
-      unfolding heardLine
-      frame-of = record {
-        long = length-set l 6 _ ∙ f .long;
-        near = stays 0 (λ e. omega arith) ∙ f .near;
-        far = stays 1 (λ e. omega arith) ∙ f .far;
-        row = stays 2 (λ e. omega arith) ∙ f .row;
-        end = stays 3 (λ e. omega arith) ∙ f .end;
-        kind = stays 4 (λ e. omega arith) ∙ f .kind;
-      }
-
-      h-is : word (heard l) 6 ≡ hAt N k recs froms tos (endAt N a j)
-      unfolding heardLine
-      h-is = getD-set-same l 6 _ z (omega (arith, f .long)) ∙ history-is j h
-
     pub heard-laid : Laid N a k recs froms tos (map (heardLine plan recs froms tos k) legs)
+    unfolding heardLine
     heard-laid = record {
-      conducting = record {
-        framed = record { long = length-map legs heard ∙ c .framed .long; line = λ j h. rw (line-is j h) (frame-of j (inside h)) };
-        g = λ j h. rw (line-is j h) (stays j (inside h) 5 (λ e. omega arith) ∙ c .g j (inside h));
-      };
-      h = λ j h. rw (line-is j h) (h-is j (inside h));
+      conducting = conducting-same (all-heard plan recs froms tos k legs refl) c;
+      h = λ j h.
+          let i : j < length legs = rw (length-map legs (heardLine plan recs froms tos k)) at h in
+          rw (getD-map (heardLine plan recs froms tos k) legs j [] [] i) (getD-set-same (getD legs j []) 6 _ z (omega (arith, c .framed .line j i .long)) ∙ history-is j i);
     }
-      where
-        inside : {j : ℕ} → j < length (map heard legs) → j < length legs
-        inside h = rw (length-map legs heard) at h
-
-        line-is : (j : ℕ) → j < length (map heard legs) → getD (map heard legs) j [] ≡ heard (getD legs j [])
-        line-is j h = getD-map heard legs j [] [] (inside h)

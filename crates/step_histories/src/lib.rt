@@ -1,10 +1,5 @@
 // Each leg's history at a step: what an L or a C holds since the last one, what a line's end receives.
-ghost use mathlib.Core.Path.{_≡_};
-ghost use mathlib.Core.List.{map};
-ghost use Prim.Native.Nat.{_≤_, _<_};
-ghost use lib.IntN.{natAbs};
-ghost use lib.ListN.{length};
-ghost use Rattle.whole.specs.Lists.{word};
+ghost use Rattle.whole.specs.Plain.{_≤_, _<_, _≡_, map, natAbs, length, word};
 ghost use Rattle.whole.specs.Loans.{was, is};
 ghost use Rattle.paper.specs.Limits as Limits;
 ghost use Rattle.paper.specs.Records as Records;
@@ -13,14 +8,12 @@ ghost use Rattle.step_legs.specs.Wires.{Wired};
 ghost use Rattle.step_own.specs.Ends.{facing, Kept};
 ghost use Rattle.step_histories.specs.Heard.{sideOf, Ring, sentBy, historyOf, heardLine, Hears};
 use paper::kinds;
+use paper::sections;
 use plan_rows::Row;
 use plan_rows::Table;
 use received::Side;
 use step_legs::Line;
 use step_legs::Wire;
-
-// The histories' first word in the records.
-const HISTORIES: usize = 224;
 
 // The history in a leg's line.
 const HISTORY: usize = 6;
@@ -31,7 +24,7 @@ fn held(records: &[i64], i: usize, end: usize) -> i64
     requires { ⌜ natAbs (word (now records) (Records.historyAt i)) ≤ Limits.historyEnd ⌝ }
     ensures { λ h. ⌜ h ≡ facing end (word (was records) (Records.historyAt i)) ⌝ }
 {
-    let h = records[HISTORIES + i];
+    let h = records[sections::HISTORIES + i];
     if end != 1 {
         return -h;
     }

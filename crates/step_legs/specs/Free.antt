@@ -1,14 +1,7 @@
 -- What a step knows besides the legs: the free nodes, "in rising order", and the injections by node. Assumes nothing.
-use Prim.Native.Nat.{ℕ, suc, _+_, _*_, _≤_, _<_}
-use mathlib.Core.Path.{_≡_, refl, ap, _∙_}
-use mathlib.Core.Bool.{Bool, cond}
-use mathlib.Core.List.{List, [], _∷_}
-use native.Mathlib.Omega.{arith}
+use Rattle.whole.specs.Plain.{ℕ, suc, _+_, _*_, _≤_, _<_, _≡_, refl, ap, _∙_, Bool, cond, List, [], _∷_, natAbs, getD}
+use Rattle.whole.specs.Plain.{length, drop, drop-of-length-le, drop-cons, arith, Words, word, first}
 use native.Mathlib.Numerals.{add-one}
-use lib.ListN.{getD, length, drop, drop-of-length-le}
-use lib.Seq.{drop-cons}
-use lib.IntN.{natAbs}
-use Rattle.whole.specs.Lists.{Words, word, first}
 use Rattle.whole.specs.Size.{∣_∣≤_}
 use Rattle.paper.specs.Limits as Limits
 
@@ -27,16 +20,13 @@ inject-size s k = record { size = s .end k }
 
 -- ---- a search for the first that passes, from place i on
 module _ (p : ℕ → Bool) (l : List ℕ) (i : ℕ) where
-  first-more : i < length l → first p (drop i l) ≡ cond (p (getD l i 0)) (getD l i 0) (first p (drop (i + 1) l))
-  unfolding first
-  first-more h = rw (add-one i, drop-cons l i 0)
-
   pub first-done : length l ≤ i → first p (drop i l) ≡ 0
   unfolding first
   first-done h = ap (first p) (drop-of-length-le l h)
 
   pub first-here : (r : ℕ) → i < length l → r ≡ first p (drop i l) → (t : Bool) → p (getD l i 0) ≡ t → r ≡ cond t (getD l i 0) (first p (drop (i + 1) l))
-  first-here r h e t f = e ∙ first-more h ∙ ap (λ (b : Bool). cond b (getD l i 0) (first p (drop (i + 1) l))) f
+  unfolding first
+  first-here r h e t f = e ∙ (rw (add-one i, drop-cons l i 0)) ∙ ap (λ (b : Bool). cond b (getD l i 0) (first p (drop (i + 1) l))) f
 
 -- two tests that agree at each
 pub first-cong : (p q : ℕ → Bool) (l : List ℕ) → ((i : ℕ) → i < length l → p (getD l i 0) ≡ q (getD l i 0)) → first p l ≡ first q l

@@ -1,14 +1,7 @@
 -- Sums over the legs that leave one node, leg by leg, and why each fits a word: at most 64 legs leave a node. Assumes nothing.
-use Prim.Native.Nat.{ℕ, suc, _+_, _*_, _≤_, _<_}
-use mathlib.Core.Path.{_≡_, _∙_, ap}
-use mathlib.Core.Bool.{Bool, true, false, cond}
-use mathlib.Core.List.{List, [], _∷_, map}
-use native.Mathlib.Omega.{arith}
-use native.Mathlib.Nat.{mul-le-mul-right, add-mul}
-use lib.ListN.{length, getD, take, length-map}
-use lib.Seq.{getD-take, length-take-le}
-use lib.IntN.{ℤ, _+ℤ_}
-use Rattle.whole.specs.Lists.{Words, z, count, total}
+use Rattle.whole.specs.Plain.{ℕ, suc, _+_, _*_, _≤_, _<_, _≡_, _∙_, ap, Bool, true, false, cond, List, [], _∷_, ℤ, _+ℤ_}
+use Rattle.whole.specs.Plain.{length, getD, take, length-map, getD-take, length-take-le, mul-le-mul-right, add-mul}
+use Rattle.whole.specs.Plain.{arith, Words, z, count, total}
 use Rattle.whole.specs.Folds.{getD-map}
 use Rattle.whole.specs.Totals.{total-next}
 use Rattle.whole.specs.Size.{∣_∣≤_, add}
@@ -53,9 +46,6 @@ module _ (p : ℕ) (f : Leg → ℤ) (B : ℕ) where
   pub leaving-size : {legs : List Words} → Wires legs → ((j : ℕ) → j < length legs → ∣ f (legAt legs j) ∣≤ B) → (j : ℕ) → j ≤ length legs → ∣ leaving p f (take j (legsIn legs)) ∣≤ (Limits.branchEnd * B)
   leaving-size {legs} s size j l =
       let c : count (leaves p) (take j (legsIn legs)) ≤ Limits.branchEnd = omega (arith, count-take (leaves p) (legsIn legs) j, s .few p) in
-      let e : length (take j (legsIn legs)) ≡ j = length-take-legs in
+      let e : length (take j (legsIn legs)) ≡ j = (length-take-le j (legsIn legs) (omega (arith, legs-length legs))) in
       let b = by-count (take j (legsIn legs)) (λ i h. let k : i < j = omega arith in rw (getD-take j (legsIn legs) i idle k, leg-is legs i (omega arith)) (size i (omega arith))) in
       record { size = omega (arith, b .size, mul-le-mul-right B c) }
-    where
-      length-take-legs : length (take j (legsIn legs)) ≡ j
-      length-take-legs = length-take-le j (legsIn legs) (omega (arith, legs-length legs))

@@ -3,3 +3,4 @@ pub mod Leaving
 pub mod Shares
 pub mod Sums
 pub mod Free
+pub mod Written

@@ -1,16 +1,8 @@
 -- What one leg adds to the sums at its near node: conductance, conductance toward one neighbour, what it draws with its node at 0, current; how
 -- large each is, and the paper's equations as sums of them. Assumes nothing.
-use Prim.Native.Nat.{ℕ, suc, _≤_}
-use mathlib.Core.Path.{_≡_, refl, sym, ap}
-use mathlib.Core.Bool.{Bool, true, false, cond, _&&_}
-use mathlib.Core.List.{List}
-use native.Mathlib.Omega.{arith}
-use borrow.Author.Tests.{eq-eqb}
-use lib.ListN.{length, take}
-use lib.Dec.{T, eqb}
-use lib.IntN.{ℤ, pos, negsuc, negℤ, natAbs, _-ℤ_, _*ℤ_}
-use lib.Signed.{nonNeg}
-use Rattle.whole.specs.Lists.{Words, z, word, nat}
+use Rattle.whole.specs.Plain.{ℕ, suc, _≤_, _≡_, refl, sym, ap, Bool, true, false, cond, _&&_, List, T, eqb, ℤ, pos}
+use Rattle.whole.specs.Plain.{negsuc, negℤ, natAbs, _-ℤ_, _*ℤ_, nonNeg, length, take, eq-eqb, arith, Words, z, word}
+use Rattle.whole.specs.Plain.{nat}
 use Rattle.whole.specs.Totals.{total-cong}
 use Rattle.whole.specs.Size.{∣_∣≤_, add, sub, mul}
 use Rattle.paper.specs.Limits as Limits

@@ -1,15 +1,7 @@
 -- Sums by node, gathered leg by leg: what the legs leave at a node is the sum over the legs that leave it. Assumes nothing.
-use Prim.Native.Nat.{ℕ, suc, _+_, _≤_, _<_}
-use mathlib.Core.Path.{_≡_, refl, sym, ap, _∙_}
-use mathlib.Core.Bool.{Bool, true, false, cond}
-use mathlib.Core.List.{List}
-use native.Mathlib.Omega.{arith}
-use borrow.Author.Tests.{eqb-true, eqb-false}
-use lib.ListN.{set, take, length, length-set, replicate, length-replicate, getD-replicate}
-use lib.Seq.{getD-set-same, getD-set-other}
-use lib.Dec.{eqb}
-use lib.IntN.{ℤ, _+ℤ_, +ℤ-idr}
-use Rattle.whole.specs.Lists.{Words, z, word, total}
+use Rattle.whole.specs.Plain.{ℕ, suc, _+_, _≤_, _<_, _≡_, refl, sym, ap, _∙_, Bool, true, false, cond, List, eqb, ℤ}
+use Rattle.whole.specs.Plain.{_+ℤ_, +ℤ-idr, set, take, length, length-set, replicate, length-replicate, getD-replicate}
+use Rattle.whole.specs.Plain.{getD-set-same, getD-set-other, eqb-true, eqb-false, arith, Words, z, word, total}
 use Rattle.paper.specs.Limits as Limits
 use Rattle.paper.specs.Legs.{Leg}
 use Rattle.paper.specs.Solve.{leaves}

@@ -1,12 +1,5 @@
 -- The legs of a step: a line of nine words for each end of the area's own. Assumes nothing.
-use Prim.Native.Nat.{ℕ, _≤_, _<_}
-use mathlib.Core.Path.{_≡_}
-use mathlib.Core.List.{List, [], _∷_, map}
-use lib.ListN.{getD, length}
-use lib.Dec.{T}
-use lib.IntN.{ℤ, pos}
-use lib.Signed.{nonNeg}
-use Rattle.whole.specs.Lists.{Words, word, nat, count}
+use Rattle.whole.specs.Plain.{ℕ, _≤_, _<_, _≡_, List, [], map, T, ℤ, pos, nonNeg, getD, length, Words, word, nat, count}
 use Rattle.whole.specs.Size.{∣_∣≤_}
 use Rattle.paper.specs.Limits as Limits
 use Rattle.paper.specs.Legs.{Leg, leg}

@@ -1,13 +1,8 @@
 // An area's legs as a step keeps them: a line of words for each end of its own, in table order. Of a line the first five words are the network's, g is
 // the position of the switches, h the step; the last two are what the step found: the current, and what the leg passes on to the next step.
-ghost use mathlib.Core.Path.{_≡_};
-ghost use mathlib.Core.List.{[]};
-ghost use Prim.Native.Nat.{_<_};
-ghost use lib.IntN.{_+ℤ_};
-ghost use lib.ListN.{set, length, getD};
+ghost use Rattle.whole.specs.Plain.{_<_, _≡_, [], _+ℤ_, set, length, getD, word};
 ghost use mir.Syntax.{w64};
 ghost use mir.Val.{SFits};
-ghost use Rattle.whole.specs.Lists.{word};
 ghost use Rattle.whole.specs.Loans.{was, is};
 ghost use Rattle.paper.specs.Legs.{through};
 ghost use Rattle.step_legs.specs.Wires.{legOf, wireAt, Wired, Carries, Wires};

@@ -1,24 +1,19 @@
--- The block of an area's free nodes, from line `base` of the table on, as legs are added, and its factors. Assumes nothing.
-use Prim.Native.Nat.{ℕ, _+_, _^_, _≤_, _<_}
-use mathlib.Core.Path.{_≡_, refl, sym, ap, _∙_}
-use mathlib.Core.Bool.{Bool, true, false, cond}
-use mathlib.Core.List.{List, map}
-use native.Mathlib.Omega.{arith}
-use lib.ListN.{getD, length, take, getD-replicate}
-use lib.Seq.{take-all}
-use lib.Dec.{eqb}
-use lib.IntN.{ℤ, pos, negℤ}
+-- "The matrix has each node's sum of conductances, lines included, on the diagonal and minus the sum of the joining conductances elsewhere": one entry
+-- as legs are added, and how large it gets; the block of an area's free nodes, from line `base` of the table on, and its factors. Assumes nothing.
+use Rattle.whole.specs.Plain.{ℕ, _+_, _^_, _≤_, _<_, _≡_, refl, sym, ap, _∙_, Bool, true, false, cond, List, map, eqb}
+use Rattle.whole.specs.Plain.{ℤ, pos, negℤ, _+ℤ_, _-ℤ_, +ℤ-idr, negℤ-+ℤ, getD, length, take, getD-replicate, take-all}
+use Rattle.whole.specs.Plain.{eqb-true, arith, Words, z, total}
 use lib.Ieee.{Float, nan, binary64, ofInt}
-use Rattle.whole.specs.Lists.{Words, z, total}
-use Rattle.whole.specs.Size.{∣_∣≤_}
+use Rattle.whole.specs.Size.{∣_∣≤_, weaken}
+use Rattle.whole.specs.Int.{abs-neg}
 use Rattle.paper.specs.Doubles.{double}
 use Rattle.paper.specs.Legs.{Leg}
 use Rattle.paper.specs.Elimination.{line, cell}
 use Rattle.paper.specs.Solve.{nought, leaves, entry}
 use Rattle.step_legs.specs.declared.Wire.{Wire}
-use Rattle.step_legs.specs.Wires.{wireAt, legsIn, Wires}
-use Rattle.step_legs.specs.Leaving.{legs-length}
-use Rattle.step_legs.specs.Shares.{g-is, g-size}
+use Rattle.step_legs.specs.Wires.{wireAt, legsIn, Wires, legAt}
+use Rattle.step_legs.specs.Leaving.{legs-length, leaving, leaving-more}
+use Rattle.step_legs.specs.Shares.{g-is, g-size, conductance, toward, entry-same, entry-other, conductance-sum, toward-sum}
 use Rattle.step_legs.specs.Free.{Free}
 use Rattle.step_factors.specs.Factors.{Serves}
 use Rattle.step_factors.specs.Factored.{factored}
@@ -29,8 +24,51 @@ use Rattle.step_factors.specs.Proposed.{matrixOf, matrix-cell}
 use Rattle.step_matrix.specs.Exact.{zero-exact, more-exact, less-exact}
 use Rattle.step_matrix.specs.Placed.{Placed, placed-is, places-apart}
 use Rattle.step_matrix.specs.Joined.{joined, share, joined-at, joined-renewed}
-use Rattle.step_matrix.specs.Entries.{grown, entry-size, entry-more}
 use Rattle.step_matrix.specs.Cleared.{Cleared}
+
+-- an entry with a leg of conductance g more: whether the leg leaves the entry's node, whether the entry is that node's pivot, whether the leg leads to
+-- the entry's other node
+abbrev pub grown : Bool → Bool → Bool → ℕ → ℤ → ℤ
+grown from own to g x = cond from (cond own (x +ℤ pos g) (cond to (x -ℤ pos g) x)) x
+
+rises : (s : Bool) (g : ℕ) (x : ℤ) → x +ℤ cond s (pos g) z ≡ cond s (x +ℤ pos g) x
+rises true g x = refl
+rises false g x = +ℤ-idr x
+
+falls : (s t : Bool) (g : ℕ) (x : ℤ) → negℤ (x +ℤ cond s (cond t (pos g) z) z) ≡ cond s (cond t (negℤ x -ℤ pos g) (negℤ x)) (negℤ x)
+falls true true g x = negℤ-+ℤ x (pos g)
+falls true false g x = ap negℤ (+ℤ-idr x)
+falls false t g x = ap negℤ (+ℤ-idr x)
+
+module _ {legs : List Words} (w : Wires legs) (j : ℕ) (p q : ℕ) where
+  abbrev some : List Leg
+  some = take j (legsIn legs)
+
+  abbrev l : Leg
+  l = legAt legs j
+
+  pub entry-size : j ≤ length legs → ∣ entry some p q ∣≤ (2 ^ 52)
+  entry-size h = elim (eqb p q) as (λ t. eqb p q ≡ t → ∣ entry some p q ∣≤ (2 ^ 52)) [
+    | true ↦ λ e. let k : p ≡ q = eqb-true p q e in rw (← k, entry-same some p) (weaken (conductance-sum w p j h) tt)
+    | false ↦ λ e. rw (entry-other some p q e) (record { size = omega (arith, abs-neg (leaving p (toward q) some), toward-sum w p j h q .size) })
+  ] refl
+
+  pub entry-more : j < length legs
+      → entry (take (j + 1) (legsIn legs)) p q ≡ grown (leaves p l) (eqb p q) (eqb (l .far) q) (l .g) (entry some p q)
+  unfolding toward
+  entry-more h = by-test (eqb p q) refl
+    where
+      by-test : (t : Bool) → eqb p q ≡ t → entry (take (j + 1) (legsIn legs)) p q ≡ grown (leaves p l) t (eqb (l .far) q) (l .g) (entry some p q)
+      by-test true e =
+          let k : p ≡ q = eqb-true p q e in
+          rw (← k)
+          (entry-same (take (j + 1) (legsIn legs)) p ∙ leaving-more legs j h p conductance
+          ∙ ap (λ (x : ℤ). x +ℤ cond (leaves p l) (pos (l .g)) z) (sym (entry-same some p)) ∙ rises (leaves p l) (l .g) (entry some p p))
+      by-test false e =
+          entry-other (take (j + 1) (legsIn legs)) p q e
+          ∙ ap negℤ (leaving-more legs j h p (toward q))
+          ∙ falls (leaves p l) (eqb (l .far) q) (l .g) (leaving p (toward q) some)
+          ∙ ap (λ (x : ℤ). cond (leaves p l) (cond (eqb (l .far) q) (x -ℤ pos (l .g)) x) x) (sym (entry-other some p q e))
 
 -- the table a has become b: its block is the matrix of these legs
 pub record Block (legs : List Leg) (free : List ℕ) (base : ℕ) (a b : List (List Float)) : Type 0 where

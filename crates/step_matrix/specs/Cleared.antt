@@ -1,11 +1,6 @@
 -- The block of an area's n free nodes, cleared line by line. Assumes nothing.
-use Prim.Native.Nat.{ℕ, _+_, _≤_, _<_}
-use mathlib.Core.Path.{_≡_, _∙_}
-use mathlib.Core.List.{List, []}
-use native.Mathlib.Omega.{arith}
-use native.Mathlib.Decide.{ℕ-discrete}
-use lib.ListN.{set, replicate, length-replicate}
-use lib.Seq.{getD-set-same, getD-set-other}
+use Rattle.whole.specs.Plain.{ℕ, _+_, _≤_, _<_, _≡_, _∙_, List, [], set, replicate, length-replicate, getD-set-same}
+use Rattle.whole.specs.Plain.{getD-set-other, ℕ-discrete, arith}
 use lib.Ieee.{Float}
 use Rattle.paper.specs.Elimination.{line}
 use Rattle.paper.specs.Solve.{nought}

@@ -1,14 +1,9 @@
 -- Conductances add up in doubles as they do in whole numbers: a whole number more or less a conductance is rounded nowhere, and a zero is +0.
 -- Assumes nothing.
-use Prim.Native.Nat.{ℕ, zero, suc, _+_, _-_, _*_, _^_, _≤_, _<_}
-use mathlib.Core.Path.{_≡_, refl, sym, ap, _∙_}
-use mathlib.Core.Bool.{Bool, true, false, not, _&&_}
-use native.Mathlib.Omega.{arith}
-use native.Mathlib.Decide.{decLt}
-use native.Mathlib.Nat.{mul-one, mul-assoc, mul-comm, mul-pos, mul-sub, add-mul, mul-le-mul-right, mul-lt-mul-of-pos-right, zero-lt-suc}
-use borrow.Author.Tests.{lt-ltb, le-ltb}
-use lib.Dec.{T, ltb, le→leb, lt→ltb}
-use lib.IntN.{ℤ, pos, negsuc, natAbs, _+ℤ_, _-ℤ_, +ℤ-idr}
+use Rattle.whole.specs.Plain.{ℕ, zero, suc, _+_, _-_, _*_, _^_, _≤_, _<_, _≡_, refl, sym, ap, _∙_, Bool, true, false}
+use Rattle.whole.specs.Plain.{not, _&&_, T, ltb, le→leb, lt→ltb, ℤ, pos, negsuc, natAbs, _+ℤ_, _-ℤ_, +ℤ-idr, lt-ltb}
+use Rattle.whole.specs.Plain.{le-ltb, mul-one, mul-assoc, mul-comm, mul-pos, mul-sub, add-mul, mul-le-mul-right}
+use Rattle.whole.specs.Plain.{mul-lt-mul-of-pos-right, zero-lt-suc, decLt, arith}
 use lib.Ieee.{Float, nan, inf, fin, binary64, up, down, round, neg, sum, add, sub, ofInt, inFloat}
 use lib.Ieee.Fits.{down-pos}
 use lib.Ieee.Exact.{HasValue}
@@ -25,11 +20,10 @@ over : (s : Bool) (a A D : ℕ) → 0 < D → a ≡ A * D → round binary64 s a
 over s a A D h e = round-same binary64 s a D A 1 h (zero-lt-suc 0) (mul-one a ∙ e)
 
 less-over : (A B D : ℕ) → 0 < D → ltb (A * D) (B * D) ≡ ltb A B
-less-over A B D h = go (decLt A B)
-  where
-    go : Dec (A < B) → ltb (A * D) (B * D) ≡ ltb A B
-    go (yes l) = lt-ltb (A * D) (B * D) (mul-lt-mul-of-pos-right l h) ∙ sym (lt-ltb A B l)
-    go (no l) = let m : B ≤ A = omega arith in le-ltb (A * D) (B * D) (mul-le-mul-right D m) ∙ sym (le-ltb A B m)
+less-over A B D h = elim (decLt A B) [
+  | yes l ↦ lt-ltb (A * D) (B * D) (mul-lt-mul-of-pos-right l h) ∙ sym (lt-ltb A B l)
+  | no l ↦ let m : B ≤ A = omega arith in le-ltb (A * D) (B * D) (mul-le-mul-right D m) ∙ sym (le-ltb A B m)
+]
 
 difference : (A B D : ℕ) → A * D - B * D ≡ (A - B) * D
 difference A B D = rw (mul-comm A D, mul-comm B D, mul-comm (A - B) D) (sym (mul-sub D A B))
@@ -79,11 +73,7 @@ sum-more (negsuc a) g = go (decLt g (suc a)) (decLt (suc a) g)
 sum-less : (x : ℤ) (g : ℕ) → sum binary64 (minus x) (natAbs x) true g 1 ≡ ofInt binary64 (x -ℤ pos g)
 unfolding sum ofInt
 sum-less (pos a) zero = let e : a - 0 ≡ a + 0 = omega arith in rw (le-ltb a 0 (omega arith), e)
-sum-less (pos a) (suc g) = go (decLt a (suc g))
-  where
-    go : Dec (a < suc g) → sum binary64 false a true (suc g) 1 ≡ ofInt binary64 (pos a -ℤ pos (suc g))
-    go (yes h) = let e : suc g - a ≡ suc (suc g - suc a) = omega arith in rw (lt-ltb a (suc g) h, e)
-    go (no h) = rw (le-ltb a (suc g) (omega arith))
+sum-less (pos a) (suc g) = elim (decLt a (suc g)) [ yes h ↦ let e : suc g - a ≡ suc (suc g - suc a) = omega arith in rw (lt-ltb a (suc g) h, e) | no h ↦ rw (le-ltb a (suc g) (omega arith)) ]
 sum-less (negsuc a) zero = let e : suc a + 0 ≡ suc a = omega arith in rw (+ℤ-idr (negsuc a), e)
 sum-less (negsuc a) (suc g) = let e : suc a + suc g ≡ suc (suc (a + g)) = omega arith in rw e
 

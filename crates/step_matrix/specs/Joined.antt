@@ -1,13 +1,7 @@
 -- One leg into the table: its near node's pivot grows by g, and where its far node is free too the cell between them falls by g. Assumes nothing.
-use Prim.Native.Nat.{ℕ, _+_, _≤_, _<_}
-use mathlib.Core.Path.{_≡_, refl, sym, ap, _∙_}
-use mathlib.Core.Bool.{Bool, true, false, cond}
-use mathlib.Core.List.{List, []}
-use native.Mathlib.Omega.{arith}
-use borrow.Author.Tests.{ltb-true, ltb-false, eqb-true, eqb-false}
-use lib.ListN.{set, length, length-set}
-use lib.Seq.{getD-set-same, getD-set-other}
-use lib.Dec.{eqb, ltb}
+use Rattle.whole.specs.Plain.{ℕ, _+_, _≤_, _<_, _≡_, refl, sym, ap, _∙_, Bool, true, false, cond, List, [], eqb, ltb}
+use Rattle.whole.specs.Plain.{set, length, length-set, getD-set-same, getD-set-other, ltb-true, ltb-false, eqb-true}
+use Rattle.whole.specs.Plain.{eqb-false, arith}
 use lib.Ieee as Ieee
 use lib.Ieee.{Float, nan, binary64}
 use Rattle.whole.specs.Written.{set-at}
@@ -32,11 +26,7 @@ share own between g x = cond own (Ieee.add binary64 x g) (cond between (Ieee.sub
 module _ {n : ℕ} (q : ℕ) (g : Float) (l : List Float) (few : n ≤ 32) (long : length l ≡ 32) where
   fallen-long : length (fallen n q g l) ≡ 32
   unfolding fallen
-  fallen-long = either (ltb q n)
-    where
-      either : (t : Bool) → length (cond t (set l q (Ieee.sub binary64 (cell l q) g)) l) ≡ 32
-      either true = length-set l q _ ∙ long
-      either false = long
+  fallen-long = elim (ltb q n) as (λ t. length (cond t (set l q (Ieee.sub binary64 (cell l q) g)) l) ≡ 32) [ true ↦ length-set l q _ ∙ long | false ↦ long ]
 
   fallen-at : (b : ℕ) → b < n → cell (fallen n q g l) b ≡ cond (eqb q b) (Ieee.sub binary64 (cell l b) g) (cell l b)
   unfolding fallen
@@ -81,10 +71,7 @@ module _ (base n : ℕ) {a : List (List Float)} (square : Square a) (room : base
   -- and no line past it
   pub joined-renewed : {start : List (List Float)} → Renewed base n start a → Renewed base n start (joined base n p q g a)
   unfolding joined
-  joined-renewed {start} r = by-place (ltb p n) refl
-    where
-      by-place : (s : Bool) → ltb p n ≡ s → Renewed base n start (cond s (set a (base + p) (lineJoined n p q g (line a (base + p)))) a)
-      by-place true e =
-          let h : p < n = ltb-true p n e in
-          renewed-set p _ h (line-long q g (line a (base + p)) (omega arith) (square .line (base + p) (omega arith)) p) r
-      by-place false e = r
+  joined-renewed {start} r = elim (ltb p n) as (λ s. ltb p n ≡ s → Renewed base n start (cond s (set a (base + p) (lineJoined n p q g (line a (base + p)))) a)) [
+    | true ↦ λ e. let h : p < n = ltb-true p n e in renewed-set p _ h (line-long q g (line a (base + p)) (omega arith) (square .line (base + p) (omega arith)) p) r
+    | false ↦ λ e. r
+  ] refl

@@ -1,14 +1,7 @@
 -- Where each free node stands among the free nodes, by node; 32 for a node that is not free. Assumes nothing.
-use Prim.Native.Nat.{ℕ, suc, _+_, _≤_, _<_}
-use mathlib.Core.Path.{_≡_, refl, sym, ap, _∙_}
-use mathlib.Core.Bool.{Bool, true, false}
-use mathlib.Core.List.{List}
-use native.Mathlib.Omega.{arith}
-use native.Mathlib.Decide.{ℕ-discrete}
-use borrow.Author.Tests.{eqb-true, eqb-false, eq-eqb, ne-eqb}
-use lib.ListN.{getD, set, length, length-set, replicate, length-replicate, getD-replicate}
-use lib.Seq.{getD-set-same, getD-set-other}
-use lib.Dec.{eqb}
+use Rattle.whole.specs.Plain.{ℕ, suc, _+_, _≤_, _<_, _≡_, refl, sym, ap, _∙_, true, false, List, eqb, getD, set, length}
+use Rattle.whole.specs.Plain.{length-set, replicate, length-replicate, getD-replicate, getD-set-same, getD-set-other}
+use Rattle.whole.specs.Plain.{eqb-true, eqb-false, eq-eqb, ne-eqb, ℕ-discrete, arith}
 use Rattle.paper.specs.Limits as Limits
 use Rattle.step_legs.specs.Free.{Free}
 
@@ -59,13 +52,10 @@ module _ {free place : List ℕ} (f : Free free) (i : ℕ) (l : i < length free)
 module _ {free place : List ℕ} (f : Free free) (s : Placed free place (length free)) where
   -- a node is the a-th free one exactly where it stands in place a
   pub placed-is : (k a : ℕ) → k ≤ Limits.nodeEnd → a < length free → eqb k (getD free a 0) ≡ eqb (getD place k 0) a
-  placed-is k a l m = by-place (eqb (getD place k 0) a) refl
-    where
-      by-place : (t : Bool) → eqb (getD place k 0) a ≡ t → eqb k (getD free a 0) ≡ t
-      by-place true e =
-          let q : getD place k 0 ≡ a = eqb-true (getD place k 0) a e in
-          eq-eqb k (getD free a 0) (sym (s .back k l (omega (arith, f .few)) .1) ∙ ap (λ (x : ℕ). getD free x 0) q)
-      by-place false e = ne-eqb k (getD free a 0) (λ q. eqb-false (getD place k 0) a e (ap (λ (x : ℕ). getD place x 0) q ∙ s .there a m))
+  placed-is k a l m = elim (eqb (getD place k 0) a) as (λ t. eqb (getD place k 0) a ≡ t → eqb k (getD free a 0) ≡ t) [
+    | true ↦ λ e. let q : getD place k 0 ≡ a = eqb-true (getD place k 0) a e in eq-eqb k (getD free a 0) (sym (s .back k l (omega (arith, f .few)) .1) ∙ ap (λ (x : ℕ). getD free x 0) q)
+    | false ↦ λ e. ne-eqb k (getD free a 0) (λ q. eqb-false (getD place k 0) a e (ap (λ (x : ℕ). getD place x 0) q ∙ s .there a m))
+  ] refl
 
   -- free nodes in two places are two
   pub places-apart : (a b : ℕ) → a < length free → b < length free → eqb (getD free a 0) (getD free b 0) ≡ eqb a b

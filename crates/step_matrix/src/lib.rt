@@ -1,9 +1,6 @@
 // From an area's legs to the factors of its block of the table that all areas share: once for each position of the area's switches. A sum of at most
 // 64 conductances is exact in doubles, so that each leg goes straight into the matrix.
-ghost use Prim.Native.Nat.{_+_, _≤_, _<_};
-ghost use mathlib.Core.Path.{_≡_};
-ghost use mathlib.Core.List.{map};
-ghost use lib.ListN.{length};
+ghost use Rattle.whole.specs.Plain.{_+_, _≤_, _<_, _≡_, map, length};
 ghost use Rattle.whole.specs.Loans.{was, is};
 ghost use Rattle.step_legs.specs.Wires.{legsIn, Wires};
 ghost use Rattle.step_legs.specs.Free.{Free};

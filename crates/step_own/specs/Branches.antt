@@ -1,19 +1,10 @@
 -- A branch of the step, by its row: whose its ends are. Assumes nothing.
-use Prim.Native.Nat.{ℕ, _≤_, _<_}
-use native.Mathlib.Omega.{arith}
-use mathlib.Core.Path.{_≡_, refl, sym, ap, _∙_}
-use mathlib.Core.Bool.{Bool, true, false, cond, _&&_}
-use mathlib.Core.List.{List}
-use borrow.Author.Tests.{ne-eqb}
-use lib.Dec.{eqb}
-use lib.IntN.{ℤ}
-use lib.ListN.{length, length-map}
-use Rattle.whole.specs.Lists.{Words, numbers}
+use Rattle.whole.specs.Plain.{ℕ, _≤_, _<_, _≡_, refl, sym, ap, _∙_, Bool, true, false, cond, _&&_, List, eqb, ℤ, length}
+use Rattle.whole.specs.Plain.{length-map, ne-eqb, arith, Words, numbers}
 use Rattle.whole.specs.Folds.{getD-map, getD-numbers, length-numbers}
 use Rattle.paper.specs.Rows.{isLine, isBranch, from, to}
 use Rattle.paper.specs.Areas.{Net, areaOf, rowArea}
-use Rattle.paper.specs.Legs.{Branch, Heard, legsBy, legsOf, lineLegs, lineEnd, plainLegs}
-use Rattle.paper.specs.Advance.{branchIn}
+use Rattle.paper.specs.Legs.{Branch, Heard, legsBy, legsOf, lineLegs, lineEnd, plainLegs, branchIn}
 use Rattle.facts.specs.Nets.{rowAt}
 use Rattle.plan_ends.specs.Own.{ownerOf}
 
@@ -41,11 +32,7 @@ same-three false false b = refl
 -- an end of the area's own, by its owner
 own-is : (a : ℕ) → 1 ≤ a → (s t : Bool) (e f : ℕ) → cond s (eqb e a) (cond (t && eqb f a) true false) ≡ eqb (cond s e (cond t f 0)) a
 own-is a h true t e f = refl
-own-is a h false true e f = self (eqb f a)
-  where
-    self : (b : Bool) → cond b true false ≡ b
-    self true = refl
-    self false = refl
+own-is a h false true e f = elim (eqb f a) as (λ b. cond b true false ≡ b) [ true ↦ refl | false ↦ refl ]
 own-is a h false false e f = sym (ne-eqb 0 a (λ q. omega arith))
 
 line-own : (o : Bool) (n g : ℕ) (h : ℤ) → lineEnd o n g h .own ≡ o

@@ -1,14 +1,6 @@
 -- The two ends of a row are the paper's two legs. Assumes nothing.
-use Prim.Native.Nat.{ℕ, _+_, _-_, _*_, _/_, _%_, _≤_, _<_}
-use mathlib.Core.Path.{_≡_, refl, sym, ap, _∙_}
-use mathlib.Core.Bool.{Bool, true, false, cond, _&&_}
-use mathlib.Core.List.{List, []}
-use native.Mathlib.Omega.{arith}
-use borrow.Author.Tests.{ne-eqb}
-use lib.Dec.{eqb}
-use lib.ListN.{length, getD}
-use lib.IntN.{ℤ, negℤ}
-use Rattle.whole.specs.Lists.{Words, z, word, nat, numbers}
+use Rattle.whole.specs.Plain.{ℕ, _+_, _-_, _*_, _/_, _%_, _≤_, _<_, _≡_, refl, sym, ap, _∙_, Bool, true, false, cond}
+use Rattle.whole.specs.Plain.{_&&_, List, [], eqb, ℤ, length, getD, ne-eqb, arith, Words, z, word, nat, numbers}
 use Rattle.whole.specs.Folds.{getD-map, getD-numbers, length-numbers}
 use Rattle.paper.specs.Rows.{Row, isBranch, isLine, from, to}
 use Rattle.paper.specs.Conductance.{conductance}
@@ -51,9 +43,6 @@ module _ (N : Net) (a k : ℕ) (recs froms tos : Words) (i : ℕ) (l : i < lengt
   unfolding heardBy
   to-heard e f = sym (ap (λ (x : Heard). x .atTo) ear ∙ rw (e, f))
 
-  nobody : eqb 0 a ≡ false
-  nobody = ne-eqb 0 a (λ q. omega arith)
-
   -- the end on one side, by its row
   abbrev atSide : ℕ → Leg
   atSide side =
@@ -75,7 +64,7 @@ module _ (N : Net) (a k : ℕ) (recs froms tos : Words) (i : ℕ) (l : i < lengt
     by-branch : (b : Bool)
         → cond (eqb (cond b (rowArea N r) 0) a) plain idle ≡ end (cond (b && eqb (rowArea N r) a) (plainLegs r (conducts N recs k i) (word recs (Records.historyAt i))) (branch r otherEnd otherEnd)) .wire
     by-branch true = by-own (eqb (rowArea N r) a)
-    by-branch false = rw nobody q
+    by-branch false = rw (ne-eqb 0 a (λ q. omega arith)) q
 
     plain-end : isLine r ≡ false → atSide side ≡ end (legsBy N a k recs ears i) .wire
     unfolding ownerOf legsBy
@@ -83,19 +72,17 @@ module _ (N : Net) (a k : ℕ) (recs froms tos : Words) (i : ℕ) (l : i < lengt
 
   from-side : atSide 1 ≡ legsBy N a k recs ears i .fromEnd .wire
   unfolding ownerOf legsBy lineLegs plainLegs facing farStore
-  from-side = by-line (isLine r) refl
-    where
-      by-line : (b : Bool) → isLine r ≡ b → atSide 1 ≡ legsBy N a k recs ears i .fromEnd .wire
-      by-line true e = rw e (line-end (here N a (from r)) (from r) _ (conductance (step N) r) (sentTo N k i r tos) (getD ears i deaf .atFrom) (line-conducts N [] k i e) (from-heard e))
-      by-line false e = plain-end (λ b. b .fromEnd) 1 (rw (conducts-same N recs [] k i)) refl e
+  from-side = elim (isLine r) as (λ b. isLine r ≡ b → atSide 1 ≡ legsBy N a k recs ears i .fromEnd .wire) [
+    | true ↦ λ e. rw e (line-end (here N a (from r)) (from r) _ (conductance (step N) r) (sentTo N k i r tos) (getD ears i deaf .atFrom) (line-conducts N [] k i e) (from-heard e))
+    | false ↦ λ e. plain-end (λ b. b .fromEnd) 1 (rw (conducts-same N recs [] k i)) refl e
+  ] refl
 
   to-side : atSide 2 ≡ legsBy N a k recs ears i .toEnd .wire
   unfolding ownerOf legsBy lineLegs plainLegs facing farStore
-  to-side = by-line (isLine r) refl
-    where
-      by-line : (b : Bool) → isLine r ≡ b → atSide 2 ≡ legsBy N a k recs ears i .toEnd .wire
-      by-line true e = rw e (line-end (here N a (to r)) (to r) _ (conductance (step N) r) (sentTo N k i r froms) (getD ears i deaf .atTo) (line-conducts N [] k i e) (to-heard e))
-      by-line false e = plain-end (λ b. b .toEnd) 2 (rw (conducts-same N recs [] k i)) refl e
+  to-side = elim (isLine r) as (λ b. isLine r ≡ b → atSide 2 ≡ legsBy N a k recs ears i .toEnd .wire) [
+    | true ↦ λ e. rw e (line-end (here N a (to r)) (to r) _ (conductance (step N) r) (sentTo N k i r froms) (getD ears i deaf .atTo) (line-conducts N [] k i e) (to-heard e))
+    | false ↦ λ e. plain-end (λ b. b .toEnd) 2 (rw (conducts-same N recs [] k i)) refl e
+  ] refl
 
   pub from-leg : endLeg N a k recs froms tos (2 * i) ≡ legsBy N a k recs ears i .fromEnd .wire
   unfolding endLeg ownEnd nearOf farOf hAt

@@ -1,19 +1,11 @@
 -- What an area's own end is worth at most: its nodes, which are the area's or ground, its conductance, its history; and that one row's two ends leave
 -- two nodes. Assumes nothing.
-use Prim.Native.Nat.{ℕ, zero, suc, _+_, _-_, _*_, _/_, _%_, _≤_, _<_}
-use native.Mathlib.Omega.{arith}
-use native.Mathlib.Decide.{decLt}
-use mathlib.Core.Path.{_≡_, refl, sym, ap, _∙_}
-use mathlib.Core.Bool.{Bool, true, false, cond, _&&_}
-use mathlib.Core.List.{[]}
-use borrow.Author.Tests.{eqb-true}
-use lib.Dec.{eqb, leb, ltb}
-use lib.ListN.{length}
-use lib.IntN.{ℤ, negℤ, natAbs}
-use Rattle.whole.specs.Lists.{Words, z, word, nat}
+use Rattle.whole.specs.Plain.{ℕ, _+_, _-_, _*_, _/_, _%_, _≤_, _<_, _≡_, refl, sym, _∙_, _⊎_, inl, inr, Bool, true}
+use Rattle.whole.specs.Plain.{false, cond, [], eqb, ltb, negℤ, natAbs, length, eqb-true, decLt, arith, Words, z, word}
+use Rattle.whole.specs.Plain.{nat}
 use Rattle.whole.specs.Int.{abs-neg}
 use Rattle.paper.specs.Limits as Limits
-use Rattle.paper.specs.Rows.{Row, kind, isBranch, isLine, from, to}
+use Rattle.paper.specs.Rows.{Row, isBranch, isLine}
 use Rattle.paper.specs.Conductance.{conductance}
 use Rattle.paper.specs.Faults.{delay, slots}
 use Rattle.paper.specs.Areas.{Net, areaOf, rowArea, step}
@@ -21,21 +13,18 @@ use Rattle.paper.specs.Records as Records
 use Rattle.paper.specs.Legs.{isOpen, conducts, sentTo, sentAt}
 use Rattle.facts.specs.Fields.{Within}
 use Rattle.facts.specs.Sound.{BranchSound}
-use Rattle.facts.specs.Nets.{NetSound, rowAt, row-area-from, row-area-to}
-use Rattle.plan_ends.specs.Own.{ownerOf, rowOfEnd, sideOfEnd, ownEnd, nearOf, farOf}
+use Rattle.facts.specs.Nets.{NetSound, row-area-from, row-area-to}
+use Rattle.plan_ends.specs.Own as Own
+use Rattle.plan_ends.specs.Own.{of-sides, ownerOf, rowOfEnd, sideOfEnd, ownEnd, nearOf, farOf}
 use Rattle.step_own.specs.Ends.{facing, farStore, gAt, hAt, Kept}
 
 -- one of the two sides
 side-within : {step nodes : ℕ} {r : Row} → BranchSound step nodes r → (side : ℕ) → 1 ≤ side → side ≤ 2 → Within 0 nodes (word r side)
-side-within b zero l m = absurd (omega arith)
-side-within b (suc zero) l m = b .fromIn
-side-within b (suc (suc zero)) l m = b .toIn
-side-within b (suc (suc (suc side))) l m = absurd (omega arith)
+side-within {nodes = nodes} {r} b = of-sides (λ side. Within 0 nodes (word r side)) (b .fromIn) (b .toIn)
 
 -- ground, or a node of the area
-pub data Ours (N : Net) (a n : ℕ) : Type 0 where
-  ground : n ≡ 0 → Ours N a n
-  inside : 1 ≤ n → areaOf N n ≡ a → Ours N a n
+abbrev pub Ours : Net → ℕ → ℕ → Type 0
+Ours N a n = (n ≡ 0) ⊎ (areaOf N n ≡ a)
 
 module _ (N : Net) (s : NetSound N) (a : ℕ) (one : 1 ≤ a) (e : ℕ) (l : e < 2 * length (N .rows)) (own : ownEnd N a e ≡ true) where
   abbrev r : Row
@@ -50,16 +39,7 @@ module _ (N : Net) (s : NetSound N) (a : ℕ) (one : 1 ≤ a) (e : ℕ) (l : e <
 
   -- an end that the area owns is a branch's
   pub own-branch : isBranch r ≡ true
-  unfolding ownerOf
-  own-branch = by-line (isLine r) refl
-    where
-      plain : isLine r ≡ false → (b : Bool) → isBranch r ≡ b → b ≡ true
-      plain q true f = refl
-      plain q false f = let g : 0 ≡ a = rw (q, f) at owner in absurd (omega arith)
-
-      by-line : (b : Bool) → isLine r ≡ b → isBranch r ≡ true
-      by-line true q = ap (λ (k : ℕ). leb 1 k && leb k 5) (eqb-true (kind r) 4 q)
-      by-line false q = plain q (isBranch r) refl
+  own-branch = Own.own-branch N r (sideOfEnd e) a one owner
 
   pub own-sound : BranchSound (step N) (N .nodes) r
   own-sound = s .row (e / 2) row-in .branch own-branch
@@ -70,19 +50,11 @@ module _ (N : Net) (s : NetSound N) (a : ℕ) (one : 1 ≤ a) (e : ℕ) (l : e <
 
   pub far-most : farOf N e ≤ N .nodes
   unfolding farOf
-  far-most = by (isLine r)
-    where
-      by : (b : Bool) → cond b 0 (nat (word r (3 - sideOfEnd e))) ≤ N .nodes
-      by true = omega arith
-      by false = side-within own-sound (3 - sideOfEnd e) (omega arith) (omega arith) .most
+  far-most = elim (isLine r) as (λ b. cond b 0 (nat (word r (3 - sideOfEnd e))) ≤ N .nodes) [ true ↦ omega arith | false ↦ side-within own-sound (3 - sideOfEnd e) (omega arith) (omega arith) .most ]
 
   pub g-most : (k : ℕ) → gAt N k e ≤ Limits.conductanceEnd
   unfolding conducts
-  g-most k = by (isOpen N [] k (e / 2))
-    where
-      by : (b : Bool) → cond b 0 (conductance (step N) r) ≤ Limits.conductanceEnd
-      by true = omega arith
-      by false = own-sound .gMost
+  g-most k = elim (isOpen N [] k (e / 2)) as (λ b. cond b 0 (conductance (step N) r) ≤ Limits.conductanceEnd) [ true ↦ omega arith | false ↦ own-sound .gMost ]
 
   pub h-most : {recs froms tos : Words} → Kept recs froms tos → (k : ℕ) → natAbs (hAt N k recs froms tos e) ≤ Limits.historyEnd
   unfolding hAt sentTo sentAt facing farStore
@@ -98,46 +70,19 @@ module _ (N : Net) (s : NetSound N) (a : ℕ) (one : 1 ≤ a) (e : ℕ) (l : e <
   -- ---- where its nodes are
   plain-node : isLine r ≡ false → (side : ℕ) → 1 ≤ side → side ≤ 2 → Ours N a (nat (word r side))
   unfolding ownerOf
-  plain-node q side m n = go (decLt 0 (nat (word r side)))
+  plain-node q side m n = elim (decLt 0 (nat (word r side))) [ yes h ↦ inr (sym (there side m n h) ∙ rw (q, own-branch) at owner) | no h ↦ inl (omega arith) ]
     where
-      area : rowArea N r ≡ a
-      area = rw (q, own-branch) at owner
-
       there : (side : ℕ) → 1 ≤ side → side ≤ 2 → 0 < nat (word r side) → rowArea N r ≡ areaOf N (nat (word r side))
-      there zero m n h = absurd (omega arith)
-      there (suc zero) m n h = row-area-from N s (e / 2) row-in own-branch q (omega arith)
-      there (suc (suc zero)) m n h = row-area-to N s (e / 2) row-in own-branch q (omega arith)
-      there (suc (suc (suc side))) m n h = absurd (omega arith)
-
-      go : Dec (0 < nat (word r side)) → Ours N a (nat (word r side))
-      go (yes h) = inside (omega arith) (sym (there side m n h) ∙ area)
-      go (no h) = ground (omega arith)
-
-  line-node : isLine r ≡ true → Ours N a (nat (word r (sideOfEnd e)))
-  unfolding ownerOf
-  line-node q = inside (off (sideOfEnd e) (omega arith) (omega arith)) area
-    where
-      area : areaOf N (nat (word r (sideOfEnd e))) ≡ a
-      area = rw q at owner
-
-      off : (side : ℕ) → 1 ≤ side → side ≤ 2 → 1 ≤ nat (word r side)
-      off zero m n = absurd (omega arith)
-      off (suc zero) m n = s .row (e / 2) row-in .line q .fromOff
-      off (suc (suc zero)) m n = s .row (e / 2) row-in .line q .toOff
-      off (suc (suc (suc side))) m n = absurd (omega arith)
+      there = of-sides (λ side. 0 < nat (word r side) → rowArea N r ≡ areaOf N (nat (word r side)))
+          (λ h. row-area-from N s (e / 2) row-in own-branch q (omega arith)) (λ h. row-area-to N s (e / 2) row-in own-branch q (omega arith))
 
   pub near-ours : Ours N a (nearOf N e)
-  unfolding nearOf
-  near-ours = by (isLine r) refl
-    where
-      by : (b : Bool) → isLine r ≡ b → Ours N a (nat (word r (sideOfEnd e)))
-      by true q = line-node q
-      by false q = plain-node q (sideOfEnd e) (omega arith) (omega arith)
+  unfolding nearOf ownerOf
+  near-ours = elim (isLine r) as (λ b. isLine r ≡ b → Ours N a (nat (word r (sideOfEnd e)))) [ true ↦ λ q. inr (rw q at owner) | false ↦ λ q. plain-node q (sideOfEnd e) (omega arith) (omega arith) ] refl
 
   pub far-ours : Ours N a (farOf N e)
   unfolding farOf
-  far-ours = by (isLine r) refl
-    where
-      by : (b : Bool) → isLine r ≡ b → Ours N a (cond b 0 (nat (word r (3 - sideOfEnd e))))
-      by true q = ground refl
-      by false q = plain-node q (3 - sideOfEnd e) (omega arith) (omega arith)
+  far-ours = elim (isLine r) as (λ b. isLine r ≡ b → Ours N a (cond b 0 (nat (word r (3 - sideOfEnd e))))) [
+    | true ↦ λ q. inl refl
+    | false ↦ λ q. plain-node q (3 - sideOfEnd e) (omega arith) (omega arith)
+  ] refl

@@ -1,13 +1,6 @@
 -- One end of a row at a step, as a leg: what the network settles, the conductance at the switches' positions, and the history. Assumes nothing.
-use Prim.Native.Nat.{ℕ, _/_, _%_, _≤_, _<_}
-use mathlib.Core.Path.{_≡_}
-use mathlib.Core.Bool.{Bool, true, false, cond}
-use mathlib.Core.List.{[]}
-use borrow.Author.Tests.{eqb-true}
-use lib.Dec.{eqb}
-use lib.ListN.{length}
-use lib.IntN.{ℤ, pos, negℤ, natAbs}
-use Rattle.whole.specs.Lists.{Words, z, word}
+use Rattle.whole.specs.Plain.{ℕ, _/_, _≤_, _<_, _≡_, true, cond, [], eqb, ℤ, pos, negℤ, natAbs, length, eqb-true, Words}
+use Rattle.whole.specs.Plain.{z, word}
 use Rattle.paper.specs.Limits as Limits
 use Rattle.paper.specs.Rows.{kind, isLine}
 use Rattle.paper.specs.Conductance.{conductance}

@@ -1,30 +1,23 @@
 -- The lines of an area's own ends: with the conductances of a step, and with its histories too. They are the legs of those ends, and sums over them fit a
 -- word. Assumes nothing.
-use Prim.Native.Nat.{ℕ, zero, suc, _+_, _*_, _/_, _%_, _≤_, _<_}
-use native.Mathlib.Omega.{arith}
-use native.Mathlib.Nat.{le-trans}
+use Rattle.whole.specs.Plain.{ℕ, zero, suc, _+_, _*_, _/_, _%_, _≤_, _<_, _≡_, refl, sym, ap, _∙_, Bool, true, false}
+use Rattle.whole.specs.Plain.{cond, List, [], _∷_, map, map-map, eqb, pos, length, getD, take, length-map, ext-getD}
+use Rattle.whole.specs.Plain.{eqb-true, le-trans, arith, Words, z, word, nat, numbers, keep, count}
 use native.Mathlib.Numerals.{add-one}
-use mathlib.Core.Path.{_≡_, refl, sym, ap, _∙_}
-use mathlib.Core.Bool.{Bool, true, false, cond, _&&_}
-use mathlib.Core.List.{List, [], _∷_, map}
-use borrow.Author.Tests.{eqb-true, leb-true}
-use lib.Dec.{leb, eqb}
-use lib.ListN.{length, getD, take, length-map}
-use lib.Seq.{ext-getD}
-use lib.IntN.{pos}
-use Rattle.whole.specs.Lists.{Words, z, word, nat, numbers, keep, count}
-use Rattle.whole.specs.Folds.{and-right, getD-map, count-append, count-map, count-next, keep-append, numbers-more}
+use Rattle.whole.specs.Folds.{getD-map, count-append, count-map, count-next, keep-append, numbers-more}
 use Rattle.whole.specs.Members.{among-at, keep-among, numbers-among}
 use Rattle.whole.specs.Written.{count-take}
 use Rattle.paper.specs.Limits as Limits
 use Rattle.paper.specs.Rows.{kind, isBranch}
+use Rattle.paper.specs.Classes.{by-branch}
 use Rattle.paper.specs.Areas.{Net}
 use Rattle.paper.specs.Legs.{Leg, leg, idle}
 use Rattle.paper.specs.Solve.{leaves}
 use Rattle.facts.specs.Nets.{NetSound, rowAt}
-use Rattle.plan_ends.specs.Own.{rowOfEnd, sideOfEnd, ownEnd, ownEnds, endAt, nearOf, farOf, Framed}
+use Rattle.plan_ends.specs.Own.{rowOfEnd, ownEnd, ownEnds, endAt, nearOf, FrameOf, Framed}
 use Rattle.step_legs.specs.declared.Wire.{Wire}
-use Rattle.step_legs.specs.Wires.{legFrom, wireIn, wireAt, legAt, wiresIn, legsIn, Wired, Wires, Sized}
+use Rattle.step_legs.specs.Wires.{legFrom, wireIn, wireAt, wiresIn, legsIn, Wired, Wires, Sized}
+use Rattle.step_legs.specs.Written.{SameBut}
 use Rattle.step_own.specs.Ends.{gAt, hAt, legOfEnd, wireOf, bareOfEnd, Kept}
 use Rattle.step_own.specs.EndSizes as Sizes
 
@@ -37,6 +30,23 @@ pub record Laid (N : Net) (a k : ℕ) (recs froms tos : Words) (legs : List Word
   pub conducting : Conducting N a k legs
   pub h : (j : ℕ) → j < length legs → word (getD legs j []) 6 ≡ hAt N k recs froms tos (endAt N a j)
 
+-- a line that keeps its first five words keeps its frame
+pub frame-kept : {N : Net} {e : ℕ} {l m : Words} → length m ≡ length l → ((i : ℕ) → i < 5 → word m i ≡ word l i) → FrameOf N e l → FrameOf N e m
+frame-kept n w f = record {
+  long = n ∙ f .long;
+  near = w 0 (omega arith) ∙ f .near;
+  far = w 1 (omega arith) ∙ f .far;
+  row = w 2 (omega arith) ∙ f .row;
+  end = w 3 (omega arith) ∙ f .end;
+  kind = w 4 (omega arith) ∙ f .kind;
+}
+
+pub conducting-same : {N : Net} {a k : ℕ} {before after : List Words} → SameBut before after → Conducting N a k before → Conducting N a k after
+conducting-same s c = record {
+  framed = record { long = s .long ∙ c .framed .long; line = λ j h. let l : j < _ = rw (s .long) at h in frame-kept (s .nine j l) (λ i q. s .word j i l (omega arith)) (c .framed .line j l) };
+  g = λ j h. let l : j < _ = rw (s .long) at h in s .word j 5 l (omega arith) ∙ c .g j l;
+}
+
 -- an own end, by its place
 pub end-own : (N : Net) (a j : ℕ) → j < length (ownEnds N a) → (endAt N a j < 2 * length (N .rows)) × (ownEnd N a (endAt N a j) ≡ true)
 unfolding ownEnds
@@ -45,6 +55,14 @@ end-own N a j h =
     (omega (arith, numbers-among 0 (2 * length (N .rows)) (c .among) .1), c .passes)
 
 -- ---- line by line
+lines-are : {N : Net} {a : ℕ} {legs : List Words} {B : Type 0} → Framed N a legs → (f : Words → B) (g : ℕ → B) (d : B) → ((j : ℕ) → j < length legs → f (getD legs j []) ≡ g (endAt N a j))
+    → map f legs ≡ map g (ownEnds N a)
+lines-are {N} {a} {legs} r f g d e =
+    ext-getD d (map f legs) (map g (ownEnds N a)) (length-map legs f ∙ r .long ∙ sym (length-map (ownEnds N a) g))
+    (λ j h.
+    let i : j < length legs = rw (length-map legs f) at h in
+    getD-map f legs j [] d i ∙ e j i ∙ sym (getD-map g (ownEnds N a) j 0 d (omega (arith, r .long))))
+
 module _ {N : Net} {a k : ℕ} {recs froms tos : Words} {legs : List Words} (l : Laid N a k recs froms tos legs) where
   pub wire-at : (j : ℕ) → j < length legs → wireAt legs j ≡ wireOf N k recs froms tos (endAt N a j)
   wire-at j h =
@@ -53,37 +71,18 @@ module _ {N : Net} {a k : ℕ} {recs froms tos : Words} {legs : List Words} (l :
 
   pub wires-are : wiresIn legs ≡ map (wireOf N k recs froms tos) (ownEnds N a)
   unfolding wiresIn
-  wires-are =
-      let d : Wire = wireIn [] in
-      ext-getD d (map wireIn legs) (map (wireOf N k recs froms tos) (ownEnds N a)) (length-map legs wireIn ∙ l .conducting .framed .long ∙ sym (length-map (ownEnds N a) (wireOf N k recs froms tos)))
-      (λ j h.
-      let i : j < length legs = rw (length-map legs wireIn) at h in
-      getD-map wireIn legs j [] d i ∙ wire-at j i ∙ sym (getD-map (wireOf N k recs froms tos) (ownEnds N a) j 0 d (omega (arith, l .conducting .framed .long))))
+  wires-are = lines-are (l .conducting .framed) wireIn (wireOf N k recs froms tos) (wireIn []) wire-at
 
   pub legs-are : legsIn legs ≡ map (legOfEnd N k recs froms tos) (ownEnds N a)
   unfolding legsIn
-  legs-are =
-      ext-getD idle (map legFrom legs) (map (legOfEnd N k recs froms tos) (ownEnds N a)) (length-map legs legFrom ∙ l .conducting .framed .long ∙ sym (length-map (ownEnds N a) (legOfEnd N k recs froms tos)))
-      (λ j h.
-      let i : j < length legs = rw (length-map legs legFrom) at h in
-      getD-map legFrom legs j [] idle i
-      ∙ ap (λ (w : Wire). leg (w .near) (w .far) (nat (w .g)) (w .h)) (wire-at j i)
-      ∙ sym (getD-map (legOfEnd N k recs froms tos) (ownEnds N a) j 0 idle (omega (arith, l .conducting .framed .long))))
+  legs-are = lines-are (l .conducting .framed) legFrom (legOfEnd N k recs froms tos) idle (λ j h. ap (λ (w : Wire). leg (w .near) (w .far) (nat (w .g)) (w .h)) (wire-at j h))
 
 -- without their histories
 pub bares-are : {N : Net} {a k : ℕ} {legs : List Words} → Conducting N a k legs → map (λ x. leg (x .near) (x .far) (x .g) z) (legsIn legs) ≡ map (bareOfEnd N k) (ownEnds N a)
 unfolding legsIn
 bares-are {N} {a} {k} {legs} c =
-    ext-getD idle (map bare (map legFrom legs)) (map (bareOfEnd N k) (ownEnds N a)) (length-map (map legFrom legs) bare ∙ length-map legs legFrom ∙ c .framed .long ∙ sym (length-map (ownEnds N a) (bareOfEnd N k)))
-    (λ j h.
-    let i : j < length legs = omega (arith, length-map (map legFrom legs) bare, length-map legs legFrom) in
-    let f = c .framed .line j i in
-    getD-map bare (map legFrom legs) j idle idle (omega (arith, length-map legs legFrom))
-    ∙ ap bare (getD-map legFrom legs j [] idle i)
-    ∙ rw (f .near, f .far, c .g j i) (sym (getD-map (bareOfEnd N k) (ownEnds N a) j 0 idle (omega (arith, c .framed .long)))))
-  where
-    bare : Leg → Leg
-    bare x = leg (x .near) (x .far) (x .g) z
+    map-map (λ (x : Leg). leg (x .near) (x .far) (x .g) z) legFrom legs
+    ∙ lines-are (c .framed) (λ l. leg (legFrom l .near) (legFrom l .far) (legFrom l .g) z) (bareOfEnd N k) idle (λ j h. let f = c .framed .line j h in rw (f .near, f .far, c .g j h))
 
 -- ---- at most one of a row's two ends leaves a node
 small : (b : Bool) → cond b 1 0 ≤ 1
@@ -147,15 +146,11 @@ module _ (N : Net) (s : NetSound N) (a : ℕ) (one : 1 ≤ a) (p : ℕ) where
       let e : 2 * suc i ≡ 2 * i + 1 + 1 = omega arith in
       rw e (omega (arith, some-more (2 * i + 1), some-more (2 * i), some-few i (omega arith), row-ends i (omega arith), rw add-one at (count-next isBranch (N .rows) i [] (omega arith))))
 
-  leavers-few : count leaves-end (ownEnds N a) ≤ Limits.branchEnd
-  unfolding ownEnds
-  leavers-few = omega (arith, some-few (length (N .rows)) (omega arith), count-take isBranch (N .rows) (length (N .rows)), s .branchMost)
-
   pub few : {k : ℕ} {legs : List Words} → Conducting N a k legs → count (leaves p) (legsIn legs) ≤ Limits.branchEnd
-  unfolding leaves
+  unfolding leaves ownEnds
   few {k} {legs} c =
       let e = sym (count-map (leaves p) (λ x. leg (x .near) (x .far) (x .g) z) (legsIn legs)) ∙ ap (count (leaves p)) (bares-are c) ∙ count-map (leaves p) (bareOfEnd N k) (ownEnds N a) in
-      rw e leavers-few
+      rw e (omega (arith, some-few (length (N .rows)) (omega arith), count-take isBranch (N .rows) (length (N .rows)), s .branchMost))
 
 -- ---- what makes sums over them fit
 module _ {N : Net} {a k : ℕ} {legs : List Words} (s : NetSound N) (one : 1 ≤ a) where
@@ -180,7 +175,7 @@ module _ {N : Net} {a k : ℕ} {legs : List Words} (s : NetSound N) (one : 1 ≤
             far-end = rw (f .far) (le-trans (Sizes.far-most N s a one e (o .0) (o .1)) (s .nodeMost));
             row-end = rw (f .row) (omega (arith, s .rowMost, o .0));
             end-end = rw (f .end) (omega arith);
-            kind-end = rw (f .kind) (leb-true (kind (rowOfEnd N e)) 5 (and-right (leb 1 (kind (rowOfEnd N e))) _ (Sizes.own-branch N s a one e (o .0) (o .1))));
+            kind-end = rw (f .kind) (by-branch (λ k. k ≤ 5) (kind (rowOfEnd N e)) (Sizes.own-branch N s a one e (o .0) (o .1)) (omega arith) (omega arith) (omega arith) (omega arith) (omega arith));
             g-sign = rw (c .g j h) tt;
             g-end = rw (c .g j h) (record { size = Sizes.g-most N s a one e (o .0) (o .1) k });
           }

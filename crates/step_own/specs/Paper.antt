@@ -1,21 +1,15 @@
 -- An area's own legs, against both legs of every row: the paper's sums, its equations and its search for a floating node are the same over either, for an
 -- end that is not the area's is idle. Assumes nothing.
-use Prim.Native.Nat.{ℕ, zero, suc, _+_, _*_, _/_, _%_, _≤_, _<_}
-use native.Mathlib.Omega.{arith}
-use mathlib.Core.Path.{_≡_, refl, sym, ap, _∙_}
-use mathlib.Core.Bool.{Bool, true, false, cond, not}
-use mathlib.Core.List.{List, [], _∷_, map}
-use lib.ListN.{length, getD, replicate, take}
-use lib.IntN.{ℤ, pos, _+ℤ_, _-ℤ_, _*ℤ_, +ℤ-idl, zero-*ℤ}
-use Rattle.whole.specs.Lists.{Words, z, word, numbers, keep, total, first, upTo, filled}
+use Rattle.whole.specs.Plain.{ℕ, zero, suc, _+_, _*_, _≤_, _<_, _≡_, refl, sym, ap, _∙_, Bool, true, false, cond, not}
+use Rattle.whole.specs.Plain.{List, [], _∷_, map, ℤ, pos, _+ℤ_, _-ℤ_, _*ℤ_, +ℤ-idl, zero-*ℤ, length, getD, arith, Words}
+use Rattle.whole.specs.Plain.{z, word, numbers, keep, total, upTo, filled}
 use Rattle.whole.specs.Folds.{map-cong}
 use Rattle.paper.specs.declared.Equation.{Equation}
 use Rattle.paper.specs.Limits as Limits
-use Rattle.paper.specs.Doubles.{double, nearestOf}
-use Rattle.paper.specs.Elimination.{System, sys, voltages}
+use Rattle.paper.specs.Doubles.{double}
 use Rattle.paper.specs.Areas.{Net}
 use Rattle.paper.specs.Legs.{Leg, idle, Branch, legsBy, legsOf, heard, bothLegs, through, current}
-use Rattle.paper.specs.Floating.{conducting, legJoin, reached, floating}
+use Rattle.paper.specs.Floating.{conducting, reached, floating}
 use Rattle.paper.specs.Solve.{nought, leaves, leads, entry, rightSide, imbalance, matrixRow, equation, system, proposed, unbalanced}
 use Rattle.plan_ends.specs.Own.{ownEnd, ownEnds}
 use Rattle.step_legs.specs.Free.{first-cong}
@@ -42,11 +36,10 @@ module _ (p : ℕ → Bool) (g : ℕ → Leg) where
   total-kept : (f : Leg → ℤ) → f idle ≡ z → (l : List ℕ) → total f (map g (keep p l)) ≡ total f (map orIdle l)
   unfolding total keep
   total-kept f h [] = refl
-  total-kept f h (e ∷ l) = by (p e) (total-kept f h l)
-    where
-      by : (b : Bool) → total f (map g (keep p l)) ≡ total f (map orIdle l) → total f (map g (cond b (e ∷ keep p l) (keep p l))) ≡ f (cond b (g e) idle) +ℤ total f (map orIdle l)
-      by true r = ap (λ (x : ℤ). f (g e) +ℤ x) r
-      by false r = r ∙ rw h (sym (+ℤ-idl _))
+  total-kept f h (e ∷ l) = elim (p e) as (λ b. total f (map g (keep p l)) ≡ total f (map orIdle l) → total f (map g (cond b (e ∷ keep p l) (keep p l))) ≡ f (cond b (g e) idle) +ℤ total f (map orIdle l)) [
+    | true ↦ λ r. ap (λ (x : ℤ). f (g e) +ℤ x) r
+    | false ↦ λ r. r ∙ rw h (sym (+ℤ-idl _))
+  ] (total-kept f h l)
 
   conducting-kept : (l : List ℕ) → keep conducting (map g (keep p l)) ≡ keep conducting (map orIdle l)
   unfolding keep

@@ -1,11 +1,6 @@
 -- A pass over an area's own legs is a pass over the rows: what each row's turn does is what the turns of its own ends do. Assumes nothing.
-use Prim.Native.Nat.{ℕ, zero, suc, _+_, _-_, _*_, _≤_, _<_}
-use native.Mathlib.Omega.{arith}
-use mathlib.Core.Path.{_≡_, refl, sym, ap, _∙_}
-use mathlib.Core.Bool.{Bool, true, false, cond}
-use mathlib.Core.List.{List, [], _∷_, map}
-use lib.ListN.{length}
-use Rattle.whole.specs.Lists.{Words, numbers, keep, fold}
+use Rattle.whole.specs.Plain.{ℕ, zero, suc, _+_, _-_, _*_, _≤_, _<_, _≡_, refl, sym, ap, _∙_, Bool, true, false, cond}
+use Rattle.whole.specs.Plain.{List, [], _∷_, map, length, arith, Words, numbers, keep, fold}
 use Rattle.whole.specs.Folds.{fold-map}
 use Rattle.whole.specs.Turns.{turns}
 use Rattle.whole.specs.TurnLaws.{turns-fold}

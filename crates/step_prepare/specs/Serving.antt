@@ -1,17 +1,12 @@
 -- What is prepared for an area at a position of its switches, and the steps that it serves. Assumes nothing.
-use Prim.Native.Nat.{ℕ, _+_, _*_, _≤_, _<_}
-use mathlib.Core.Path.{_≡_, sym, ap, _∙_}
-use mathlib.Core.List.{List, [], map}
-use native.Mathlib.Omega.{arith}
-use lib.ListN.{length, getD}
+use Rattle.whole.specs.Plain.{ℕ, _+_, _≤_, _<_, _≡_, sym, ap, _∙_, ⊎-elim, List, map, length, arith, Words}
 use lib.Ieee.{Float}
-use Rattle.whole.specs.Lists.{Words, nat}
 use Rattle.paper.specs.Limits as Limits
 use Rattle.paper.specs.Areas.{Net, fixed, freeOf}
-use Rattle.paper.specs.Legs.{Leg, idle}
+use Rattle.paper.specs.Legs.{Leg}
 use Rattle.paper.specs.Floating.{floating}
 use Rattle.facts.specs.Nets.{NetSound}
-use Rattle.plan_ends.specs.Own.{ownEnds, endAt, nearOf, farOf, Framed}
+use Rattle.plan_ends.specs.Own.{ownEnds, Framed}
 use Rattle.plan_rows.specs.Planned.{Planned}
 use Rattle.step_legs.specs.Wires.{legsIn, Wires}
 use Rattle.step_legs.specs.Leaving.{legs-length, leg-is}
@@ -21,14 +16,13 @@ use Rattle.step_factors.specs.Positions.{bare}
 use Rattle.step_factors.specs.Proposed.{matrixOf}
 use Rattle.step_own.specs.Ends.{bareOfEnd}
 use Rattle.step_own.specs.EndSizes as Sizes
-use Rattle.step_own.specs.EndSizes.{Ours, ground, inside}
+use Rattle.step_own.specs.EndSizes.{Ours}
 use Rattle.step_own.specs.Laid.{Conducting, end-own, bares-are, conducting-wires}
 use Rattle.step_floating.specs.Search.{loose}
 use Rattle.step_floating.specs.Free.{free-nodes}
-use Rattle.step_floating.specs.Local as Local
-use Rattle.step_floating.specs.Local.{Local, Locals, floating-local, floating-joins, joins-bare}
+use Rattle.step_floating.specs.Local.{Local, ground, inside, Locals, floating-local, floating-joins, joins-bare}
 use Rattle.step_conduct.specs.Conducted.{Conducted}
-use Rattle.step_conduct.specs.Paper.{rated, conducting}
+use Rattle.step_conduct.specs.Paper.{conducting}
 use Rattle.step_prepare.specs.declared.Prepared.{Prepared}
 
 -- its legs without their histories
@@ -81,19 +75,15 @@ module _ {N : Net} {a base : ℕ} {plan : List (List ℕ)} {legs : List Words} {
     all-wires = conducting-wires (s .sound) (s .one) here
 
     local : {n : ℕ} → n ≤ N .nodes → Ours N a n → Local N a n
-    local l (ground e) = Local.ground e
-    local l (inside h e) = Local.inside l e
+    local l o = ⊎-elim ground (inside l) o
 
     locals : Locals N a (legsIn after)
     locals = record {
-      near = λ j h.
+      ends = λ j h.
           let i : j < length after = rw (legs-length after) at h in
           let o = end-own N a j (omega (arith, here .framed .long)) in
-          rw (leg-is after j i, here .framed .line j i .near) (local (Sizes.near-most N (s .sound) a (s .one) _ (o .0) (o .1)) (Sizes.near-ours N (s .sound) a (s .one) _ (o .0) (o .1)));
-      far = λ j h.
-          let i : j < length after = rw (legs-length after) at h in
-          let o = end-own N a j (omega (arith, here .framed .long)) in
-          rw (leg-is after j i, here .framed .line j i .far) (local (Sizes.far-most N (s .sound) a (s .one) _ (o .0) (o .1)) (Sizes.far-ours N (s .sound) a (s .one) _ (o .0) (o .1)));
+          rw (leg-is after j i, here .framed .line j i .near, here .framed .line j i .far)
+          (local (Sizes.near-most N (s .sound) a (s .one) _ (o .0) (o .1)) (Sizes.near-ours N (s .sound) a (s .one) _ (o .0) (o .1)), local (Sizes.far-most N (s .sound) a (s .one) _ (o .0) (o .1)) (Sizes.far-ours N (s .sound) a (s .one) _ (o .0) (o .1)));
     }
 
     -- the search over the lines is the paper's, at each step that they serve

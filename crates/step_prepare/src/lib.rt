@@ -1,7 +1,5 @@
 // What an area keeps for a position of its switches: its legs' conductances, that no node floats, and the factors of its matrix.
-ghost use mathlib.Core.Path.{_≡_};
-ghost use Prim.Native.Nat.{ℕ, _≤_};
-ghost use lib.ListN.{length};
+ghost use Rattle.whole.specs.Plain.{ℕ, _≤_, _≡_, length};
 ghost use Rattle.whole.specs.Loans.{was, is};
 ghost use Rattle.paper.specs.Limits as Limits;
 ghost use Rattle.paper.specs.Areas.{Net};
@@ -27,7 +25,8 @@ pub fn prepare(
     k: usize,
 ) -> Prepared
     requires { ⌜ Known (now plan) (now legs) (now free) base × Square (now a) × (k ≤ Limits.stepsEnd) ⌝ }
-    ensures { λ r. ⌜ ((N : Net) (n : ℕ) → Standing N n (was plan) (was legs) (was free) base → Prepares N n k base r (is legs) (is a)) ⌝ }
+    ensures { λ r. ⌜ ((N : Net) (n : ℕ) → Standing N n (was plan) (was legs) (was free) base
+        → Prepares N n k base r (is legs) (is a)) ⌝ }
     ensures { λ _. ⌜ Renewed base (length (was free)) (was a) (is a) ⌝ }
 {
     let until = step_conduct::conduct(plan, legs, k);

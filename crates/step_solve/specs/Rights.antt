@@ -1,16 +1,9 @@
 -- The right sides of the free nodes' equations, as doubles. Assumes nothing.
-use Prim.Native.Nat.{ℕ, _+_, _≤_, _<_}
-use mathlib.Core.Path.{_≡_, refl, sym, _∙_}
-use mathlib.Core.List.{List}
-use native.Mathlib.Omega.{arith}
-use native.Mathlib.Decide.{ℕ-discrete}
-use lib.ListN.{getD, set, length, length-set}
-use lib.Seq.{getD-set-same, getD-set-other, take-length}
-use lib.IntN.{_-ℤ_}
+use Rattle.whole.specs.Plain.{ℕ, _+_, _≤_, _<_, _≡_, refl, _∙_, List, _-ℤ_, getD, set, length, length-set}
+use Rattle.whole.specs.Plain.{getD-set-same, getD-set-other, take-length, ℕ-discrete, arith, Words, word}
 use lib.Ieee.{Float, nan}
 use mir.Syntax.{w64}
 use mir.Val.{SFits}
-use Rattle.whole.specs.Lists.{Words, word}
 use Rattle.whole.specs.Size.{∣_∣≤_, sub, fits}
 use Rattle.whole.specs.TurnLaws.{turns-keeps, downs-keeps}
 use Rattle.paper.specs.Limits as Limits

@@ -1,17 +1,11 @@
 -- From doubles to voltages, free node by free node: the search for one outside the range, and the voltages where there is none. Assumes nothing.
-use Prim.Native.Nat.{ℕ, _+_, _≤_, _<_}
-use mathlib.Core.Path.{_≡_, refl, sym, ap, _∙_}
-use mathlib.Core.Bool.{Bool, true, false, cond}
-use mathlib.Core.List.{List, [], _∷_, map}
-use native.Mathlib.Omega.{arith}
+use Rattle.whole.specs.Plain.{ℕ, _+_, _≤_, _<_, _≡_, refl, sym, ap, _∙_, true, false, cond, List, [], _∷_, map, ℤ, getD}
+use Rattle.whole.specs.Plain.{length, take, drop, length-set, length-map, drop-cons, drop-length, getD-take}
+use Rattle.whole.specs.Plain.{length-take-le, arith, Words}
 use native.Mathlib.Numerals.{add-one}
-use lib.ListN.{getD, length, take, drop, length-set, length-map}
-use lib.Seq.{drop-cons, drop-length, getD-take, length-take-le}
-use lib.IntN.{ℤ}
 use lib.Ieee.{Float, nan}
 use Rattle.paper.specs.declared.Rounded.{Rounded}
 use Rattle.paper.specs.declared.Rounded.the-variants.{Whole, Outside}
-use Rattle.whole.specs.Lists.{Words}
 use Rattle.whole.specs.Folds.{getD-map}
 use Rattle.paper.specs.Limits as Limits
 use Rattle.paper.specs.Doubles.{inRange, wholeOf, nearestOf}
@@ -31,19 +25,17 @@ rounded n xs = map nearestOf (take n xs)
 -- what a rounding tells of the range
 pub in-range : (x : Float) (y : ℤ) → nearestOf x ≡ Whole y → inRange x ≡ true
 unfolding nearestOf
-in-range x y e = by-range (inRange x) refl
-  where
-    by-range : (t : Bool) → inRange x ≡ t → inRange x ≡ true
-    by-range true f = f
-    by-range false f = let d : _≡_ {A = Rounded} Outside (Whole y) = rw f at e in let k : _≡_ {A = ℕ} 0 1 = cc in absurd (omega arith)
+in-range x y e = elim (inRange x) as (λ t. inRange x ≡ t → inRange x ≡ true) [
+  | true ↦ λ f. f
+  | false ↦ λ f. let d : _≡_ {A = Rounded} Outside (Whole y) = rw f at e in let k : _≡_ {A = ℕ} 0 1 = cc in absurd (omega arith)
+] refl
 
 pub out-of-range : (x : Float) → nearestOf x ≡ Outside → inRange x ≡ false
 unfolding nearestOf
-out-of-range x e = by-range (inRange x) refl
-  where
-    by-range : (t : Bool) → inRange x ≡ t → inRange x ≡ false
-    by-range true f = let d : _≡_ {A = Rounded} (Whole (wholeOf x)) Outside = rw f at e in let k : _≡_ {A = ℕ} 0 1 = cc in absurd (omega arith)
-    by-range false f = f
+out-of-range x e = elim (inRange x) as (λ t. inRange x ≡ t → inRange x ≡ false) [
+  | true ↦ λ f. let d : _≡_ {A = Rounded} (Whole (wholeOf x)) Outside = rw f at e in let k : _≡_ {A = ℕ} 0 1 = cc in absurd (omega arith)
+  | false ↦ λ f. f
+] refl
 
 -- ---- where the first i are within the range
 pub record SettledTo (free : List ℕ) (xs : List Float) (still v : Words) (i : ℕ) : Type 0 where
@@ -54,12 +46,9 @@ module _ {free : List ℕ} (f : Free free) (xs : List Float) (long : length free
   abbrev ys : List Rounded
   ys = rounded (length free) xs
 
-  rounded-length : length ys ≡ length free
-  rounded-length = length-map (take (length free) xs) nearestOf ∙ length-take-le (length free) xs long
-
   rounded-more : (i : ℕ) → i < length free → drop i ys ≡ nearestOf (getD xs i nan) ∷ drop (i + 1) ys
   rounded-more i h =
-      let k : i < length ys = omega (arith, rounded-length) in
+      let k : i < length ys = omega (arith, length-map (take (length free) xs) nearestOf ∙ length-take-le (length free) xs long) in
       let m : i < length (take (length free) xs) = omega (arith, length-take-le (length free) xs long) in
       drop-cons ys i Outside k ∙ rw (add-one i, getD-map nearestOf (take (length free) xs) i nan Outside m, getD-take (length free) xs i nan h)
 
@@ -72,10 +61,6 @@ module _ {free : List ℕ} (f : Free free) (xs : List Float) (long : length free
     unfolding outOfRange
     heads = rw (free-more i h, rounded-more i h)
 
-    volts-heads : settled (drop i free) (drop i ys) v ≡ settled (drop (i + 1) free) (drop (i + 1) ys) (settle v (getD free i 0) (nearestOf (getD xs i nan)))
-    unfolding settled
-    volts-heads = rw (free-more i h, rounded-more i h)
-
     near-in : inRange (getD xs i nan) ≡ true → nearestOf (getD xs i nan) ≡ Whole (wholeOf (getD xs i nan))
     unfolding nearestOf
     near-in e = rw e
@@ -85,9 +70,10 @@ module _ {free : List ℕ} (f : Free free) (xs : List Float) (long : length free
     near-out e = rw e
 
     pub settled-more : {v′ : Words} → inRange (getD xs i nan) ≡ true → v′ ≡ settle v (getD free i 0) (nearestOf (getD xs i nan)) → SettledTo free xs still v′ (i + 1)
+    unfolding settled
     settled-more e w = record {
       answer = s .answer ∙ heads ∙ ap (λ (x : Rounded). outOf x (getD free i 0) (outOfRange (drop (i + 1) free) (drop (i + 1) ys))) (near-in e);
-      volts = s .volts ∙ volts-heads ∙ ap (settled (drop (i + 1) free) (drop (i + 1) ys)) (sym w);
+      volts = s .volts ∙ (rw (free-more i h, rounded-more i h)) ∙ ap (settled (drop (i + 1) free) (drop (i + 1) ys)) (sym w);
     }
 
     pub settled-out : {v′ : Words} → inRange (getD xs i nan) ≡ false → Solved free ys still v′ (getD free i 0)
@@ -106,11 +92,10 @@ module _ {free : List ℕ} (f : Free free) (xs : List Float) (long : length free
 -- ---- the voltages are in the range
 settle-volts : (v : Words) (n : ℕ) (x : Float) → Volts v → Volts (settle v n (nearestOf x))
 unfolding nearestOf
-settle-volts v n x s = by-range (inRange x) refl
-  where
-    by-range : (t : Bool) → inRange x ≡ t → Volts (settle v n (cond t (Whole (wholeOf x)) Outside))
-    by-range true e = record { long = length-set v n (wholeOf x) ∙ s .long; end = λ k. set-end v n k Limits.voltageEnd (wholeOf x) (whole-most x e) (s .end k) }
-    by-range false e = s
+settle-volts v n x s = elim (inRange x) as (λ t. inRange x ≡ t → Volts (settle v n (cond t (Whole (wholeOf x)) Outside))) [
+  | true ↦ λ e. record { long = length-set v n (wholeOf x) ∙ s .long; end = λ k. set-end v n k Limits.voltageEnd (wholeOf x) (whole-most x e) (s .end k) }
+  | false ↦ λ e. s
+] refl
 
 pub settled-volts : (ns : List ℕ) (xs : List Float) (v : Words) → Volts v → Volts (settled ns (map nearestOf xs) v)
 unfolding settled

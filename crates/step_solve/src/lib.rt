@@ -1,10 +1,6 @@
 // One right side for the factors that an area keeps: what its legs draw, the equations' right sides as doubles, and the voltages of its free nodes, or
 // refusal 15 with the lowest node whose double is outside the range.
-ghost use Prim.Native.Nat.{_+_, _≤_, _<_};
-ghost use mathlib.Core.Path.{_≡_};
-ghost use mathlib.Core.List.{map};
-ghost use lib.ListN.{length};
-ghost use Rattle.whole.specs.Lists.{word};
+ghost use Rattle.whole.specs.Plain.{_+_, _≤_, _<_, _≡_, map, length, word};
 ghost use Rattle.whole.specs.Loans.{was, is};
 ghost use Rattle.paper.specs.Doubles.{inRange, nearestOf};
 ghost use Rattle.paper.specs.Solve.{settle, proposed};
@@ -98,7 +94,8 @@ pub fn solve(
     requires { ⌜ Sized (now legs) × Volts (now v) × InjectsWithin (now inject) × Free (now free) ⌝ }
     requires { ⌜ base + length (now free) ≤ 32 ⌝ }
     requires { ⌜ Serves base (length (now free)) (matrixOf (map bare (legsIn (now legs))) (now free)) (now a) ⌝ }
-    ensures { λ r. ⌜ Solved (was free) (proposed (legsIn (was legs)) (was free) (was v) (λ p. word (was inject) p)) (was v) (is v) r ⌝ }
+    ensures { λ r. ⌜ Solved (was free) (proposed (legsIn (was legs)) (was free) (was v) (λ p. word (was inject) p))
+        (was v) (is v) r ⌝ }
 {
     let drawn = draws(legs, v);
     let mut b = right_sides(free, inject, &drawn);

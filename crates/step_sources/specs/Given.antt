@@ -1,16 +1,9 @@
 -- What some sources give by node is a sum over them; one more, and the node still has room. Assumes nothing.
-use Prim.Native.Nat.{ℕ, suc, _+_, _*_, _≤_, _<_}
-use mathlib.Core.Path.{_≡_, refl, sym, ap, _∙_}
-use mathlib.Core.Bool.{Bool, true, false, cond, _&&_}
-use mathlib.Core.List.{List, [], _∷_}
-use native.Mathlib.Omega.{arith}
-use borrow.Author.Tests.{eqb-true}
-use lib.Dec.{eqb}
-use lib.ListN.{length, set, length-set, length-replicate}
-use lib.IntN.{ℤ, natAbs, _+ℤ_, +ℤ-assoc, +ℤ-idl, +ℤ-idr}
+use Rattle.whole.specs.Plain.{ℕ, suc, _+_, _*_, _≤_, _<_, _≡_, refl, sym, ap, _∙_, Bool, true, false, cond, _&&_, List}
+use Rattle.whole.specs.Plain.{[], _∷_, eqb, ℤ, natAbs, _+ℤ_, +ℤ-assoc, +ℤ-idl, +ℤ-idr, length, set, length-set}
+use Rattle.whole.specs.Plain.{length-replicate, eqb-true, arith, Words, z, word, fold, total}
 use mir.Syntax.{w64}
 use mir.Val.{SFits}
-use Rattle.whole.specs.Lists.{Words, z, word, fold, total}
 use Rattle.whole.specs.Int.{abs-add-le, fits64}
 use Rattle.whole.specs.Folds.{fold-keeps}
 use Rattle.whole.specs.Filled.{getD-same}

@@ -1,20 +1,13 @@
 -- An area's own sources: their lines may be driven, and they give what the paper's sums over all rows have at the area's nodes. Assumes nothing.
-use Prim.Native.Nat.{ℕ, _≤_, _<_}
-use mathlib.Core.Path.{_≡_, refl, sym, _∙_}
-use mathlib.Core.Bool.{Bool, true, false, cond, _&&_}
-use mathlib.Core.List.{[]}
-use native.Mathlib.Omega.{arith}
-use native.Mathlib.Nat.{le-trans}
-use borrow.Author.Tests.{eq-eqb, eqb-true}
-use lib.Dec.{eqb}
-use lib.ListN.{length, getD, length-map}
-use lib.Seq.{ext-getD}
-use Rattle.whole.specs.Lists.{z, word, total}
+use Rattle.whole.specs.Plain.{ℕ, _≤_, _<_, zero, suc, _≡_, refl, sym, _∙_, ap, Bool, true, false, cond, _&&_, [], List}
+use Rattle.whole.specs.Plain.{_∷_, eqb, ℤ, _+ℤ_, +ℤ-idl, length, getD, length-map, ext-getD, eq-eqb, eqb-true, le-trans}
+use Rattle.whole.specs.Plain.{arith, z, word, total, keep}
 use Rattle.whole.specs.Folds.{and-left, and-right, length-keep, getD-map}
 use Rattle.whole.specs.Totals.{total-cong, total-map}
 use Rattle.whole.specs.Written.{count-imply, total-if}
 use Rattle.paper.specs.Limits as Limits
-use Rattle.paper.specs.Rows.{Row, isVS, isIS, isSource, at}
+use Rattle.paper.specs.Rows.{Row, isFixing, isIS, isSource, at}
+use Rattle.paper.specs.Classes.{fixing-source, injecting-source}
 use Rattle.paper.specs.Faults.{fixes}
 use Rattle.paper.specs.Areas.{Net, areaOf}
 use Rattle.paper.specs.Sources.{ramp, risen, source, held, injected}
@@ -22,12 +15,36 @@ use Rattle.paper.specs.Solve.{stillOf}
 use Rattle.facts.specs.Fields.{wider}
 use Rattle.facts.specs.Sound.{SourceSound}
 use Rattle.facts.specs.Nets.{NetSound, rowAt}
-use Rattle.laws_volts.specs.Sources.{vs-source, is-source}
-use Rattle.laws_volts.specs.Still.{area-node, still-at, still-length}
+use Rattle.laws_volts.specs.Still.{area-node, still-at, still-length, still-end}
 use Rattle.plan_ends.specs.Own.{ownSource, ownSources, sourceLine, sourceLines}
-use Rattle.step_sources.specs.Kept.{total-keep, keep-each}
+use Rattle.step_legs.specs.Shares.{Volts}
 use Rattle.step_sources.specs.Table.{Sources, given}
 use Rattle.step_sources.specs.Given.{share, given-at, given-length}
+
+pub still-volts : (N : Net) → NetSound N → (k a : ℕ) → Volts (stillOf N a k)
+still-volts N s k a = record { long = still-length N s a k; end = still-end N s a k }
+
+module _ {A : Type 0} (q : A → Bool) where
+  pub total-keep : (f : A → ℤ) (l : List A) → total f (keep q l) ≡ total (λ x. cond (q x) (f x) z) l
+  unfolding total keep
+  total-keep f [] = refl
+  total-keep f (x ∷ l) = by (q x) ∙ ap (λ (s : ℤ). cond (q x) (f x) z +ℤ s) (total-keep f l)
+    where
+      by : (b : Bool) → total f (cond b (x ∷ keep q l) (keep q l)) ≡ cond b (f x) z +ℤ total f (keep q l)
+      by true = refl
+      by false = sym (+ℤ-idl (total f (keep q l)))
+
+  pub keep-each : (P : A → Type 0) (d : A) (l : List A) → ((i : ℕ) → i < length l → q (getD l i d) ≡ true → P (getD l i d))
+      → (j : ℕ) → j < length (keep q l) → P (getD (keep q l) j d)
+  unfolding keep
+  keep-each P d [] h j k = absurd (omega arith)
+  keep-each P d (x ∷ l) h j k = by (q x) refl j k (keep-each P d l (λ i m. h (suc i) (omega arith)))
+    where
+      by : (b : Bool) → q x ≡ b → (j : ℕ) → j < length (cond b (x ∷ keep q l) (keep q l))
+          → ((j : ℕ) → j < length (keep q l) → P (getD (keep q l) j d)) → P (getD (cond b (x ∷ keep q l) (keep q l)) j d)
+      by true e zero k more = h 0 (omega arith) e
+      by true e (suc j) k more = more j (omega arith)
+      by false e j k more = more j k
 
 -- ---- the table's record
 
@@ -94,11 +111,11 @@ module _ (N : Net) (a k : ℕ) (p : Row → Bool) (lined : (r : Row) → p (sour
 module _ (N : Net) (s : NetSound N) (a k : ℕ) (one : 1 ≤ a) where
   pub own-injected : (n : ℕ) → areaOf N n ≡ a → word (given isIS k (sourceLines N a)) n ≡ injected N k n
   unfolding source injected sourceLine
-  own-injected n e = own-at N a k isIS (λ r. refl) is-source n (le-trans (area-node N s a one n e .1) (s .nodeMost)) ∙ rw (eq-eqb (areaOf N n) a e)
+  own-injected n e = own-at N a k isIS (λ r. refl) injecting-source n (le-trans (area-node N s a one n e .1) (s .nodeMost)) ∙ rw (eq-eqb (areaOf N n) a e)
 
-  pub own-still : given isVS k (sourceLines N a) ≡ stillOf N a k
+  pub own-still : given isFixing k (sourceLines N a) ≡ stillOf N a k
   unfolding source held fixes sourceLine
   own-still =
-      let long = given-length isVS k (sourceLines N a) in
-      ext-getD z (given isVS k (sourceLines N a)) (stillOf N a k) (long ∙ sym (still-length N s a k))
-      (λ n h. let l : n ≤ Limits.nodeEnd = omega (arith, long) in own-at N a k isVS (λ r. refl) vs-source n l ∙ sym (still-at N s a k n l))
+      let long = given-length isFixing k (sourceLines N a) in
+      ext-getD z (given isFixing k (sourceLines N a)) (stillOf N a k) (long ∙ sym (still-length N s a k))
+      (λ n h. let l : n ≤ Limits.nodeEnd = omega (arith, long) in own-at N a k isFixing (λ r. refl) fixing-source n l ∙ sym (still-at N s a k n l))

@@ -1,11 +1,6 @@
 -- An area's sources as lines of words, which stand as in a row: kind, node, peak, start, rise. What those that pass give by node. Assumes nothing.
-use Prim.Native.Nat.{ℕ, suc, _*_, _≤_, _<_}
-use mathlib.Core.Path.{_≡_}
-use mathlib.Core.Bool.{Bool, cond}
-use mathlib.Core.List.{List, [], _∷_}
-use lib.ListN.{length, getD, set, replicate}
-use lib.IntN.{ℤ, pos, natAbs, _+ℤ_}
-use Rattle.whole.specs.Lists.{Words, z, word, nat, fold}
+use Rattle.whole.specs.Plain.{ℕ, suc, _*_, _≤_, _<_, _≡_, Bool, cond, List, [], _∷_, ℤ, pos, natAbs, _+ℤ_, length, getD}
+use Rattle.whole.specs.Plain.{set, replicate, Words, z, word, nat, fold}
 use Rattle.paper.specs.Limits as Limits
 use Rattle.paper.specs.Rows.{Row, kind, at, peak, start, rise}
 use Rattle.paper.specs.Sources.{ramp}

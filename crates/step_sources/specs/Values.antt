@@ -1,13 +1,7 @@
 -- A source's value in its three cases, before, during and after the rise, and that the product on the way up fits. Assumes nothing.
-use Prim.Native.Nat.{ℕ, _-_, _≤_, _<_}
-use mathlib.Core.Path.{_≡_, refl}
-use native.Mathlib.Omega.{arith}
-use borrow.Author.Tests.{lt-ltb, le-ltb}
-use lib.IntN.{ℤ, pos, natAbs, _*ℤ_}
-use lib.Signed.{quotZ}
+use Rattle.whole.specs.Plain.{ℕ, _-_, _≤_, _<_, _≡_, refl, ℤ, pos, natAbs, _*ℤ_, quotZ, lt-ltb, le-ltb, arith, z}
 use mir.Syntax.{w64}
 use mir.Val.{SFits}
-use Rattle.whole.specs.Lists.{z}
 use Rattle.whole.specs.Size.{∣_∣≤_, mul, fits}
 use Rattle.paper.specs.Limits as Limits
 use Rattle.paper.specs.Rows.{Row, peak, start, rise}

@@ -1,12 +1,8 @@
 // "A source before its start is 0; from start, with n steps since": what an area's sources hold and inject at one step.
-ghost use mathlib.Core.Path.{_≡_};
-ghost use mathlib.Core.List.{[]};
-ghost use Prim.Native.Nat.{_≤_, _<_};
-ghost use lib.IntN.{natAbs};
-ghost use lib.ListN.{length, getD};
+ghost use Rattle.whole.specs.Plain.{_≤_, _<_, _≡_, [], natAbs, length, getD};
 ghost use Rattle.whole.specs.Loans.{was, is};
 ghost use Rattle.paper.specs.Limits as Limits;
-ghost use Rattle.paper.specs.Rows.{isVS, isIS};
+ghost use Rattle.paper.specs.Rows.{isFixing, isIS};
 ghost use Rattle.step_legs.specs.Free.{InjectsWithin};
 ghost use Rattle.step_sources.specs.Table.{sourceAt, valueOf, Sources, Room, none, give, given};
 use paper::kinds;
@@ -56,7 +52,7 @@ pub fn source_value(peak: i64, start: usize, rise: usize, k: usize) -> i64
 fn drive_one(sources: &[SourceLine], j: usize, k: usize, v: &mut [i64; 33], inject: &mut [i64; 33])
     requires { ⌜ Sources (now sources) × (j < length (now sources)) ⌝ }
     requires { ⌜ Room j (now v) × Room j (now inject) ⌝ }
-    ensures { λ _. ⌜ is v ≡ give isVS k (was v) (getD (was sources) j []) ⌝ }
+    ensures { λ _. ⌜ is v ≡ give isFixing k (was v) (getD (was sources) j []) ⌝ }
     ensures { λ _. ⌜ is inject ≡ give isIS k (was inject) (getD (was sources) j []) ⌝ }
 {
     let s = source_at(sources, j);
@@ -73,7 +69,7 @@ fn drive_one(sources: &[SourceLine], j: usize, k: usize, v: &mut [i64; 33], inje
 pub fn drive(sources: &[SourceLine], k: usize, v: &mut [i64; 33], inject: &mut [i64; 33])
     requires { ⌜ Sources (now sources) ⌝ }
     requires { ⌜ (now v ≡ none) × (now inject ≡ none) ⌝ }
-    ensures { λ _. ⌜ is v ≡ given isVS k (was sources) ⌝ }
+    ensures { λ _. ⌜ is v ≡ given isFixing k (was sources) ⌝ }
     ensures { λ _. ⌜ is inject ≡ given isIS k (was sources) ⌝ }
     ensures { λ _. ⌜ InjectsWithin (is inject) ⌝ }
 {

@@ -1,23 +1,17 @@
 -- The first row of which a leg passes on too much is the paper's. Assumes nothing.
-use Prim.Native.Nat.{ℕ, zero, suc, _+_, _*_, _/_, _%_, _≤_, _<_}
-use native.Mathlib.Omega.{arith}
-use mathlib.Core.Path.{_≡_, refl, ap, _∙_}
-use mathlib.Core.Bool.{Bool, true, false, cond, not, _&&_, _||_}
-use mathlib.Core.List.{List, [], _∷_, map}
-use lib.Dec.{eqb}
-use lib.ListN.{length, getD}
-use lib.IntN.{negℤ, zero-*ℤ}
-use Rattle.whole.specs.Lists.{Words, z, upTo, numbers, keep}
+use Rattle.whole.specs.Plain.{ℕ, zero, suc, _+_, _*_, _/_, _≤_, _<_, _≡_, refl, ap, _∙_, Bool, true, false, cond, not}
+use Rattle.whole.specs.Plain.{_&&_, _||_, List, [], _∷_, map, eqb, negℤ, zero-*ℤ, length, arith, Words, z, upTo}
+use Rattle.whole.specs.Plain.{numbers, keep}
 use Rattle.paper.specs.Limits as Limits
 use Rattle.paper.specs.Rows.{kind}
 use Rattle.paper.specs.Areas.{Net}
-use Rattle.paper.specs.Legs.{Branch, idle, legsBy, legsOf, heard, through, current, echo, passedOn}
+use Rattle.paper.specs.Legs.{Branch, legsBy, legsOf, heard, through, current, echo, passedOn}
 use Rattle.paper.specs.Solve.{beyond, firstBeyond}
 use Rattle.facts.specs.Nets.{rowAt}
-use Rattle.step_flow.specs.Found.{passedBy}
+use Rattle.step_flow.specs.Flown.{passedBy}
 use Rattle.plan_ends.specs.Own.{ownEnd, ownEnds}
 use Rattle.step_legs.specs.declared.Wire.{Wire}
-use Rattle.step_own.specs.Ends.{legOfEnd, wireOf, endLeg}
+use Rattle.step_own.specs.Ends.{wireOf, endLeg}
 use Rattle.step_own.specs.EndLegs.{from-leg, to-leg}
 use Rattle.step_own.specs.Branches.{row-is}
 use Rattle.step_flow.specs.Beyond.{beyondLeg, firstBy}
@@ -35,11 +29,10 @@ firstEnd t (e ∷ l) = let r = firstEnd t l in cond (t e) (suc (e / 2)) r
 kept : (t u p : ℕ → Bool) → ((e : ℕ) → p e ≡ true → t e ≡ u e) → ((e : ℕ) → p e ≡ false → u e ≡ false) → (l : List ℕ) → firstEnd t (keep p l) ≡ firstEnd u l
 unfolding firstEnd keep
 kept t u p g h [] = refl
-kept t u p g h (e ∷ l) = by (p e) refl (kept t u p g h l)
-  where
-    by : (b : Bool) → p e ≡ b → firstEnd t (keep p l) ≡ firstEnd u l → firstEnd t (cond b (e ∷ keep p l) (keep p l)) ≡ cond (u e) (suc (e / 2)) (firstEnd u l)
-    by true q r = rw (g e q, r)
-    by false q r = rw (h e q) r
+kept t u p g h (e ∷ l) = elim (p e) as (λ b. p e ≡ b → firstEnd t (keep p l) ≡ firstEnd u l → firstEnd t (cond b (e ∷ keep p l) (keep p l)) ≡ cond (u e) (suc (e / 2)) (firstEnd u l)) [
+  | true ↦ λ q r. rw (g e q, r)
+  | false ↦ λ q r. rw (h e q) r
+] refl (kept t u p g h l)
 
 -- of the wires of some ends
 wires : (v : Words) (w : ℕ → Wire) → ((e : ℕ) → w e .row ≡ e / 2) → (l : List ℕ) → firstBy v (map w l) ≡ firstEnd (λ e. beyondLeg v (w e)) l

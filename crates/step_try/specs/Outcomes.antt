@@ -1,11 +1,7 @@
 -- What a step's outcome is answered by, and the refusals 15 to 17 in turn, by their places. Assumes nothing.
-use Prim.Native.Nat.{ℕ, zero, suc}
-use mathlib.Core.Path.{_≡_, refl, sym, ap, _∙_}
-use mathlib.Core.List.{List}
-use native.Mathlib.Omega.{arith}
+use Rattle.whole.specs.Plain.{ℕ, zero, suc, _≡_, refl, sym, ap, _∙_, List, arith, Words}
 use Rattle.paper.specs.declared.Advance.{Advance}
 use Rattle.paper.specs.declared.Advance.the-variants.{Took, Range, Unbalanced, History}
-use Rattle.whole.specs.Lists.{Words}
 use Rattle.paper.specs.Rows.{limit}
 use Rattle.paper.specs.Areas.{Net, branchNumber, freeOf, fixed}
 use Rattle.paper.specs.Sources.{injected}
@@ -32,8 +28,8 @@ tried-stop k {s} {v} {x} e = record {
 same-move : {bs cs : List Branch} {v w : Words} → move bs v ≡ move cs w → v ≡ w
 same-move e = cc
 
-pub tried-move : (k : ℕ) {s : Step} {bs : List Branch} {v w : Words} → s ≡ move bs w → v ≡ w → Tried k s v (Took k)
-tried-move k e f = record { answer = sym (ap (answered k) e); volts = λ cs u g. f ∙ same-move (sym e ∙ g) }
+pub tried-move : (k : ℕ) {s : Step} (bs : List Branch) {v w : Words} → s ≡ move bs w → v ≡ w → Tried k s v (Took k)
+tried-move k bs e f = record { answer = sym (ap (answered k) e); volts = λ cs u g. f ∙ same-move (sym e ∙ g) }
 
 -- ---- the refusals in turn, by their places
 abbrev pub inTurn : Net → List Branch → Words → ℕ → ℕ → Step

@@ -1,31 +1,21 @@
 -- A step tried on what is kept for it: what it goes by, what it leaves in the lines, and that it is the paper's step. Assumes nothing.
-use Prim.Native.Nat.{ℕ, zero, suc, _+_, _-_, _≤_, _<_}
-use mathlib.Core.Path.{_≡_, refl, sym, ap, _∙_}
-use mathlib.Core.Bool.{Bool, true, false, cond}
-use mathlib.Core.List.{List, [], _∷_, map}
-use native.Mathlib.Omega.{arith}
-use lib.ListN.{length, getD, take, length-map, length-set}
-use lib.Seq.{getD-set-other}
-use lib.Dec.{T}
-use lib.IntN.{ℤ, pos}
-use lib.Signed.{nonNeg}
+use Rattle.whole.specs.Plain.{ℕ, zero, suc, _+_, _-_, _≤_, _<_, _≡_, refl, sym, ap, _∙_, Bool, true, false, cond, List}
+use Rattle.whole.specs.Plain.{[], _∷_, map, T, ℤ, pos, nonNeg, length, getD, take, arith, Words, z, word, nat}
 use lib.Ieee.{Float}
 use Rattle.paper.specs.declared.Advance.{Advance}
 use Rattle.paper.specs.declared.Advance.the-variants.{Took, Range, Unbalanced, History}
-use Rattle.whole.specs.Lists.{Words, z, word, nat}
-use Rattle.whole.specs.Folds.{getD-map}
 use Rattle.whole.specs.Size.{∣_∣≤_}
 use Rattle.paper.specs.Limits as Limits
 use Rattle.paper.specs.Rows as Rows
-use Rattle.paper.specs.Rows.{isVS, isIS}
+use Rattle.paper.specs.Rows.{isFixing, isIS}
 use Rattle.paper.specs.Areas.{Net, fixed, freeOf, areaOf, branchNumber}
 use Rattle.paper.specs.Sources.{injected}
 use Rattle.paper.specs.Elimination.{voltages}
 use Rattle.paper.specs.Legs.{Leg, Branch, legsOf, heard, bothLegs}
 use Rattle.paper.specs.Floating.{floating}
-use Rattle.paper.specs.Solve.{Step, stop, solve, stillOf, system, proposed, outOfRange, settled, unbalanced, firstBeyond}
+use Rattle.paper.specs.Solve.{stop, solve, stillOf, system, proposed, outOfRange, settled, unbalanced, firstBeyond}
 use Rattle.facts.specs.Nets.{NetSound}
-use Rattle.plan_ends.specs.Own.{ownEnds, sourceLines, FrameOf}
+use Rattle.plan_ends.specs.Own.{sourceLines}
 use Rattle.plan_rows.specs.declared.Row.{Row}
 use Rattle.plan_rows.specs.Planned.{rowIn, rowOf, Planned}
 use Rattle.step_legs.specs.Wires.{wireIn, legsIn, wiresIn, Sized}
@@ -35,18 +25,16 @@ use Rattle.step_factors.specs.Factors.{Serves}
 use Rattle.step_factors.specs.Positions.{bare}
 use Rattle.step_factors.specs.Proposed.{matrixOf}
 use Rattle.step_sources.specs.Table.{Sources, given}
-use Rattle.step_sources.specs.Own.{own-sources, own-still, own-injected}
-use Rattle.step_sources.specs.Still.{still-volts}
+use Rattle.step_sources.specs.Own.{own-sources, own-still, own-injected, still-volts}
 use Rattle.step_histories.specs.Heard.{heardLine}
 use Rattle.step_histories.specs.Laws.{heard-laid}
-use Rattle.step_own.specs.Ends.{legOfEnd, bareOfEnd, Kept}
-use Rattle.step_own.specs.Laid.{Conducting, Laid, wires-are, legs-are, bares-are, laid-sized}
+use Rattle.step_own.specs.Ends.{Kept}
+use Rattle.step_own.specs.Laid.{Laid, wires-are, legs-are, bares-are, laid-sized}
 use Rattle.step_own.specs.Branches.{legs-length}
 use Rattle.step_own.specs.Paper as Own
 use Rattle.step_floating.specs.Free.{free-node, free-nodes}
 use Rattle.step_floating.specs.Local.{floating-joins, joins-bare}
-use Rattle.step_flow.specs.Found.{flown, flown-length, flown-word}
-use Rattle.step_flow.specs.Flown.{Long}
+use Rattle.step_flow.specs.Flown.{flown, Long}
 use Rattle.step_flow.specs.Beyond.{beyondLeg, firstBy}
 use Rattle.step_prepare.specs.Serving.{Serving}
 use Rattle.step_solve.specs.Settling.{Solved, settled-volts}
@@ -72,43 +60,6 @@ pub record Known (plan : List (List ℕ)) (sources : List Words) (free : List �
   pub net : Net
   pub area : ℕ
   pub trying : Trying net area plan sources free legs f recs froms tos at
-
--- the lines keep what the network and the switches settle
-pub record SameBut (before after : List Words) : Type 0 where
-  pub long : length after ≡ length before
-  pub nine : (j : ℕ) → j < length before → length (getD after j []) ≡ length (getD before j [])
-  pub word : (j i : ℕ) → j < length before → i < 6 → word (getD after j []) i ≡ word (getD before j []) i
-
-pub same-then : {a b c : List Words} → SameBut a b → SameBut b c → SameBut a c
-same-then s t = record {
-  long = t .long ∙ s .long;
-  nine = λ j h. t .nine j (omega (arith, s .long)) ∙ s .nine j h;
-  word = λ j i h l. t .word j i (omega (arith, s .long)) l ∙ s .word j i h l;
-}
-
-pub map-same : (g : Words → Words) (legs : List Words) → ((l : Words) → length (g l) ≡ length l) → ((l : Words) (i : ℕ) → i < 6 → word (g l) i ≡ word l i) → SameBut legs (map g legs)
-map-same g legs long same = record {
-  long = length-map legs g;
-  nine = λ j h. ap length (getD-map g legs j [] [] h) ∙ long (getD legs j []);
-  word = λ j i h l. ap (λ (m : Words). word m i) (getD-map g legs j [] [] h) ∙ same (getD legs j []) i l;
-}
-
-pub frame-same : {N : Net} {e : ℕ} {l m : Words} → length m ≡ length l → ((i : ℕ) → i < 6 → word m i ≡ word l i) → FrameOf N e l → FrameOf N e m
-frame-same n w f = record {
-  long = n ∙ f .long;
-  near = w 0 (omega arith) ∙ f .near;
-  far = w 1 (omega arith) ∙ f .far;
-  row = w 2 (omega arith) ∙ f .row;
-  end = w 3 (omega arith) ∙ f .end;
-  kind = w 4 (omega arith) ∙ f .kind;
-}
-
--- so they conduct as before
-pub conducting-same : {N : Net} {a k : ℕ} {before after : List Words} → SameBut before after → Conducting N a k before → Conducting N a k after
-conducting-same s c = record {
-  framed = record { long = s .long ∙ c .framed .long; line = λ j h. let l : j < _ = rw (s .long) at h in frame-same (s .nine j l) (λ i q. s .word j i l q) (c .framed .line j l) };
-  g = λ j h. let l : j < _ = rw (s .long) at h in s .word j 5 l (omega arith) ∙ c .g j l;
-}
 
 abbrev pub branches : Net → ℕ → ℕ → Words → Words → Words → List Branch
 branches N a k recs froms tos = legsOf N a k recs (heard N a k froms tos)
@@ -241,7 +192,7 @@ module _ {N : Net} {a : ℕ} {plan : List (List ℕ)} {sources : List Words} {fr
           go zero (suc h) x y w =
               let m : suc h ≤ 0 + length bs = omega (arith, y, beyond-most (found N a k bs) 0 bs) in
               rw w (tried-stop k (turns ∙ rw (sym x) (on-history N bs (found N a k bs) {b = 0} (suc h) none refl y (λ o. omega arith) ∙ ap (λ (n : ℕ). stop (History n)) (sym (number h m)))))
-          go zero zero x y w = rw w (tried-move k (turns ∙ rw (sym x) (on-none N bs (found N a k bs) {b = 0} none refl (sym y))) (volts-are z))
+          go zero zero x y w = rw w (tried-move k bs (turns ∙ rw (sym x) (on-none N bs (found N a k bs) {b = 0} none refl (sym y))) (volts-are z))
 
 -- ---- what its parts leave
 module _ {N : Net} {a : ℕ} {plan : List (List ℕ)} {sources : List Words} {free : List ℕ} {legs : List Words} {f : List (List Float)} {recs froms tos : Words} {at : At}
@@ -249,8 +200,8 @@ module _ {N : Net} {a : ℕ} {plan : List (List ℕ)} {sources : List Words} {fr
   pub heard-from : {after : List Words} → after ≡ map (heardLine plan recs froms tos (at .k)) legs → Laid N a (at .k) recs froms tos after
   heard-from e = rw e (heard-laid (t .sound) (t .planned) (t .serving .conducts) recs froms tos)
 
-  pub still-from : {v : Words} → v ≡ given isVS (at .k) sources → v ≡ stillOf N a (at .k)
-  still-from e = e ∙ ap (given isVS (at .k)) (t .sources-are) ∙ own-still N (t .sound) a (at .k) (t .one)
+  pub still-from : {v : Words} → v ≡ given isFixing (at .k) sources → v ≡ stillOf N a (at .k)
+  still-from e = e ∙ ap (given isFixing (at .k)) (t .sources-are) ∙ own-still N (t .sound) a (at .k) (t .one)
 
   pub inject-from : {inject : Words} → inject ≡ given isIS (at .k) sources → (n : ℕ) → areaOf N n ≡ a → word inject n ≡ injected N (at .k) n
   inject-from e n q = rw (e, t .sources-are) (own-injected N (t .sound) a (at .k) (t .one) n q)
@@ -258,19 +209,11 @@ module _ {N : Net} {a : ℕ} {plan : List (List ℕ)} {sources : List Words} {fr
   pub drives : Sources sources
   drives = rw (t .sources-are) (own-sources N (t .sound) a)
 
-  pub volts-from : {v : Words} → v ≡ given isVS (at .k) sources → Volts v
+  pub volts-from : {v : Words} → v ≡ given isFixing (at .k) sources → Volts v
   volts-from e = rw (still-from e) (still-volts N (t .sound) (at .k) a)
 
   pub serves-from : {after : List Words} → Laid N a (at .k) recs froms tos after → Serves (at .base) (length free) (matrixOf (map bare (legsIn after)) free) f
   serves-from l = rw (bares-are (l .conducting), t .free-are) (t .serving .serves)
-
--- the lines keep what they have of the network and the switches
-pub heard-same : (plan : List (List ℕ)) (recs froms tos : Words) (k : ℕ) (legs : List Words) {after : List Words} → after ≡ map (heardLine plan recs froms tos k) legs → SameBut legs after
-unfolding heardLine
-heard-same plan recs froms tos k legs e = rw e (map-same (heardLine plan recs froms tos k) legs (λ l. length-set l 6 _) (λ l i q. getD-set-other l 6 i _ z (λ o. omega arith)))
-
-pub flown-same : (v : Words) (legs : List Words) {after : List Words} → after ≡ map (flown v) legs → SameBut legs after
-flown-same v legs e = rw e (map-same (flown v) legs (λ l. flown-length v l) (λ l i q. flown-word v l i (omega arith)))
 
 -- what was found is in the range
 pub found-volts : (legs : List Leg) (free : List ℕ) (still v : Words) (inject : ℕ → ℤ) → Volts still → v ≡ settled free (proposed legs free still inject) still → Volts v

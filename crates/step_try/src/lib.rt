@@ -1,16 +1,14 @@
 // One step of one area tried, on what is kept for its switches' positions: 15, 16 and 17 in turn, or the voltages. Nothing lent for the study is written.
-ghost use mathlib.Core.Path.{_≡_};
-ghost use mathlib.Core.List.{map};
-ghost use Prim.Native.Nat.{ℕ, _-_};
-ghost use Rattle.whole.specs.Lists.{word, nat};
+ghost use Rattle.whole.specs.Plain.{ℕ, _-_, _≡_, map, word, nat};
 ghost use Rattle.whole.specs.Loans.{was, is};
 ghost use Rattle.paper.specs.Areas.{Net};
 ghost use Rattle.paper.specs.Solve.{unbalanced};
 ghost use Rattle.plan_rows.specs.Planned.{rowIn};
 ghost use Rattle.step_legs.specs.Wires.{legsIn, wiresIn};
-ghost use Rattle.step_flow.specs.Found.{flown};
+ghost use Rattle.step_legs.specs.Written.{SameBut};
+ghost use Rattle.step_flow.specs.Flown.{flown};
 ghost use Rattle.step_flow.specs.Beyond.{firstBy};
-ghost use Rattle.step_try.specs.Trying.{Trying, Known, SameBut, Flow, inFlow, Tries};
+ghost use Rattle.step_try.specs.Trying.{Trying, Known, Flow, inFlow, Tries};
 use paper::Advance;
 use plan_rows::Table;
 use step_factors::Matrix;
@@ -40,7 +38,10 @@ fn flowing(
     at: At,
 ) -> Advance
     requires { ⌜ Flow (now legs) (now free) (now inject) (now v) at ⌝ }
-    ensures { λ r. ⌜ r ≡ inFlow (at .k) (unbalanced (nat (at .limit)) (legsIn (was legs)) (λ p. word (was inject) p) (was v) (was free)) (firstBy (was v) (wiresIn (was legs))) (rowIn (was plan) (firstBy (was v) (wiresIn (was legs)) - 1) .number) ⌝ }
+    ensures { λ r. ⌜ r
+        ≡ inFlow (at .k)
+        (unbalanced (nat (at .limit)) (legsIn (was legs)) (λ p. word (was inject) p) (was v) (was free))
+        (firstBy (was v) (wiresIn (was legs))) (rowIn (was plan) (firstBy (was v) (wiresIn (was legs)) - 1) .number) ⌝ }
     ensures { λ _. ⌜ is legs ≡ map (flown (was v)) (was legs) ⌝ }
 {
     let sums = step_flow::flow(legs, v);
@@ -67,8 +68,11 @@ pub fn try_step<'a>(
     tos: &'a [i64],
     at: At,
 ) -> Outcome
-    requires { ⌜ Known (now plan) (now sources) (now free) (now legs) (now factors) (now records) (now froms) (now tos) at ⌝ }
-    ensures { λ r. ⌜ ((N : Net) (a : ℕ) → Trying N a (was plan) (was sources) (was free) (was legs) (was factors) (was records) (was froms) (was tos) at → Tries N a (at .k) (was records) (was froms) (was tos) (is legs) r) ⌝ }
+    requires { ⌜ Known (now plan) (now sources) (now free) (now legs) (now factors) (now records) (now froms) (now tos)
+        at ⌝ }
+    ensures { λ r. ⌜ ((N : Net) (a : ℕ)
+        → Trying N a (was plan) (was sources) (was free) (was legs) (was factors) (was records) (was froms) (was tos) at
+        → Tries N a (at .k) (was records) (was froms) (was tos) (is legs) r) ⌝ }
     ensures { λ _. ⌜ SameBut (was legs) (is legs) ⌝ }
 {
     step_histories::hear(plan, legs, records, froms, tos, at.k);

@@ -1,19 +1,11 @@
 -- No test of a row can tell a number that is held at the end from the true one. Assumes nothing.
-use Prim.Native.Nat.{ℕ, zero, suc, _+_, _-_, _≤_, _<_}
-use native.Mathlib.Omega.{arith}
-use mathlib.Core.Path.{_≡_, refl, sym, _∙_, ap, subst}
-use mathlib.Core.Bool.{Bool, true, false, not, cond, _&&_, _||_, false≢true}
-use mathlib.Core.List.{List, [], _∷_, tail, map}
-use borrow.Author.Tests.{leb-true, ltb-true, ltb-false}
-use lib.Dec.{leb, ltb}
-use lib.IntN.{ℤ, pos, negsuc, negℤ, natAbs}
-use lib.Signed.{leZ}
-use lib.Seq.{ext-getD}
-use lib.ListN.{getD, length, drop, List·getD-map, List·getD-eq-default}
+use Rattle.whole.specs.Plain.{ℕ, zero, suc, _-_, _≤_, _<_, _≡_, refl, sym, _∙_, ap, Bool, true, false, _&&_, false≢true}
+use Rattle.whole.specs.Plain.{List, [], _∷_, tail, map, leb, ltb, ℤ, pos, negsuc, natAbs, leZ, length, length-map}
+use Rattle.whole.specs.Plain.{List·getD-map, List·getD-eq-default, ext-getD, leb-true, ltb-true, decLt, arith, Words, z}
+use Rattle.whole.specs.Plain.{word, between, every, count}
 use Rattle.whole.specs.Int.{abs-neg}
-use Rattle.whole.specs.Lists.{Words, z, word, between, every, count}
-use Rattle.whole.specs.Folds.{and-left, and-right, or-left, or-right, every-at}
-use Rattle.paper.specs.Rows.{Row, Field, bytes, kinds, kind, fieldsOf}
+use Rattle.whole.specs.Folds.{and-left, and-right, or-left, every-at}
+use Rattle.paper.specs.Rows.{Row, Field, bytes, kinds, branchKind, sourceKind, kind, fieldsOf}
 use Rattle.paper.specs.Faults.{outside, nodeFault, valueFault, lineFault}
 use Rattle.kinds.specs.Table.{namesOf, low, high, anyOutside, outsideFrom}
 use Rattle.faults.specs.Laws.{none-first}
@@ -34,11 +26,7 @@ abs-cap (pos n) = refl
 abs-cap (negsuc n) = abs-neg (pos (cap (suc n)))
 
 cap-below : (n : ℕ) → cap n < heldEnd → n < heldEnd
-cap-below n h = by-test (ltb n heldEnd) refl
-  where
-    by-test : (t : Bool) → ltb n heldEnd ≡ t → n < heldEnd
-    by-test true e = ltb-true n heldEnd e
-    by-test false e = let c : cap n ≡ heldEnd = cap-large n (ltb-false n heldEnd e) in absurd (omega arith)
+cap-below n h = elim (decLt n heldEnd) [ yes l ↦ l | no l ↦ absurd (omega (arith, cap-large n (omega arith))) ]
 
 in-small : (l h x : ℤ) → natAbs l < heldEnd → natAbs h < heldEnd → between l h x ≡ true → natAbs x < heldEnd
 unfolding between
@@ -66,11 +54,11 @@ noField = record { names = false; low = z; high = z }
 
 field-small : (k i : ℕ) → k < 8 → (ltb (natAbs (low k i)) heldEnd && ltb (natAbs (high k i)) heldEnd) ≡ true
 unfolding low high
-field-small k i h = by-test (ltb i (length (fieldsOf k))) refl
-  where
-    by-test : (t : Bool) → ltb i (length (fieldsOf k)) ≡ t → (ltb (natAbs (getD (fieldsOf k) i noField .low)) heldEnd && ltb (natAbs (getD (fieldsOf k) i noField .high)) heldEnd) ≡ true
-    by-test true e = every-at (λ (f : Field). ltb (natAbs (f .low)) heldEnd && ltb (natAbs (f .high)) heldEnd) (fieldsOf k) noField i (ends-small k h) (ltb-true i (length (fieldsOf k)) e)
-    by-test false e = let g : length (fieldsOf k) ≤ i = ltb-false i (length (fieldsOf k)) e in rw (List·getD-eq-default (fieldsOf k) noField g)
+field-small k i h =
+    elim (decLt i (length (fieldsOf k))) [
+      | yes l ↦ every-at (λ (f : Field). ltb (natAbs (f .low)) heldEnd && ltb (natAbs (f .high)) heldEnd) (fieldsOf k) noField i (ends-small k h) l
+      | no l ↦ let g : length (fieldsOf k) ≤ i = omega arith in rw (low, high, List·getD-eq-default (fieldsOf k) noField g)
+    ]
 
 low-small : (k i : ℕ) → k < 8 → natAbs (low k i) < heldEnd
 low-small k i h = ltb-true _ heldEnd (and-left _ (ltb (natAbs (high k i)) heldEnd) (field-small k i h))
@@ -99,18 +87,12 @@ unfolding capZ cap
 capZ-zero = refl
 
 pub held-kind : (w : Words) → kind (heldRow w) ≡ kind w
-unfolding heldRow
-held-kind [] = refl
-held-kind (x ∷ w) = refl
+held-kind w = rw (held-first w)
 
 pub held-length : (w : Words) → length (heldRow w) ≡ length w
 unfolding heldRow
 held-length [] = refl
-held-length (x ∷ w) = ap suc (go w)
-  where
-    go : (l : Words) → length (map capZ l) ≡ length l
-    go [] = refl
-    go (y ∷ l) = ap suc (go l)
+held-length (x ∷ w) = ap suc (length-map w capZ)
 
 held-any : (k : ℕ) → k < 8 → (i n : ℕ) (w : Words) → anyOutside k i n (heldRow w) ≡ anyOutside k i n w
 unfolding anyOutside
@@ -125,7 +107,7 @@ held-outside k h i e w = held-any k h i (e - i) w
 
 -- NODE asks for the fields that name a node alone
 nodes-alike : (k : ℕ) → k < 8 → (w v : Words) → (0 < namesOf k → word w 1 ≡ word v 1) → (1 < namesOf k → word w 2 ≡ word v 2) → nodeFault (words k w) ≡ nodeFault (words k v)
-unfolding words namesOf nodeFault outside fieldsOf kinds bytes count
+unfolding words namesOf nodeFault outside fieldsOf branchKind sourceKind kinds bytes count
 nodes-alike k h w v = each (λ k. (0 < namesOf k → word w 1 ≡ word v 1) → (1 < namesOf k → word w 2 ≡ word v 2) → nodeFault (words k w) ≡ nodeFault (words k v))
     (λ p q. refl)
     (λ p q. rw (p (omega arith), q (omega arith)))
@@ -144,14 +126,6 @@ node-out w e = rw e
 value-out : (head : Row) (w : Words) → outside false (fieldsOf (kind w)) (tail w) ≡ true → valueFault head w ≡ true
 unfolding valueFault
 value-out head w e = rw e
-
-node-in : (w : Words) → nodeFault w ≡ false → outside true (fieldsOf (kind w)) (tail w) ≡ false
-unfolding nodeFault
-node-in w f = or-left _ _ (or-left _ _ (or-left _ _ f))
-
-value-in : (head : Row) (w : Words) → valueFault head w ≡ false → outside false (fieldsOf (kind w)) (tail w) ≡ false
-unfolding valueFault
-value-in head w f = or-left _ _ (or-left _ _ f)
 
 module _ (w : Words) (few : 6 ≤ length w) (known : kind w < 8) where
   -- a field that passes is held as it is
@@ -183,20 +157,15 @@ module _ (w : Words) (few : 6 ≤ length w) (known : kind w < 8) where
     all-same : outsideFrom (kind w) 0 (namesOf (kind w)) w ≡ false → outsideFrom (kind w) (namesOf (kind w)) (length (fieldsOf (kind w))) w ≡ false → heldRow w ≡ w
     all-same a b = ext-getD z (heldRow w) w (held-length w) at
       where
-        past : (j : ℕ) → length (fieldsOf (kind w)) ≤ j → word (heldRow w) (suc j) ≡ word w (suc j)
-        past j h = held-word w j ∙ rw (none j h) capZ-zero
-
-        value : (j : ℕ) → namesOf (kind w) ≤ j → (t : Bool) → ltb j (length (fieldsOf (kind w))) ≡ t → word (heldRow w) (suc j) ≡ word w (suc j)
-        value j l true e = field-same (namesOf (kind w)) (length (fieldsOf (kind w))) j b l (ltb-true j (length (fieldsOf (kind w))) e)
-        value j l false e = past j (ltb-false j (length (fieldsOf (kind w))) e)
-
-        one : (j : ℕ) → (t : Bool) → ltb j (namesOf (kind w)) ≡ t → word (heldRow w) (suc j) ≡ word w (suc j)
-        one j true e = field-same 0 (namesOf (kind w)) j a (omega arith) (ltb-true j (namesOf (kind w)) e)
-        one j false e = value j (ltb-false j (namesOf (kind w)) e) (ltb j (length (fieldsOf (kind w)))) refl
+        value : (j : ℕ) → namesOf (kind w) ≤ j → Dec (j < length (fieldsOf (kind w))) → word (heldRow w) (suc j) ≡ word w (suc j)
+        value j l (yes h) = field-same (namesOf (kind w)) (length (fieldsOf (kind w))) j b l h
+        value j l (no h) = held-word w j ∙ rw (none j (omega arith)) capZ-zero
 
         at : (i : ℕ) → i < length (heldRow w) → word (heldRow w) i ≡ word w i
         at zero h = held-first w
-        at (suc j) h = one j (ltb j (namesOf (kind w))) refl
+        at (suc j) h =
+            elim (decLt j (namesOf (kind w)))
+            [ yes l ↦ field-same 0 (namesOf (kind w)) j a (omega arith) l | no l ↦ value j (omega arith) (decLt j (length (fieldsOf (kind w)))) ]
 
     pub held-fault : (head : Row) (before : List Row) → lineFault head before (heldRow w) ≡ lineFault head before w
     unfolding lineFault
@@ -210,8 +179,8 @@ module _ (w : Words) (few : 6 ≤ length w) (known : kind w < 8) where
 
     -- a row without fault is held as it is
     pub held-same : (head : Row) (before : List Row) → lineFault head before w ≡ 0 → heldRow w ≡ w
-    unfolding lineFault
+    unfolding lineFault nodeFault valueFault
     held-same head before e =
         let n = none-first (nodeFault w) 1 _ e in
         let v = none-first (valueFault head w) 2 _ (n .1) in
-        all-same (outside-names w few (kind w) known ∙ node-in w (n .0)) (outside-values w few (kind w) known ∙ value-in head w (v .0))
+        all-same (outside-names w few (kind w) known ∙ or-left _ _ (or-left _ _ (or-left _ _ (n .0)))) (outside-values w few (kind w) known ∙ or-left _ _ (or-left _ _ (v .0)))

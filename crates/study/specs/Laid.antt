@@ -1,17 +1,12 @@
 -- One row more in the record: its eight words in their place, and the number of rows. Assumes nothing.
-use Prim.Native.Nat.{ℕ, zero, suc, _+_, _*_, _-_, _≤_, _<_}
-use native.Mathlib.Omega.{arith}
-use mathlib.Core.Path.{_≡_, refl, sym, _∙_, ap, subst}
-use mathlib.Core.Bool.{Bool, true, false, cond}
-use mathlib.Core.List.{List, [], _∷_, _++_, tail, append-assoc, append-nil}
-use lib.IntN.{ℤ, pos}
-use lib.ListN.{getD, length, drop, take, set, replicate, length-append, length-replicate}
+use Rattle.whole.specs.Plain.{ℕ, suc, _+_, _*_, _-_, _≤_, _<_, _≡_, refl, sym, _∙_, ap, cond, List, [], _∷_, _++_}
+use Rattle.whole.specs.Plain.{append-assoc, append-nil, ℤ, pos, getD, length, drop, take, set, replicate, length-append}
+use Rattle.whole.specs.Plain.{length-replicate, take-suc, length-take-le, sets, sets-eq, take-at, drop-append-add}
+use Rattle.whole.specs.Plain.{set-append-left, arith, Words, z, word, filled}
 use native.Mathlib.Numerals.{add-one}
-use lib.Seq.{take-suc, length-take-le, sets, sets-eq, take-at, drop-append-add, set-append-left}
-use Rattle.whole.specs.Lists.{Words, z, word, filled}
 use Rattle.whole.specs.Filled.{length-filled}
 use Rattle.paper.specs.Rows.{Row, isStudy}
-use Rattle.paper.specs.Network.{Table, laid, networkOf}
+use Rattle.paper.specs.Network.{laid, networkOf}
 use Rattle.whole.specs.Repeats.{drop-replicate}
 
 -- what the reader writes for the row n, and for the study's
@@ -100,27 +95,19 @@ put-row-at k a b c rows r f g h =
     let w = filled 8 z r in
     let e : length w ≡ 8 = length-filled 8 z r g in
     let v : n + 1 ≡ length (rows ++ (r ∷ [])) = sym (length-append rows (r ∷ [])) in
-    ap (λ (y : Words). set (sets y (8 + 8 * n) w) 3 (pos (n + 1))) (whole a b c k rows)
-    ∙ ap (λ (y : Words). set y 3 (pos (n + 1))) (placed a b c n (laid rows) w f e h)
-    ∙ numbered a b c n (laid rows) w f e h (pos (n + 1)) (replicate (1024 - (8 + 8 * n + 8)) z)
-    ∙ closed-up a b c n (laid rows) w f e h (pos (n + 1)) (laid (rows ++ (r ∷ []))) (laid-one rows r)
-    ∙ ap (λ (j : ℕ). filled 1024 z (top a b c (pos j) ++ laid (rows ++ (r ∷ [])))) v
-    ∙ sym (whole a b c k (rows ++ (r ∷ [])))
+    let room = replicate (1024 - (8 + 8 * n + 8)) z in
+    rw (whole a b c k rows, whole a b c k (rows ++ (r ∷ [])), placed a b c n (laid rows) w f e h, numbered a b c n (laid rows) w f e h (pos (n + 1)) room, ← v)
+    (closed-up a b c n (laid rows) w f e h (pos (n + 1)) (laid (rows ++ (r ∷ []))) (laid-one rows r))
 
 pub put-row : (t0 : Row) (rows : List Row) (r : Row) → length t0 ≡ 4 → length (laid rows) ≡ 8 * length rows → length r ≤ 8 → length rows < 80
     → putRow (length rows) (filled 8 z r) (networkOf (t0 ∷ rows)) ≡ networkOf (t0 ∷ (rows ++ (r ∷ [])))
-put-row t0 rows r e f g h =
-    subst (λ (q : Row). putRow (length rows) (filled 8 z r) (networkOf (q ∷ rows)) ≡ networkOf (q ∷ (rows ++ (r ∷ [])))) (sym (four t0 e))
-    (put-row-at (word t0 0) (word t0 1) (word t0 2) (word t0 3) rows r f g h)
+put-row t0 rows r e f g h = rw (four t0 e) (put-row-at (word t0 0) (word t0 1) (word t0 2) (word t0 3) rows r f g h)
 
 -- ---- the study's row
 
-put-study-at : (k a b c : ℤ) → putStudy (filled 8 z (k ∷ a ∷ b ∷ c ∷ [])) (networkOf []) ≡ networkOf ((k ∷ a ∷ b ∷ c ∷ []) ∷ [])
-unfolding putStudy networkOf filled laid
-put-study-at k a b c = refl
-
 pub put-study : (r : Row) → length r ≡ 4 → putStudy (filled 8 z r) (networkOf []) ≡ networkOf (r ∷ [])
-put-study r e = subst (λ (q : Row). putStudy (filled 8 z q) (networkOf []) ≡ networkOf (q ∷ [])) (sym (four r e)) (put-study-at (word r 0) (word r 1) (word r 2) (word r 3))
+unfolding putStudy networkOf filled laid
+put-study r e = rw (four r e)
 
 pub network-none : networkOf [] ≡ replicate 1024 z
 unfolding networkOf filled laid

@@ -1,20 +1,14 @@
 -- A line that is well formed, and the row that is read of it. Assumes nothing.
-use Prim.Native.Nat.{ℕ, zero, suc, _+_, _*_, _-_, _≤_, _<_}
-use native.Mathlib.Omega.{arith}
-use mathlib.Core.Path.{_≡_, refl, sym, _∙_, ap, subst}
-use mathlib.Core.Bool.{Bool, true, false, not, cond, _&&_, _||_, Bool·beq, false≢true}
-use mathlib.Core.List.{List, [], _∷_, _++_, tail, map}
-use borrow.Author.Tests.{eqb-false, not-true}
-use lib.Dec.{eqb}
-use lib.IntN.{ℤ, pos}
-use lib.ListN.{getD, length, drop, take, replicate, length-append, length-replicate, List·getD-eq-default}
-use lib.Seq.{take-at}
-use Rattle.whole.specs.Lists.{Words, z, word, empty, filled}
-use Rattle.whole.specs.Folds.{and-left, and-right}
+use Rattle.whole.specs.Plain.{ℕ, zero, suc, _+_, _-_, _≤_, _<_, _≡_, refl, sym, _∙_, ap, subst, Bool, true, false, not}
+use Rattle.whole.specs.Plain.{Bool·beq, false≢true, List, [], _∷_, _++_, tail, map, eqb, pos, getD, length, length-map}
+use Rattle.whole.specs.Plain.{replicate, List·getD-eq-default, take-at, eqb-false, not-true, arith, Words, z, word}
+use Rattle.whole.specs.Plain.{empty, filled}
+use Rattle.whole.specs.Folds.{and-left, and-right, map-append}
 use Rattle.whole.specs.Filled.{length-filled, getD-filled}
 use Rattle.paper.specs.Rows.{Row, Field, kind, fieldsOf, noKind, isStudy}
+use Rattle.paper.specs.Classes.{kind-count}
 use Rattle.paper.specs.Faults.{lineFault, rowFault}
-use Rattle.paper.specs.Text.{LF, TAB, split, allSpelt, spelt, numberOf, numbersOf, lineKind, rowOf}
+use Rattle.paper.specs.Text.{TAB, split, allSpelt, spelt, numberOf, numbersOf, lineKind, rowOf}
 use Rattle.paper.specs.Network.{Table, rowOfWords}
 use Rattle.kinds.specs.Fields.{fields-few}
 use Rattle.faults.specs.declared.Seen.{Seen}
@@ -28,10 +22,6 @@ use Rattle.study.specs.Texts.{spelled}
 
 -- ---- lists
 
-map-append : (l m : Words) → map capZ (l ++ m) ≡ map capZ l ++ map capZ m
-map-append [] m = refl
-map-append (x ∷ l) m = ap (λ (r : Words). capZ x ∷ r) (map-append l m)
-
 map-zeros : (n : ℕ) → map capZ (replicate n z) ≡ replicate n z
 map-zeros zero = refl
 map-zeros (suc n) = rw capZ-zero (ap (λ (r : Words). z ∷ r) (map-zeros n))
@@ -40,11 +30,6 @@ capped-map : (ps : List (List ℕ)) → capped ps ≡ map capZ (numbersOf ps)
 unfolding capped numbersOf
 capped-map [] = refl
 capped-map (p ∷ ps) = ap (λ (r : Words). capZ (numberOf p) ∷ r) (capped-map ps)
-
-capped-length : (ps : List (List ℕ)) → length (capped ps) ≡ length (numbersOf ps)
-unfolding capped numbersOf
-capped-length [] = refl
-capped-length (p ∷ ps) = ap suc (capped-length ps)
 
 numbers-length : (fs : List Field) (ps : List (List ℕ)) → allSpelt fs ps ≡ true → length (numbersOf ps) ≡ length fs
 unfolding allSpelt numbersOf
@@ -72,9 +57,9 @@ module _ (line : List ℕ) (ok : spelled line ≡ true) where
 
   pub known : lineKind line < 8
   known =
-      let n : eqb (lineKind line) 8 ≡ false = not-true _ (and-left (not (eqb (lineKind line) noKind)) (allSpelt (fieldsOf (lineKind line)) (tail (split TAB line))) ok) in
-      let m : lineKind line ≡ 8 → ⊥ = eqb-false (lineKind line) 8 n in
-      omega (arith, line-most line)
+      let n : eqb (lineKind line) noKind ≡ false = not-true _ (and-left (not (eqb (lineKind line) noKind)) (allSpelt (fieldsOf (lineKind line)) (tail (split TAB line))) ok) in
+      let m : lineKind line ≡ noKind → ⊥ = eqb-false (lineKind line) noKind n in
+      omega (arith, line-most line, kind-count)
 
   some : length (numbersOf (tail (split TAB line))) ≡ length (fieldsOf (lineKind line))
   some = numbers-length (fieldsOf (lineKind line)) (tail (split TAB line)) (and-right (not (eqb (lineKind line) noKind)) (allSpelt (fieldsOf (lineKind line)) (tail (split TAB line))) ok)
@@ -107,8 +92,8 @@ module _ (line : List ℕ) (ok : spelled line ≡ true) where
       let ps = tail (split TAB line) in
       let x = pos (lineKind line) in
       let m = 8 - suc (length (numbersOf ps)) in
-      let e : m ≡ 8 - suc (length (capped ps)) = rw (capped-length ps) in
-      ap (λ (l : Words). x ∷ l) (map-append (numbersOf ps) (replicate m z) ∙ ap (λ (l : Words). map capZ (numbersOf ps) ++ l) (map-zeros m))
+      let e : m ≡ 8 - suc (length (capped ps)) = rw (capped-map ps, length-map) in
+      ap (λ (l : Words). x ∷ l) (map-append capZ (numbersOf ps) (replicate m z) ∙ ap (λ (l : Words). map capZ (numbersOf ps) ++ l) (map-zeros m))
       ∙ ap (λ (l : Words). x ∷ (l ++ replicate m z)) (sym (capped-map ps))
       ∙ ap (λ (j : ℕ). x ∷ (capped ps ++ replicate j z)) e
 

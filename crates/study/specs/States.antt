@@ -1,28 +1,20 @@
 -- The text as far as it is read. Assumes nothing.
-use Prim.Native.Nat.{ℕ, zero, suc, _+_, _*_, _-_, _≤_, _<_}
-use native.Mathlib.Omega.{arith}
-use mathlib.Core.Path.{_≡_, refl, sym, _∙_, ap, subst}
-use mathlib.Core.Bool.{Bool, true, false, not, cond, _&&_, _||_, Bool·beq, false≢true, true≢false}
-use mathlib.Core.List.{List, [], _∷_, _++_, tail}
-use borrow.Author.Tests.{eqb-true, eqb-false, eq-eqb, ne-eqb}
-use lib.Dec.{eqb, leb}
-use lib.IntN.{ℤ, pos}
-use lib.ListN.{getD, length, drop, replicate, length-append, length-replicate, drop-of-length-le}
-use lib.Seq.{drop-cons, drop-drop}
-use Rattle.whole.specs.Lists.{Words, z, empty, filled}
+use Rattle.whole.specs.Plain.{ℕ, suc, _+_, _*_, _-_, _≤_, _<_, _≡_, refl, sym, _∙_, ap, Bool, true, false, cond, _&&_}
+use Rattle.whole.specs.Plain.{Bool·beq, true≢false, List, [], _∷_, _++_, tail, eqb, getD, length, drop, replicate}
+use Rattle.whole.specs.Plain.{length-append, length-replicate, eqb-true, eqb-false, arith, Words, z, empty, filled}
 use Rattle.whole.specs.Filled.{length-filled}
-use Rattle.paper.specs.Rows.{Row, bytes, kinds, kind, fieldsOf, isStudy, isBranch, isSource}
+use Rattle.paper.specs.Rows.{bytes, kinds, fieldsOf, branchKind, sourceKind, isStudy}
+use Rattle.paper.specs.Classes.{one-sort}
 use Rattle.paper.specs.Text.{lineKind, rowOf}
 use Rattle.paper.specs.Network.{Table, laid, networkOf}
-use Rattle.paper.specs.Reading.{Lines, good, bad, lineNumber, taken, linesOf}
-use Rattle.kinds.specs.Fields.{each}
+use Rattle.paper.specs.Reading.{Lines, good, bad, lineNumber, linesOf}
 use Rattle.faults.specs.declared.Seen.{Seen}
-use Rattle.faults.specs.Seen.{Held, nothingSeen, seenFault, seenAfter}
+use Rattle.faults.specs.Seen.{nothingSeen, seenFault, seenAfter}
 use Rattle.faults.specs.Stands.{Stands, stands-none}
 use Rattle.line.specs.declared.Walk.{Walk}
 use Rattle.study.specs.declared.Progress.{Progress}
-use Rattle.study.specs.Laid.{putRow, putStudy, putLine, put-row, put-study, laid-one, network-none}
-use Rattle.study.specs.Texts.{linesFrom, from-start, from-end, from-line, from-bad, from-open, spelled, line-form, line-place, line-fault}
+use Rattle.study.specs.Laid.{putLine, put-row, put-study, laid-one, network-none}
+use Rattle.study.specs.Texts.{linesFrom, from-start, spelled}
 use Rattle.study.specs.Held.{heldRow}
 use Rattle.study.specs.Rows as Line
 
@@ -67,30 +59,23 @@ pub record Ends (ls : Lines) (p : Progress) (net : Words) : Type 0 where
 
 -- ---- before the first line
 
-kept-none : Kept nothingSeen []
-unfolding laid
-kept-none = record { rows = refl; wide = refl; head = λ e. absurd (true≢false e) }
-
 pub started : (text : List ℕ) (net : Words) → net ≡ replicate 1024 z → State text (record { at = 0; line = 1; fault = 0; seen = nothingSeen }) net
+unfolding laid
 started text net e =
+    let none : Kept nothingSeen [] = record { rows = refl; wide = refl; head = λ e. absurd (true≢false e) } in
     record {
       inside = omega arith;
       lines = omega arith;
       wide = rw e (length-replicate 1024 z);
-      fine = λ _. record { t = []; line = refl; stands = stands-none; kept = kept-none; written = e ∙ sym network-none; rest = from-start text };
+      fine = λ _. record { t = []; line = refl; stands = stands-none; kept = none; written = e ∙ sym network-none; rest = from-start text };
       faulty = λ n. absurd (n refl);
     }
 
 -- ---- a line without fault
 
 -- a row after the study's is a branch or a source
-one-of : (k : ℕ) → k < 8 → eqb k 0 ≡ false → cond (leb 1 k && leb k 5) 1 0 + cond (eqb k 6 || eqb k 7) 1 0 ≡ 1
-one-of = each (λ k. eqb k 0 ≡ false → cond (leb 1 k && leb k 5) 1 0 + cond (eqb k 6 || eqb k 7) 1 0 ≡ 1)
-    (λ e. absurd (true≢false e)) (λ e. refl) (λ e. refl) (λ e. refl) (λ e. refl) (λ e. refl) (λ e. refl) (λ e. refl)
-
-study-length : (k : ℕ) → k ≡ 0 → suc (length (fieldsOf k)) ≡ 4
-unfolding fieldsOf kinds bytes
-study-length k e = rw e
+one-of : (k : ℕ) → k < 8 → eqb k 0 ≡ false → cond (branchKind k) 1 0 + cond (sourceKind k) 1 0 ≡ 1
+one-of k h n = let q : k ≡ 0 → ⊥ = eqb-false k 0 n in one-sort k (omega arith) (omega arith)
 
 module _ (line : List ℕ) (ok : spelled line ≡ true) (s : Seen) where
   abbrev held : Words
@@ -104,11 +89,12 @@ module _ (line : List ℕ) (ok : spelled line ≡ true) (s : Seen) where
   counted n = rw (Line.kind-held line ok) (omega (arith, one-of (lineKind line) (Line.known line ok) n))
 
   uncounted : lineKind line ≡ 0 → seenAfter s held .branches + seenAfter s held .sources ≡ s .branches + s .sources
-  unfolding seenAfter
+  unfolding seenAfter branchKind sourceKind kinds
   uncounted e = rw (Line.kind-held line ok, e) (omega arith)
 
   study-four : lineKind line ≡ 0 → length (rowOf line) ≡ 4
-  study-four e = Line.row-length line ok ∙ study-length (lineKind line) e
+  unfolding fieldsOf kinds bytes
+  study-four e = Line.row-length line ok ∙ rw e
 
   pub kept-after : (t : Table) → inPlace t → Kept s t → Kept (seenAfter s held) (t ++ (rowOf line ∷ []))
   unfolding laid

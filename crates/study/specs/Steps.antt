@@ -1,19 +1,14 @@
 -- One line more, and the end of the text. Assumes nothing.
-use Prim.Native.Nat.{ℕ, zero, suc, _+_, _*_, _-_, _≤_, _<_}
-use native.Mathlib.Omega.{arith}
-use mathlib.Core.Path.{_≡_, refl, sym, _∙_, ap, subst}
-use mathlib.Core.Bool.{Bool, true, false, not, cond, _&&_, _||_, Bool·beq, false≢true, true≢false}
-use mathlib.Core.List.{List, [], _∷_, _++_, tail}
-use borrow.Author.Tests.{eqb-true, eqb-false, eq-eqb, ne-eqb, ltb-false}
-use lib.Dec.{eqb, ltb}
-use lib.ListN.{getD, length, drop, set, length-append, length-set, length-drop, drop-of-length-le}
-use lib.Seq.{drop-cons, drop-drop, sets, length-sets}
-use Rattle.whole.specs.Lists.{Words, z, empty, any, filled}
+use Rattle.whole.specs.Plain.{ℕ, zero, suc, _+_, _-_, _≤_, _<_, _≡_, refl, sym, _∙_, ap, subst, Bool, true, false, cond}
+use Rattle.whole.specs.Plain.{_&&_, _||_, Bool·beq, false≢true, List, [], _∷_, _++_, eqb, ltb, getD, length, drop}
+use Rattle.whole.specs.Plain.{length-append, length-set, length-drop, drop-of-length-le, drop-cons, drop-drop}
+use Rattle.whole.specs.Plain.{length-sets, eq-eqb, ne-eqb, ltb-false, ℕ-discrete, arith, Words, z, empty, any, filled}
 use Rattle.whole.specs.Folds.{and-left, and-right}
 use Rattle.paper.specs.Rows.{Row, kind, isStudy}
 use Rattle.paper.specs.Faults.{rowFault}
 use Rattle.paper.specs.Text.{lineKind, rowOf}
-use Rattle.paper.specs.Network.{Table, networkOf}
+use Rattle.paper.specs.Kept.{either}
+use Rattle.paper.specs.Network.{Table}
 use Rattle.paper.specs.Reading.{Lines, good, bad, lineNumber, taken, lineRead, closed, linesOf}
 use Rattle.faults.specs.declared.Seen.{Seen}
 use Rattle.faults.specs.Seen.{seenFault, seenAfter}
@@ -27,7 +22,7 @@ use Rattle.study.specs.Held.{heldRow}
 use Rattle.study.specs.Laid.{putRow, putStudy, putLine}
 use Rattle.study.specs.Texts.{linesFrom, from-end, from-line, from-bad, from-open, spelled, line-form, line-place, line-fault}
 use Rattle.study.specs.Rows as Line
-use Rattle.study.specs.States.{faultSeen, closedUp, Kept, Fine, State, Accepted, Ends, inPlace, kept-after, room, put-here}
+use Rattle.study.specs.States.{faultSeen, closedUp, Kept, Fine, State, Ends, inPlace, kept-after, room, put-here}
 
 -- ---- small laws
 
@@ -43,19 +38,12 @@ first-line (r ∷ t) = ne-eqb (lineNumber (r ∷ t)) 1 (λ (e : lineNumber (r �
 line-within : (u : List ℕ) → ended u ≡ true → length (lineOf u) < length u
 unfolding any before
 line-within [] e = absurd (false≢true e)
-line-within (b ∷ u) e = by-test (isLF b) refl (line-within u)
-  where
-    by-test : (x : Bool) → isLF b ≡ x → (ended u ≡ true → length (lineOf u) < length u) → length (kept (isLF b) b (lineOf u)) < suc (length u)
-    by-test true f ih = rw f (omega arith)
-    by-test false f ih = rw f (let h : length (lineOf u) < length u = ih (sym (ap (λ (y : Bool). y || ended u) f) ∙ e) in omega arith)
+line-within (b ∷ u) e =
+    elim (isLF b) as (λ x. (x || ended u) ≡ true → length (kept x b (lineOf u)) < suc (length u)) [ true ↦ λ g. omega arith | false ↦ λ g. omega (arith, line-within u g) ] e
 
 put-length : (n : ℕ) (w l : Words) → length (putLine n w l) ≡ length l
 unfolding putLine putRow putStudy
-put-length n w l = by-test (isStudy w)
-  where
-    by-test : (x : Bool) → length (cond x (putStudy w l) (putRow n w l)) ≡ length l
-    by-test true = simp length-set
-    by-test false = simp (length-set, length-sets)
+put-length n w l = either (λ (v : Words). length v ≡ length l) (isStudy w) (putStudy w l) (putRow n w l) (simp length-set) (simp (length-set, length-sets))
 
 pub record Right (w : Walk) (s : Seen) (first : Bool) : Type 0 where
   pub ok : w .ok ≡ true
@@ -64,16 +52,10 @@ pub record Right (w : Walk) (s : Seen) (first : Bool) : Type 0 where
 
 pub no-fault : (w : Walk) (s : Seen) (first : Bool) → faultSeen w s first ≡ 0 → Right w s first
 unfolding faultSeen
-no-fault w s first e = by-test (w .ok && Bool·beq first (isStudy (w .row))) refl
-  where
-    by-test : (x : Bool) → (w .ok && Bool·beq first (isStudy (w .row))) ≡ x → Right w s first
-    by-test true f =
-        record {
-          ok = and-left (w .ok) (Bool·beq first (isStudy (w .row))) f;
-          place = and-right (w .ok) (Bool·beq first (isStudy (w .row))) f;
-          right = sym (ap (λ (y : Bool). cond y (seenFault s (w .row)) 1) f) ∙ e;
-        }
-    by-test false f = let g : _≡_ {A = ℕ} 1 0 = sym (ap (λ (y : Bool). cond y (seenFault s (w .row)) 1) f) ∙ e in absurd (omega arith)
+no-fault w s first e =
+    let p = Bool·beq first (isStudy (w .row)) in
+    elim (w .ok && p) as (λ x. (w .ok && p) ≡ x → cond x (seenFault s (w .row)) 1 ≡ 0 → Right w s first)
+    [ true ↦ λ f g. record { ok = and-left (w .ok) p f; place = and-right (w .ok) p f; right = g } | false ↦ λ f g. absurd (omega arith) ] refl e
 
 -- ---- one line more
 
@@ -90,9 +72,6 @@ module _ (text : List ℕ) (p : Progress) (net : Words) (st : State text p net) 
   abbrev first : Bool
   first = eqb (p .line) 1
 
-  first-is : first ≡ empty (now .t)
-  first-is = ap (λ (n : ℕ). eqb n 1) (now .line) ∙ first-line (now .t)
-
   over : ended left ≡ true → linesOf text ≡ linesFrom (lineRead (good (now .t)) (lineOf left)) (drop (suc (length (lineOf left))) left)
   over x = sym (now .rest) ∙ from-line (good (now .t)) left x
 
@@ -101,13 +80,12 @@ module _ (text : List ℕ) (p : Progress) (net : Words) (st : State text p net) 
   stop x f b = over x ∙ ap (λ (ls : Lines). linesFrom ls (drop (suc (length (lineOf left))) left)) b ∙ from-bad (lineNumber (now .t)) f (drop (suc (length (lineOf left))) left) ∙ ap (λ (n : ℕ). bad n f) (sym (now .line))
 
   form : w .ok ≡ false → linesOf text ≡ bad (p .line) 1
-  form o = by-end (ended left) refl
-    where
-      by-end : (x : Bool) → ended left ≡ x → linesOf text ≡ bad (p .line) 1
-      by-end true x = stop x 1 (line-form (now .t) (lineOf left) (sym (ap (λ (y : Bool). y && spelled (lineOf left)) x) ∙ sym (reads .verdict) ∙ o))
-      by-end false x =
-          let c = drop-cons text (p .at) 0 more in
-          sym (now .rest) ∙ ap (linesFrom (good (now .t))) c ∙ from-open (now .t) (getD text (p .at) 0) (drop (suc (p .at)) text) (sym (ap ended c) ∙ x) ∙ ap (λ (n : ℕ). bad n 1) (sym (now .line))
+  form o =
+      let c = drop-cons text (p .at) 0 more in
+      elim (ended left) as (λ x. ended left ≡ x → linesOf text ≡ bad (p .line) 1) [
+        | true ↦ λ x. stop x 1 (line-form (now .t) (lineOf left) (sym (ap (λ (y : Bool). y && spelled (lineOf left)) x) ∙ sym (reads .verdict) ∙ o))
+        | false ↦ λ x. sym (now .rest) ∙ rw c (from-open (now .t) (getD text (p .at) 0) (drop (suc (p .at)) text) (sym (ap ended c) ∙ x)) ∙ ap (λ (n : ℕ). bad n 1) (sym (now .line))
+      ] refl
 
   module _ (o : w .ok ≡ true) where
     ends : ended left ≡ true
@@ -126,7 +104,7 @@ module _ (text : List ℕ) (p : Progress) (net : Words) (st : State text p net) 
     study-is = ap isStudy row-is ∙ ap (λ (k : ℕ). eqb k 0) (Line.kind-held (lineOf left) spelt)
 
     place-is : Bool·beq first (isStudy (w .row)) ≡ Bool·beq (empty (now .t)) (eqb (lineKind (lineOf left)) 0)
-    place-is = rw (first-is, study-is)
+    place-is = rw (ap (λ (n : ℕ). eqb n 1) (now .line) ∙ first-line (now .t), study-is)
 
     fault-is : Bool·beq first (isStudy (w .row)) ≡ true → seenFault (p .seen) (w .row) ≡ rowFault (now .t) (rowOf (lineOf left))
     fault-is q = ap (seenFault (p .seen)) row-is ∙ Line.found (lineOf left) spelt (p .seen) (now .t) (now .stands) (sym place-is ∙ q)
@@ -136,19 +114,16 @@ module _ (text : List ℕ) (p : Progress) (net : Words) (st : State text p net) 
 
   pub refused : (f : ℕ) → f ≡ faultSeen w (p .seen) first → (f ≡ 0 → ⊥) → linesOf text ≡ bad (p .line) f
   unfolding faultSeen
-  refused f g n = by-ok (w .ok) refl
+  refused f g n = by-place (w .ok) refl (Bool·beq first (isStudy (w .row))) refl
     where
-      by-place : (o : w .ok ≡ true) (x : Bool) → Bool·beq first (isStudy (w .row)) ≡ x → linesOf text ≡ bad (p .line) f
-      by-place o true q =
+      by-place : (y : Bool) → w .ok ≡ y → (x : Bool) → Bool·beq first (isStudy (w .row)) ≡ x → linesOf text ≡ bad (p .line) f
+      by-place true o true q =
           let h : f ≡ seenFault (p .seen) (w .row) = g ∙ rw (o, q) in
           stop (ends o) f (read o q ∙ ap (taken (now .t) (rowOf (lineOf left))) (sym h) ∙ taken-bad (now .t) (rowOf (lineOf left)) f n)
-      by-place o false q =
+      by-place true o false q =
           let h : f ≡ 1 = g ∙ rw (o, q) in
           stop (ends o) 1 (line-place (now .t) (lineOf left) (spelt o) (sym (place-is o) ∙ q)) ∙ ap (bad (p .line)) (sym h)
-
-      by-ok : (x : Bool) → w .ok ≡ x → linesOf text ≡ bad (p .line) f
-      by-ok true o = by-place o (Bool·beq first (isStudy (w .row))) refl
-      by-ok false o = let h : f ≡ 1 = g ∙ rw o in form o ∙ ap (bad (p .line)) (sym h)
+      by-place false o x q = let h : f ≡ 1 = g ∙ rw o in form o ∙ ap (bad (p .line)) (sym h)
 
   -- a faulty line leaves all as it was
   pub halted : (f : ℕ) → f ≡ faultSeen w (p .seen) first → (f ≡ 0 → ⊥) → State text (record { at = p .at; line = p .line; fault = f; seen = p .seen }) net
@@ -204,34 +179,22 @@ module _ (text : List ℕ) (p : Progress) (net : Words) (st : State text p net) 
 
 -- ---- the end
 
-closed-none : (t : Table) → empty t ≡ true → closed [] (good t) ≡ bad (lineNumber t) 1
-unfolding closed
-closed-none t e = rw e
-
-closed-some : (t : Table) → empty t ≡ false → closed [] (good t) ≡ good t
-unfolding closed
-closed-some t e = rw e
-
 pub ended-all : (text : List ℕ) (p : Progress) (net : Words) → State text p net → (eqb (p .fault) 0 && ltb (p .at) (length text)) ≡ false → Ends (linesOf text) (closedUp p) net
-unfolding closedUp
-ended-all text p net st e = by-fault (eqb (p .fault) 0) refl
-  where
-    past : eqb (p .fault) 0 ≡ true → (t : Table) → linesFrom (good t) (drop (p .at) text) ≡ linesOf text → linesOf text ≡ closed [] (good t)
-    past f t r =
-        let l : length text ≤ p .at = ltb-false (p .at) (length text) (sym (ap (λ (x : Bool). x && ltb (p .at) (length text)) f) ∙ e) in
-        sym r ∙ ap (linesFrom (good t)) (drop-of-length-le text l) ∙ from-end (good t)
-
-    by-line : (f : eqb (p .fault) 0 ≡ true) (g : Fine text p net) (x : Bool) → empty (g .t) ≡ x → Ends (linesOf text) (cond (eqb (p .line) 1) (record { at = p .at; line = p .line; fault = 1; seen = p .seen }) p) net
-    by-line f g true x =
-        rw (ap (λ (n : ℕ). eqb n 1) (g .line) ∙ first-line (g .t) ∙ x)
-        (record { accepted = λ n. absurd (omega (arith, n)); refused = λ _. past f (g .t) (g .rest) ∙ closed-none (g .t) x ∙ ap (λ (n : ℕ). bad n 1) (sym (g .line)) })
-    by-line f g false x =
-        rw (ap (λ (n : ℕ). eqb n 1) (g .line) ∙ first-line (g .t) ∙ x)
-        (record { accepted = λ _. record { t = g .t; lines = past f (g .t) (g .rest) ∙ closed-some (g .t) x; written = g .written }; refused = λ n. absurd (n (eqb-true (p .fault) 0 f)) })
-
-    by-fault : (x : Bool) → eqb (p .fault) 0 ≡ x → Ends (linesOf text) (cond (eqb (p .fault) 0 && eqb (p .line) 1) (record { at = p .at; line = p .line; fault = 1; seen = p .seen }) p) net
-    by-fault true f = rw f (by-line f (st .fine (eqb-true (p .fault) 0 f)) (empty (st .fine (eqb-true (p .fault) 0 f) .t)) refl)
-    by-fault false f = rw f (record { accepted = λ n. absurd (eqb-false (p .fault) 0 f n); refused = st .faulty })
+unfolding closedUp closed
+ended-all text p net st e =
+    elim (ℕ-discrete (p .fault) 0) [
+      | yes f ↦
+          let g = st .fine f in
+          let first : eqb (p .line) 1 ≡ empty (g .t) = ap (λ (n : ℕ). eqb n 1) (g .line) ∙ first-line (g .t) in
+          let l : length text ≤ p .at = ltb-false (p .at) (length text) (rw (eq-eqb (p .fault) 0 f) at e) in
+          let past : linesOf text ≡ closed [] (good (g .t)) = sym (g .rest) ∙ ap (linesFrom (good (g .t))) (drop-of-length-le text l) ∙ from-end (good (g .t)) in
+          rw (eq-eqb (p .fault) 0 f)
+          (elim (empty (g .t)) as (λ x. empty (g .t) ≡ x → Ends (linesOf text) (cond (eqb (p .line) 1) (record { at = p .at; line = p .line; fault = 1; seen = p .seen }) p) net) [
+            | true ↦ λ x. rw (first ∙ x) (record { accepted = λ n. absurd (omega (arith, n)); refused = λ _. past ∙ rw (x, g .line) })
+            | false ↦ λ x. rw (first ∙ x) (record { accepted = λ _. record { t = g .t; lines = past ∙ rw x; written = g .written }; refused = λ n. absurd (n f) })
+          ] refl)
+      | no f ↦ rw (ne-eqb (p .fault) 0 f) (record { accepted = λ n. absurd (f n); refused = st .faulty })
+    ]
 
 -- ---- what is left to do falls
 

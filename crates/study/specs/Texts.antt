@@ -1,15 +1,10 @@
 -- The lines of a text, one after the other. Assumes nothing.
-use Prim.Native.Nat.{ℕ, zero, suc, _+_, _≤_, _<_}
-use native.Mathlib.Omega.{arith}
-use mathlib.Core.Path.{_≡_, refl, sym, _∙_, ap, subst}
-use mathlib.Core.Bool.{Bool, true, false, not, cond, _&&_, _||_, Bool·beq, false≢true}
-use mathlib.Core.List.{List, [], _∷_, _++_, tail}
-use lib.Dec.{eqb}
-use lib.ListN.{length, drop}
-use Rattle.whole.specs.Lists.{empty, lead, final, fold}
-use Rattle.paper.specs.Rows.{Row, noKind, fieldsOf}
+use Rattle.whole.specs.Plain.{ℕ, suc, _≡_, refl, ap, Bool, true, false, not, cond, _&&_, Bool·beq, and-false, List, []}
+use Rattle.whole.specs.Plain.{_∷_, tail, eqb, length, drop, empty, lead, final, fold}
+use Rattle.whole.specs.Folds.{and-left, and-right}
+use Rattle.paper.specs.Rows.{noKind, fieldsOf}
 use Rattle.paper.specs.Faults.{rowFault}
-use Rattle.paper.specs.Text.{LF, TAB, split, cut, push, allSpelt, lineKind, formed, rowOf}
+use Rattle.paper.specs.Text.{LF, TAB, split, cut, allSpelt, lineKind, formed, rowOf}
 use Rattle.paper.specs.Network.{Table}
 use Rattle.paper.specs.Reading.{Lines, good, bad, lineNumber, faultOf, taken, lineRead, closed, linesOf}
 use Rattle.line.specs.Parts.{ended, lineOf, split-ended, split-open}
@@ -53,14 +48,10 @@ pub from-bad : (l f : ℕ) (s : List ℕ) → linesFrom (bad l f) s ≡ bad l f
 unfolding linesFrom closed
 from-bad l f s = rw (bad-fold l f (lead (split LF s)))
 
-alone : (t : Table) (b : ℕ) (s : List ℕ) → closed (final [] ((b ∷ s) ∷ [])) (fold lineRead (good t) (lead ((b ∷ s) ∷ []))) ≡ bad (lineNumber t) 1
-unfolding closed final lead fold
-alone t b s = refl
-
 -- "Lines end in LF, the last one too"
 pub from-open : (t : Table) (b : ℕ) (s : List ℕ) → ended (b ∷ s) ≡ false → linesFrom (good t) (b ∷ s) ≡ bad (lineNumber t) 1
-unfolding linesFrom
-from-open t b s e = rw (split-open (b ∷ s) e) (alone t b s)
+unfolding linesFrom closed final lead fold
+from-open t b s e = rw (split-open (b ∷ s) e)
 
 -- ---- one line
 
@@ -72,14 +63,6 @@ no-form true true c e = e
 no-form true false c e = refl
 no-form false b c e = refl
 
-no-place : (a b c : Bool) → b ≡ false → ((a && b) && c) ≡ false
-no-place true b c e = rw e
-no-place false b c e = refl
-
-all-three : (a b c : Bool) → (a && c) ≡ true → b ≡ true → ((a && b) && c) ≡ true
-all-three true b c e f = rw f e
-all-three false b c e f = absurd (false≢true e)
-
 module _ (t : Table) (line : List ℕ) where
   pub line-form : spelled line ≡ false → lineRead (good t) line ≡ bad (lineNumber t) 1
   unfolding lineRead faultOf formed
@@ -87,8 +70,8 @@ module _ (t : Table) (line : List ℕ) where
 
   pub line-place : spelled line ≡ true → Bool·beq (empty t) (eqb (lineKind line) 0) ≡ false → lineRead (good t) line ≡ bad (lineNumber t) 1
   unfolding lineRead faultOf formed
-  line-place e f = ap (λ (x : Bool). taken t (rowOf line) (cond x (rowFault t (rowOf line)) 1)) (no-place (not (eqb (lineKind line) noKind)) (Bool·beq (empty t) (eqb (lineKind line) 0)) (allSpelt (fieldsOf (lineKind line)) (tail (split TAB line))) f)
+  line-place e f = rw (f, and-false (not (eqb (lineKind line) noKind)))
 
   pub line-fault : spelled line ≡ true → Bool·beq (empty t) (eqb (lineKind line) 0) ≡ true → lineRead (good t) line ≡ taken t (rowOf line) (rowFault t (rowOf line))
   unfolding lineRead faultOf formed
-  line-fault e f = ap (λ (x : Bool). taken t (rowOf line) (cond x (rowFault t (rowOf line)) 1)) (all-three (not (eqb (lineKind line) noKind)) (Bool·beq (empty t) (eqb (lineKind line) 0)) (allSpelt (fieldsOf (lineKind line)) (tail (split TAB line))) e f)
+  line-fault e f = let k = not (eqb (lineKind line) noKind) in let s = allSpelt (fieldsOf (lineKind line)) (tail (split TAB line)) in rw (and-left k s e, f, and-right k s e)

@@ -1,11 +1,7 @@
 // All lines of the study text, one after the other, into a network record; or the first faulty line and its fault.
-ghost use mathlib.Core.Path.{_≡_};
-ghost use mathlib.Core.Bool.{true, false, _&&_, Bool·beq};
-ghost use Prim.Native.Nat.{_≤_, _<_, _+_};
-ghost use lib.Dec.{eqb, ltb};
-ghost use lib.IntN.{pos};
-ghost use lib.ListN.{length, replicate};
-ghost use lib.Seq.{sets};
+ghost use Rattle.whole.specs.Plain.{_≤_, _<_, _+_, _≡_, true, false, _&&_, Bool·beq, eqb, ltb, pos, length, replicate};
+ghost use Rattle.whole.specs.Plain.{sets};
+ghost use Rattle.whole.specs.Loans.{was, is};
 ghost use Rattle.paper.specs.Rows.{kind, isStudy};
 ghost use Rattle.paper.specs.Reading.{linesOf};
 ghost use Rattle.faults.specs.Seen.{Held};
@@ -27,7 +23,7 @@ pub struct Progress {
 
 fn lay(net: &mut [i64], place: usize, row: [i64; 8])
     requires { ⌜ place + 8 ≤ length (now net) ⌝ }
-    ensures { λ _. ⌜ now (net .exit) ≡ sets (now (net .entry)) place row ⌝ }
+    ensures { λ _. ⌜ is net ≡ sets (was net) place row ⌝ }
 {
     let mut i = 0;
     while i < 8 {
@@ -39,7 +35,7 @@ fn lay(net: &mut [i64], place: usize, row: [i64; 8])
 
 fn put_row(net: &mut [i64], n: usize, row: [i64; 8])
     requires { ⌜ (length (now net) ≡ 1024) × (n < 80) ⌝ }
-    ensures { λ _. ⌜ now (net .exit) ≡ putRow n row (now (net .entry)) ⌝ }
+    ensures { λ _. ⌜ is net ≡ putRow n row (was net) ⌝ }
 {
     lay(net, 8 + 8 * n, row);
     net[3] = (n + 1) as i64;
@@ -47,7 +43,7 @@ fn put_row(net: &mut [i64], n: usize, row: [i64; 8])
 
 fn put_study(net: &mut [i64], row: [i64; 8])
     requires { ⌜ length (now net) ≡ 1024 ⌝ }
-    ensures { λ _. ⌜ now (net .exit) ≡ putStudy row (now (net .entry)) ⌝ }
+    ensures { λ _. ⌜ is net ≡ putStudy row (was net) ⌝ }
 {
     let length = row[1];
     let steps = row[2];
@@ -59,7 +55,7 @@ fn put_study(net: &mut [i64], row: [i64; 8])
 
 fn put_line(net: &mut [i64], n: usize, row: [i64; 8])
     requires { ⌜ (length (now net) ≡ 1024) × ((kind row < 8) × (isStudy row ≡ false → n < 80)) ⌝ }
-    ensures { λ _. ⌜ now (net .exit) ≡ putLine n row (now (net .entry)) ⌝ }
+    ensures { λ _. ⌜ is net ≡ putLine n row (was net) ⌝ }
 {
     if faults::kind_of(row) == 0 {
         put_study(net, row);
@@ -100,7 +96,7 @@ fn fault_of(walk: Walk, seen: Seen, first: bool) -> u64
 
 fn next_line(text: &[u8], p: Progress, net: &mut [i64]) -> Progress
     requires { ⌜ (State (now text) p (now net)) × ((p .fault ≡ 0) × (p .at < length (now text))) ⌝ }
-    ensures { λ r. ⌜ Next (now (text .entry)) p r (now (net .exit)) ⌝ }
+    ensures { λ r. ⌜ Next (was text) p r (is net) ⌝ }
 {
     let at = p.at;
     let seen = p.seen;
@@ -151,7 +147,7 @@ fn closed(p: Progress) -> Progress
 
 pub fn read_study(text: &[u8], net: &mut [i64]) -> Progress
     requires { ⌜ now net ≡ replicate 1024 (pos 0) ⌝ }
-    ensures { λ r. ⌜ Ends (linesOf (now (text .entry))) r (now (net .exit)) ⌝ }
+    ensures { λ r. ⌜ Ends (linesOf (was text)) r (is net) ⌝ }
 {
     let seen = faults::nothing_seen();
     let mut p = Progress {

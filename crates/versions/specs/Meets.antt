@@ -1,12 +1,8 @@
 -- What demands 1 and 2 ask of any version of `advance`: its answers are exact, its accepted steps are the paper's, its refusals change nothing. The
 -- paper's definition meets this, and no other version does. Assumes nothing.
-use Prim.Native.Nat.{ℕ, _≤_}
-use mathlib.Core.Path.{_≡_, refl, sym, ap, _∙_}
-use mathlib.Core.Logic.{_↔_}
-use mathlib.Core.Bool.{true, false}
+use Rattle.whole.specs.Plain.{ℕ, _≤_, _≡_, refl, sym, ap, _∙_, _↔_, true, false, Words}
 use Rattle.paper.specs.declared.Advance.{Advance}
 use Rattle.paper.specs.declared.Advance.the-variants.{Took, Store, Network, State, Area, Done, Wait, Floating, Range, Unbalanced, History}
-use Rattle.whole.specs.Lists.{Words}
 use Rattle.paper.specs.Answers.{accepted}
 use Rattle.paper.specs.Rows.{steps}
 use Rattle.paper.specs.Network.{isNetwork}

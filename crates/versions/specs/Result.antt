@@ -1,39 +1,26 @@
 -- T-step leaves no choice: there is one memory that area a's step k may give. Assumes nothing.
-use Prim.Native.Nat.{ℕ, zero, suc, _-_, _≤_, _<_}
-use native.Mathlib.Omega.{arith}
-use native.Mathlib.Decide.{ℕ-discrete, decLt, decLe}
-use mathlib.Core.Path.{_≡_, refl, sym, ap, _∙_, subst}
-use mathlib.Core.Logic.{_≢_}
-use mathlib.Core.Bool.{Bool, true, false, cond, _&&_, _||_, true≢false}
-use mathlib.Core.List.{List}
-use lib.ListN.{length, getD}
-use lib.Seq.{ext-getD}
-use lib.Dec.{eqb}
-use borrow.Author.Tests.{eqb-true, eq-eqb}
-use Rattle.whole.specs.Lists.{Words, z, word, numbers}
+use Rattle.whole.specs.Plain.{ℕ, zero, suc, _+_, _-_, _<_, _≡_, refl, sym, ap, _∙_, _≢_, Bool, true, false, cond, _&&_}
+use Rattle.whole.specs.Plain.{true≢false, List, eqb, length, getD, ext-getD, eqb-true, eq-eqb, ltb-true, ℕ-discrete}
+use Rattle.whole.specs.Plain.{arith, Words, z, word, numbers}
 use Rattle.whole.specs.Folds.{and-left, and-right, both, length-numbers, getD-numbers}
+use Rattle.whole.specs.Members.{Among, All, all-among}
 use Rattle.whole.specs.Places.{place, Least, place-none, place-least}
-use Rattle.paper.specs.Rows.{Row, isBranch, isL, isC, isLine, from, to}
+use Rattle.paper.specs.Rows.{Row, isLine, from, to}
 use Rattle.paper.specs.Areas.{Net, areaOf, rowArea}
-use Rattle.paper.specs.Records.{countAt, voltAt, currentAt, toCurrentAt, historyAt}
+use Rattle.paper.specs.Records.{countAt, currentAt, Section, counts, voltages, currents, toCurrents, histories, sections, ownerOf}
+use Rattle.paper.specs.Apart.{owned}
 use Rattle.paper.specs.Advance.{Memory, memory}
 use Rattle.facts.specs.Nets.{NetSound, rowAt}
-use Rattle.local.specs.Sound.{Sound, sound, line-branch}
-use Rattle.local.specs.Own.{line-no}
+use Rattle.paper.specs.Classes.{line-branch}
+use Rattle.local.specs.Sound.{row-there}
+use Rattle.local.specs.Own.{line-no, keeper}
 use Rattle.local.specs.Nodes.{NodeOf}
 use Rattle.local.specs.Slots.{slotOf}
 use Rattle.stays.specs.Stays.{Long}
 use Rattle.demands.specs.Said.{IsArea, fromCurrent, toCurrent, fromSent, toSent, Stepped}
-use Rattle.demands.specs.Histories.{keeper}
 use Rattle.versions.specs.Volts.{volt-one, plain-one, history-one, current-one, sends-one}
 
 module _ (N : Net) (s : NetSound N) (a k : ℕ) (h : IsArea N a) (m n n′ : Memory) (S : Stepped N a k m n) (S′ : Stepped N a k m n′) where
-  snd : Sound N
-  snd = sound N s
-
-  top : a ≤ 32
-  top = omega (arith, h .most, snd .areas)
-
   from-node : (i : ℕ) → i < length (N .rows) → isLine (rowAt N i) ≡ true → areaOf N (from (rowAt N i)) ≡ a → NodeOf N a (from (rowAt N i))
   from-node i t l e = record { area = e; low = s .row i t .line l .fromOff; high = s .row i t .branch (line-branch (rowAt N i) l) .fromIn .most }
 
@@ -45,110 +32,49 @@ module _ (N : Net) (s : NetSound N) (a k : ℕ) (h : IsArea N a) (m n n′ : Mem
   abbrev Same : ℕ → Type 0
   Same j = word (n .records) j ≡ word (n′ .records) j
 
-  abbrev mine : ℕ → ℕ
-  mine i = cond (isLine (rowAt N i)) (areaOf N (from (rowAt N i))) (rowArea N (rowAt N i))
+  -- a word of the area's own, by its section
+  abbrev Told : Section → Type 0
+  Told t = (i : ℕ) → t .used N i ≡ true → t .area N i ≡ a → Same (t .start + i)
 
-  -- a word that is none of those that the step writes
-  untouched : (j : ℕ) → j ≢ countAt a → ((p : ℕ) → NodeOf N a p → j ≢ voltAt p)
-      → ((i : ℕ) → i < length (N .rows) → isBranch (rowAt N i) ≡ true → mine i ≡ a → j ≢ currentAt i)
-      → ((i : ℕ) → i < length (N .rows) → isLine (rowAt N i) ≡ true → areaOf N (to (rowAt N i)) ≡ a → j ≢ toCurrentAt i)
-      → ((i : ℕ) → i < length (N .rows) → isL (rowAt N i) || isC (rowAt N i) ≡ true → rowArea N (rowAt N i) ≡ a → j ≢ historyAt i) → Same j
-  untouched j c p f t g = S .records j c p f t g ∙ sym (S′ .records j c p f t g)
+  count-told : Told counts
+  count-told i u o = let e : 0 + i ≡ countAt a = omega arith in rw e (S .count ∙ sym (S′ .count))
 
-  rows-few : (i : ℕ) → i < length (N .rows) → i < 80
-  rows-few i l = omega (arith, snd .rows)
+  volt-told : Told voltages
+  volt-told i u o =
+      let e : 32 + suc i - 1 ≡ 32 + i = omega arith in
+      rw e at (volt-one N s a k m n n′ S S′ (suc i) (record { area = o; low = omega arith; high = omega (arith, ltb-true i (N .nodes) u) }))
 
-  node-few : (p : ℕ) → NodeOf N a p → (1 ≤ p) × (p ≤ 32)
-  node-few p q = (q .low, omega (arith, q .high, snd .nodes))
-
-  count-word : (j : ℕ) → j < 32 → Same j
-  count-word j l = go (ℕ-discrete j (countAt a))
+  current-told : Told currents
+  current-told i u o = go (isLine (rowAt N i)) refl o
     where
-      go : Dec (j ≡ countAt a) → Same j
-      go (yes e) = rw e (S .count ∙ sym (S′ .count))
-      go (no e) = untouched j e (λ p q f. omega (arith, q .low)) (λ i _ _ _ f. omega arith) (λ i _ _ _ f. omega arith) (λ i _ _ _ f. omega arith)
+      t : i < length (N .rows)
+      t = row-there N i u
 
-  volt-word : (p : ℕ) → 1 ≤ p → p ≤ 32 → Same (voltAt p)
-  volt-word zero l u = absurd (omega arith)
-  volt-word (suc p) l u = go (ℕ-discrete (areaOf N (suc p)) a) (decLe (suc p) (N .nodes))
-    where
-      other : (NodeOf N a (suc p) → ⊥) → Same (voltAt (suc p))
-      other d =
-          untouched (voltAt (suc p)) (λ e. omega (arith, top, h .one)) (λ q w e. let same : q ≡ suc p = omega arith in d (rw same at w))
-          (λ i t _ _ e. omega arith) (λ i t _ _ e. omega arith) (λ i t _ _ e. omega arith)
-
-      go : Dec (areaOf N (suc p) ≡ a) → Dec (suc p ≤ N .nodes) → Same (voltAt (suc p))
-      go (yes e) (yes q) = volt-one N s a k m n n′ S S′ (suc p) (record { area = e; low = l; high = q })
-      go (yes e) (no q) = other (λ w. q (w .high))
-      go (no e) q = other (λ w. e (w .area))
-
-  current-word : (i : ℕ) → i < 80 → Same (currentAt i)
-  current-word i u = go (decLt i (length (N .rows))) (isBranch (rowAt N i)) refl (ℕ-discrete (mine i) a)
-    where
-      other : (i < length (N .rows) → isBranch (rowAt N i) ≡ true → mine i ≡ a → ⊥) → Same (currentAt i)
-      other d =
-          untouched (currentAt i) (λ e. omega (arith, top)) (λ p q e. omega (arith, node-few p q))
-          (λ j t b o e. let same : j ≡ i = omega arith in subst (λ (x : ℕ). x < length (N .rows) → isBranch (rowAt N x) ≡ true → mine x ≡ a → ⊥) (sym same) d t b o)
-          (λ j t _ _ e. omega (arith, rows-few j t)) (λ j t _ _ e. omega (arith, rows-few j t))
-
-      by-line : i < length (N .rows) → isBranch (rowAt N i) ≡ true → (x : Bool) → isLine (rowAt N i) ≡ x → cond x (areaOf N (from (rowAt N i))) (rowArea N (rowAt N i)) ≡ a → Same (currentAt i)
-      by-line t b true l o =
+      go : (x : Bool) → isLine (rowAt N i) ≡ x → cond x (areaOf N (from (rowAt N i))) (rowArea N (rowAt N i)) ≡ a → Same (currentAt i)
+      go true l o =
           current-one N s a k m n n′ S S′ i (from (rowAt N i)) (from-node i t l o) (fromCurrent n i) (fromCurrent n′ i) (fromSent N n i k) (fromSent N n′ i k) (toSent N m i) (S .from-end i t l o) (S′ .from-end i t l o)
-      by-line t b false l o = plain-one N s a k m n n′ S S′ i t b l o
+      go false l o = plain-one N s a k m n n′ S S′ i t u l o
 
-      go : Dec (i < length (N .rows)) → (x : Bool) → isBranch (rowAt N i) ≡ x → Dec (mine i ≡ a) → Same (currentAt i)
-      go (yes t) true b (yes o) = by-line t b (isLine (rowAt N i)) refl o
-      go (yes t) true b (no o) = other (λ _ _ e. o e)
-      go (yes t) false b o = other (λ _ e _. true≢false (sym e ∙ b))
-      go (no t) x b o = other (λ e _ _. t e)
+  to-told : Told toCurrents
+  to-told i l o =
+      let t = row-there N i (line-branch (rowAt N i) l) in
+      current-one N s a k m n n′ S S′ i (to (rowAt N i)) (to-node i t l o) (toCurrent n i) (toCurrent n′ i) (toSent N n i k) (toSent N n′ i k) (fromSent N m i) (S .to-end i t l o) (S′ .to-end i t l o)
 
-  to-word : (i : ℕ) → i < 80 → Same (toCurrentAt i)
-  to-word i u = go (decLt i (length (N .rows))) (isLine (rowAt N i)) refl (ℕ-discrete (areaOf N (to (rowAt N i))) a)
-    where
-      other : (i < length (N .rows) → isLine (rowAt N i) ≡ true → areaOf N (to (rowAt N i)) ≡ a → ⊥) → Same (toCurrentAt i)
-      other d =
-          untouched (toCurrentAt i) (λ e. omega (arith, top)) (λ p q e. omega (arith, node-few p q)) (λ j t _ _ e. omega (arith, rows-few j t))
-          (λ j t b o e. let same : j ≡ i = omega arith in subst (λ (x : ℕ). x < length (N .rows) → isLine (rowAt N x) ≡ true → areaOf N (to (rowAt N x)) ≡ a → ⊥) (sym same) d t b o)
-          (λ j t _ _ e. omega (arith, rows-few j t))
+  history-told : Told histories
+  history-told i c o =
+      let b = keeper (rowAt N i) c in
+      history-one N s a k m n n′ S S′ i (row-there N i b) b (line-no (rowAt N i) c) o c
 
-      go : Dec (i < length (N .rows)) → (x : Bool) → isLine (rowAt N i) ≡ x → Dec (areaOf N (to (rowAt N i)) ≡ a) → Same (toCurrentAt i)
-      go (yes t) true l (yes o) =
-          current-one N s a k m n n′ S S′ i (to (rowAt N i)) (to-node i t l o) (toCurrent n i) (toCurrent n′ i) (toSent N n i k) (toSent N n′ i k) (fromSent N m i) (S .to-end i t l o) (S′ .to-end i t l o)
-      go (yes t) true l (no o) = other (λ _ _ e. o e)
-      go (yes t) false l o = other (λ _ e _. true≢false (sym e ∙ l))
-      go (no t) x l o = other (λ e _ _. t e)
-
-  history-word : (i : ℕ) → i < 80 → Same (historyAt i)
-  history-word i u = go (decLt i (length (N .rows))) (isL (rowAt N i) || isC (rowAt N i)) refl (ℕ-discrete (rowArea N (rowAt N i)) a)
-    where
-      other : (i < length (N .rows) → isL (rowAt N i) || isC (rowAt N i) ≡ true → rowArea N (rowAt N i) ≡ a → ⊥) → Same (historyAt i)
-      other d =
-          untouched (historyAt i) (λ e. omega (arith, top)) (λ p q e. omega (arith, node-few p q)) (λ j t _ _ e. omega (arith, rows-few j t)) (λ j t _ _ e. omega (arith, rows-few j t))
-          (λ j t b o e. let same : j ≡ i = omega arith in subst (λ (x : ℕ). x < length (N .rows) → isL (rowAt N x) || isC (rowAt N x) ≡ true → rowArea N (rowAt N x) ≡ a → ⊥) (sym same) d t b o)
-
-      go : Dec (i < length (N .rows)) → (x : Bool) → isL (rowAt N i) || isC (rowAt N i) ≡ x → Dec (rowArea N (rowAt N i) ≡ a) → Same (historyAt i)
-      go (yes t) true c (yes o) = history-one N s a k m n n′ S S′ i t (keeper (rowAt N i) c) (line-no (rowAt N i) c) o c
-      go (yes t) true c (no o) = other (λ _ _ e. o e)
-      go (yes t) false c o = other (λ _ e _. true≢false (sym e ∙ c))
-      go (no t) x c o = other (λ e _ _. t e)
-
-  rest-word : (j : ℕ) → 304 ≤ j → Same j
-  rest-word j l =
-      untouched j (λ e. omega (arith, top)) (λ p q e. omega (arith, node-few p q)) (λ i t _ _ e. omega (arith, rows-few i t)) (λ i t _ _ e. omega (arith, rows-few i t)) (λ i t _ _ e. omega (arith, rows-few i t))
+  told : {t : Section} → Among t sections → Told t
+  unfolding sections All
+  told = all-among Told sections (count-told, (volt-told, (current-told, (to-told, (history-told, tt)))))
 
   record-word : (j : ℕ) → Same j
-  record-word j = go (decLt j 32) (decLt j 64) (decLt j 144) (decLt j 224) (decLt j 304)
+  record-word j = go (ℕ-discrete (ownerOf N j) a)
     where
-      at-place : (i x : ℕ) → Same i → i ≡ x → Same x
-      at-place i x p e = rw e at p
-
-      go : Dec (j < 32) → Dec (j < 64) → Dec (j < 144) → Dec (j < 224) → Dec (j < 304) → Same j
-      go (yes a) b c d e = count-word j a
-      go (no a) (yes b) c d e = at-place (voltAt (j - 31)) j (volt-word (j - 31) (omega arith) (omega arith)) (omega arith)
-      go (no a) (no b) (yes c) d e = at-place (currentAt (j - 64)) j (current-word (j - 64) (omega arith)) (omega arith)
-      go (no a) (no b) (no c) (yes d) e = at-place (toCurrentAt (j - 144)) j (to-word (j - 144) (omega arith)) (omega arith)
-      go (no a) (no b) (no c) (no d) (yes e) = at-place (historyAt (j - 224)) j (history-word (j - 224) (omega arith)) (omega arith)
-      go (no a) (no b) (no c) (no d) (no e) = rest-word j (omega arith)
+      go : Dec (ownerOf N j ≡ a) → Same j
+      go (yes o) = let w = owned N a j (h .one) o in rw (w .at .is) (told (w .at .among) (w .at .place) (w .used) (w .area))
+      go (no o) = S .records j o ∙ sym (S′ .records j o)
 
   -- ---- the stores, word by word: the slot of step k of one of the area's own line ends, or untouched
 

@@ -1,21 +1,14 @@
 -- What a step of one area says leaves no choice: two memories that are the step's result have the same voltages, currents, histories and sent
 -- values. Assumes nothing.
-use Prim.Native.Nat.{ℕ, zero, suc, _+_, _-_, _≤_, _<_}
-use native.Mathlib.Omega.{arith}
-use native.Mathlib.Decide.{decLt}
-use mathlib.Core.Path.{_≡_, refl, sym, ap, _∙_}
-use mathlib.Core.Logic.{_≢_, _⊎_, inl, inr}
-use mathlib.Core.Bool.{Bool, true, false, _||_, true≢false}
-use mathlib.Core.List.{List, [], _∷_, List·Memᴰ·cases-cons, List·Memᴰ·not-nil}
-use lib.ListN.{length, getD}
-use lib.Dec.{leb}
-use lib.IntN.{ℤ, _+ℤ_}
-use borrow.Author.Tests.{eqb-true, eq-eqb, leb-true}
+use Rattle.whole.specs.Plain.{ℕ, zero, suc, _+_, _-_, _≤_, _<_, _≡_, refl, sym, ap, _∙_, _≢_, _⊎_, inl, inr, Bool, true}
+use Rattle.whole.specs.Plain.{false, _||_, true≢false, List, [], _∷_, List·Memᴰ·cases-cons, List·Memᴰ·not-nil, ℤ, _+ℤ_}
+use Rattle.whole.specs.Plain.{length, getD, eqb-true, eq-eqb, decLt, arith}
 use Rattle.paper.specs.declared.Rounded.the-variants.{Whole}
 use Rattle.whole.specs.Folds.{and-left, and-right, none-if}
 use Rattle.whole.specs.Members.{Among}
 use Rattle.whole.specs.Places.{place, place-none, place-least}
-use Rattle.paper.specs.Rows.{Row, kind, isBranch, isL, isC, isLine, isSwitch, isVS, from, to, at}
+use Rattle.paper.specs.Rows.{Row, kind, isBranch, isL, isC, isLine, isSwitch, isFixing, from, to, at}
+use Rattle.paper.specs.Classes.{by-branch}
 use Rattle.paper.specs.Faults.{fixes}
 use Rattle.paper.specs.Areas.{Net, rowArea, fixed, freeOf}
 use Rattle.paper.specs.Legs.{isOpen}
@@ -36,29 +29,29 @@ among-place (x ∷ l) {p} i = go (List·Memᴰ·cases-cons i) (λ j. among-place
 
 module _ (N : Net) (s : NetSound N) (a k : ℕ) (m n n′ : Memory) (S : Stepped N a k m n) (S′ : Stepped N a k m n′) where
   -- a fixed node's voltage is its source's, a free node's is the rounded double
-  fixed-one : (p : ℕ) → NodeOf N a p → fixed N p ≡ true → voltage n p ≡ voltage n′ p
+  fixed-one : (p : ℕ) → NodeOf N a p → fixed N p ≡ true → voltage N n p ≡ voltage N n′ p
   unfolding fixed fixes
   fixed-one p h f = go (place (fixes p) 0 (N .rows)) refl
     where
-      go : (x : ℕ) → place (fixes p) 0 (N .rows) ≡ x → voltage n p ≡ voltage n′ p
+      go : (x : ℕ) → place (fixes p) 0 (N .rows) ≡ x → voltage N n p ≡ voltage N n′ p
       go zero e = absurd (true≢false (sym f ∙ none-if (fixes p) (N .rows) [] (place-none (fixes p) [] 0 (N .rows) e)))
       go (suc x) e =
           let q = place-least (fixes p) [] 0 (N .rows) x e in
-          let v : isVS (rowAt N (q .0)) ≡ true = and-left (isVS (rowAt N (q .0))) _ (q .2 .hit) in
-          let o : at (rowAt N (q .0)) ≡ p = eqb-true (at (rowAt N (q .0))) p (and-right (isVS (rowAt N (q .0))) _ (q .2 .hit)) in
+          let v : isFixing (rowAt N (q .0)) ≡ true = and-left (isFixing (rowAt N (q .0))) _ (q .2 .hit) in
+          let o : at (rowAt N (q .0)) ≡ p = eqb-true (at (rowAt N (q .0))) p (and-right (isFixing (rowAt N (q .0))) _ (q .2 .hit)) in
           S .fixed-node p (q .0) h (q .2 .inside) v o ∙ sym (S′ .fixed-node p (q .0) h (q .2 .inside) v o)
 
-  free-one : (p : ℕ) → NodeOf N a p → fixed N p ≡ false → voltage n p ≡ voltage n′ p
+  free-one : (p : ℕ) → NodeOf N a p → fixed N p ≡ false → voltage N n p ≡ voltage N n′ p
   free-one p h f =
       let q = among-place (freeOf N a) (of-free N a p h f) in
-      let e : Whole (voltage n (getD (freeOf N a) (q .0) 0)) ≡ Whole (voltage n′ (getD (freeOf N a) (q .0) 0)) = sym (S .free-node (q .0) (q .1)) ∙ S′ .free-node (q .0) (q .1) in
-      let same : voltage n (getD (freeOf N a) (q .0) 0) ≡ voltage n′ (getD (freeOf N a) (q .0) 0) = cc in
+      let e : Whole (voltage N n (getD (freeOf N a) (q .0) 0)) ≡ Whole (voltage N n′ (getD (freeOf N a) (q .0) 0)) = sym (S .free-node (q .0) (q .1)) ∙ S′ .free-node (q .0) (q .1) in
+      let same : voltage N n (getD (freeOf N a) (q .0) 0) ≡ voltage N n′ (getD (freeOf N a) (q .0) 0) = cc in
       rw (q .2) at same
 
-  pub volt-one : (p : ℕ) → NodeOf N a p → voltage n p ≡ voltage n′ p
+  pub volt-one : (p : ℕ) → NodeOf N a p → voltage N n p ≡ voltage N n′ p
   volt-one p h = go (fixed N p) refl
     where
-      go : (b : Bool) → fixed N p ≡ b → voltage n p ≡ voltage n′ p
+      go : (b : Bool) → fixed N p ≡ b → voltage N n p ≡ voltage N n′ p
       go true e = fixed-one p h e
       go false e = free-one p h e
 
@@ -67,7 +60,7 @@ module _ (N : Net) (s : NetSound N) (a k : ℕ) (m n n′ : Memory) (S : Stepped
     abbrev r : Row
     r = rowAt N i
 
-    end-one : (p : ℕ) → (1 ≤ p → NodeOf N a p) → voltage n p ≡ voltage n′ p
+    end-one : (p : ℕ) → (1 ≤ p → NodeOf N a p) → voltage N n p ≡ voltage N n′ p
     end-one zero h = refl
     end-one (suc p) h = volt-one (suc p) (h (omega arith))
 
@@ -91,19 +84,15 @@ module _ (N : Net) (s : NetSound N) (a k : ℕ) (m n n′ : Memory) (S : Stepped
         go true o = O .opened e o ∙ sym (O′ .opened e o)
         go false o = O .closed e o ∙ gu-one ∙ sym (O′ .closed e o)
 
-    by-kind : (j : ℕ) → kind r ≡ j → 1 ≤ j → j ≤ 5 → j ≢ 4 → fromCurrent n i ≡ fromCurrent n′ i
-    by-kind zero e x y w = absurd (omega arith)
-    by-kind (suc zero) e x y w = O .resistor (rw e) ∙ gu-one ∙ sym (O′ .resistor (rw e))
-    by-kind (suc (suc zero)) e x y w = O .inductor (rw e) ∙ ap (λ (u : ℤ). u +ℤ history m i) gu-one ∙ sym (O′ .inductor (rw e))
-    by-kind (suc (suc (suc zero))) e x y w = O .capacitor (rw e) ∙ ap (λ (u : ℤ). u +ℤ history m i) gu-one ∙ sym (O′ .capacitor (rw e))
-    by-kind (suc (suc (suc (suc zero)))) e x y w = absurd (w refl)
-    by-kind (suc (suc (suc (suc (suc zero))))) e x y w = switch-one (rw e)
-    by-kind (suc (suc (suc (suc (suc (suc j)))))) e x y w = absurd (omega arith)
-
     pub plain-one : fromCurrent n i ≡ fromCurrent n′ i
     plain-one =
-        by-kind (kind r) refl (leb-true 1 (kind r) (and-left (leb 1 (kind r)) _ b)) (leb-true (kind r) 5 (and-right (leb 1 (kind r)) _ b))
-        (λ e. true≢false (sym (eq-eqb (kind r) 4 e) ∙ l))
+        by-branch (λ j. kind r ≡ j → fromCurrent n i ≡ fromCurrent n′ i) (kind r) b
+        (λ e. O .resistor (rw e) ∙ gu-one ∙ sym (O′ .resistor (rw e)))
+        (λ e. O .inductor (rw e) ∙ ap (λ (u : ℤ). u +ℤ history m i) gu-one ∙ sym (O′ .inductor (rw e)))
+        (λ e. O .capacitor (rw e) ∙ ap (λ (u : ℤ). u +ℤ history m i) gu-one ∙ sym (O′ .capacitor (rw e)))
+        (λ e. absurd (true≢false (sym (eq-eqb (kind r) 4 e) ∙ l)))
+        (λ e. switch-one (rw e))
+        refl
 
     pub history-one : isL r || isC r ≡ true → history n i ≡ history n′ i
     history-one e = go (isL r) (isC r) refl refl e

@@ -1,23 +1,16 @@
 -- "Check it against versions that refuse all calls, give one fixed voltage, write nothing, advance properly once and then repeat step 1, or raise
 -- the count unearned: demand 2 shuts out each". Assumes nothing.
-use Prim.Native.Nat.{ℕ, suc, _<_}
-use native.Mathlib.Omega.{arith}
-use mathlib.Core.Path.{_≡_, refl, sym, ap, _∙_}
-use mathlib.Core.Bool.{cond}
-use mathlib.Core.List.{List, [], _∷_}
-use lib.ListN.{length, set}
-use lib.Seq.{getD-set-same}
-use lib.Dec.{leb, lit<}
-use lib.IntN.{ℤ, pos}
+use Rattle.whole.specs.Plain.{ℕ, suc, _<_, _≡_, refl, sym, ap, _∙_, cond, List, [], _∷_, leb, lit<, ℤ, pos, length, set}
+use Rattle.whole.specs.Plain.{getD-set-same, arith, Words, z, word}
 use Rattle.paper.specs.declared.Advance.{Advance}
 use Rattle.paper.specs.declared.Advance.the-variants.{Took, Area, Floating}
-use Rattle.whole.specs.Lists.{Words, z, word}
 use Rattle.paper.specs.Rows.{Row}
 use Rattle.paper.specs.Network.{networkOf}
 use Rattle.paper.specs.Records.{countAt, voltAt, countOf}
 use Rattle.paper.specs.Advance.{Memory, memory, Advanced, advanced, advanceOf}
 use Rattle.paper.specs.Resetting.{fresh}
 use Rattle.paper.specs.Computing.{computing}
+use Rattle.facts.specs.Nets.{netIn}
 use Rattle.versions.specs.Meets.{Version, Meets, version, meets, one-version}
 
 -- ---- three small networks: E3 with two steps, the same with another peak, and E7
@@ -46,11 +39,11 @@ second-step : advanceOf (coil 1000) 1 once .answer ≡ Took 2
 unfolding computing
 second-step = refl
 
-first-volt : word (once .records) (voltAt 1) ≡ pos 1000
+first-volt : word (once .records) (voltAt (netIn (coil 1000)) 1) ≡ pos 1000
 unfolding computing
 first-volt = refl
 
-other-volt : word (advanceOf (coil 500) 1 fresh .after .records) (voltAt 1) ≡ pos 500
+other-volt : word (advanceOf (coil 500) 1 fresh .after .records) (voltAt (netIn (coil 500)) 1) ≡ pos 500
 unfolding computing
 other-volt = refl
 
@@ -91,7 +84,7 @@ refuse-all-not M = let e : _≡_ {A = Advance} Area (Took 1) = answer-is refuseA
 
 -- node 1 at the voltage c, always
 abbrev fixedVoltage : ℤ → Version
-fixedVoltage c net a m = let r = advanceOf net a m in advanced (r .answer) (memory (set (r .after .records) (voltAt 1) c) (r .after .froms) (r .after .tos))
+fixedVoltage c net a m = let r = advanceOf net a m in advanced (r .answer) (memory (set (r .after .records) (voltAt (netIn net) 1) c) (r .after .froms) (r .after .tos))
 
 pub fixed-voltage-not : (c : ℤ) → Meets (fixedVoltage c) → ⊥
 fixed-voltage-not c M =
@@ -100,10 +93,10 @@ fixed-voltage-not c M =
     let q : _≡_ {A = ℕ} 1000 500 = cc in
     omega arith
   where
-    held : (net : Words) → 32 < length (advanceOf net 1 fresh .after .records) → c ≡ word (advanceOf net 1 fresh .after .records) (voltAt 1)
+    held : (net : Words) → 32 < length (advanceOf net 1 fresh .after .records) → c ≡ word (advanceOf net 1 fresh .after .records) (voltAt (netIn net) 1)
     held net h =
-        sym (getD-set-same (advanceOf net 1 fresh .after .records) (voltAt 1) c z h)
-        ∙ ap (λ (r : Advanced). word (r .after .records) (voltAt 1)) (is (fixedVoltage c) M net 1 fresh)
+        sym (getD-set-same (advanceOf net 1 fresh .after .records) (voltAt (netIn net) 1) c z h)
+        ∙ ap (λ (r : Advanced). word (r .after .records) (voltAt (netIn net) 1)) (is (fixedVoltage c) M net 1 fresh)
 
 abbrev writeNothing : Version
 writeNothing net a m = advanced (advanceOf net a m .answer) m

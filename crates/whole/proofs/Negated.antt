@@ -1,13 +1,7 @@
 -- The magnitude of a signed number by way of -(x + 1) + 1, which no least number breaks. Assumes nothing.
-use mathlib.Core.Path.{_≡_, refl, sym, subst, ap, _∙_}
-use mathlib.Core.Bool.{true, false}
-use Prim.Native.Nat.{ℕ, zero, suc, _^_, _<_}
-use native.Mathlib.Omega.{arith}
-use lib.Dec.{T}
-use lib.IntN.{ℤ, pos, negsuc, negℤ, _+ℤ_, _-ℤ_, +ℤ-one, +ℤ-idl, negℤ-negℤ}
-use lib.Signed.{mag, ltZ}
+use Rattle.whole.specs.Plain.{ℕ, zero, suc, _^_, _<_, _≡_, refl, sym, subst, ap, _∙_, true, false, T, ℤ, pos}
+use Rattle.whole.specs.Plain.{negsuc, negℤ, _+ℤ_, _-ℤ_, +ℤ-one, +ℤ-idl, negℤ-negℤ, mag, ltZ, ltb-true, arith}
 use borrow.Author.Needs.{sfits-of}
-use borrow.Author.Tests.{ltb-true}
 use mir.Syntax.{w64}
 use mir.Val.{SFits, toZ, ofZ}
 use mir.Facts.{toZ-ofZ}

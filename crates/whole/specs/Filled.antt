@@ -1,11 +1,7 @@
 -- Laws of `filled`: a list filled up with d has the list's own places, and d past them. Assumes nothing.
-use Prim.Native.Nat.{ℕ, zero, suc, _-_, _≤_, _<_}
-use mathlib.Core.Path.{_≡_, refl, sym, _∙_}
-use mathlib.Core.List.{List, [], _∷_, _++_}
-use native.Mathlib.Omega.{arith}
-use lib.ListN.{length, getD, set, replicate, length-append, length-replicate, length-set, List·getD-append}
-use lib.Seq.{set-append-left}
-use Rattle.whole.specs.Lists.{filled}
+use Rattle.whole.specs.Plain.{ℕ, zero, suc, _-_, _≤_, _<_, _≡_, refl, sym, _∙_, List, [], _∷_, _++_, length, getD}
+use Rattle.whole.specs.Plain.{set, replicate, length-append, length-replicate, length-set, List·getD-append}
+use Rattle.whole.specs.Plain.{set-append-left, arith, filled}
 
 module _ {A : Type 0} where
   pub length-filled : (n : ℕ) (d : A) (l : List A) → length l ≤ n → length (filled n d l) ≡ n

@@ -1,11 +1,7 @@
 -- A whole number by its floor and rest of 2^32: x = high x * 2^32 + low x with 0 ≤ low x < 2^32. Assumes nothing.
-use Prim.Native.Nat.{ℕ, suc, _+_, _*_, _-_, _<_, _^_, _/_, _%_}
-use mathlib.Core.Path.{_≡_, refl, ap, _∙_}
-use native.Mathlib.Nat.{lt-of-le-of-lt}
-use native.Mathlib.Omega.{arith}
+use Rattle.whole.specs.Plain.{ℕ, suc, _+_, _*_, _-_, _<_, _^_, _/_, _%_, _≡_, refl, ap, _∙_, ℤ, pos, negsuc, negℤ}
+use Rattle.whole.specs.Plain.{_+ℤ_, _*ℤ_, shrZ, mag-shr, lt-of-le-of-lt, arith}
 use lib.Bits.{bitAnd, and-mask}
-use lib.IntN.{ℤ, pos, negsuc, negℤ, _+ℤ_, _*ℤ_}
-use lib.Signed.{shrZ, mag-shr}
 use mir.Syntax.{w64}
 use mir.Val.{SFits, toZ, ofZ}
 use mir.Facts.{toZ-pos}

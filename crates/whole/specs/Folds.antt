@@ -1,15 +1,9 @@
 -- Laws of the folds of specs/Lists: over append, map and one more place; where a test fails or passes. Assumes nothing.
-use Prim.Native.Nat.{ℕ, zero, suc, _+_, _<_, _≤_}
-use mathlib.Core.Path.{_≡_, refl, sym, ap, _∙_}
-use mathlib.Core.Bool.{Bool, true, false, cond, not, _&&_, _||_, and-assoc, and-true, or-assoc}
-use mathlib.Core.List.{List, [], _∷_, _++_, map}
-use native.Mathlib.Omega.{arith}
+use Rattle.whole.specs.Plain.{ℕ, zero, suc, _+_, _<_, _≤_, _≡_, refl, sym, ap, _∙_, Bool, true, false, cond, _&&_}
+use Rattle.whole.specs.Plain.{_||_, and-assoc, and-true, or-assoc, List, [], _∷_, _++_, map, length, getD, take}
+use Rattle.whole.specs.Plain.{drop, drop-of-length-le, drop-cons, take-suc, arith, every, any, count, keep, sum}
+use Rattle.whole.specs.Plain.{fold, numbers}
 use native.Mathlib.Numerals.{add-one}
-use lib.ListN.{length, getD, take, drop, drop-of-length-le}
-use lib.Seq.{drop-cons, take-suc}
-use lib.Dec.{ltb}
-use borrow.Author.Tests.{ltb-true}
-use Rattle.whole.specs.Lists.{every, any, count, keep, sum, fold, numbers, first}
 
 -- ---- tests
 pub and-left : (a b : Bool) → (a && b) ≡ true → a ≡ true
@@ -33,10 +27,6 @@ or-right false b e = e
 
 pub neither : {a b : Bool} → a ≡ false → b ≡ false → (a || b) ≡ false
 neither p q = rw (p, q)
-
-not-and : (a b : Bool) → not (a && b) ≡ (not a || not b)
-not-and true b = refl
-not-and false b = refl
 
 count-head : (b : Bool) (n m : ℕ) → n ≤ m → cond b 1 0 + n ≤ suc m
 count-head true n m h = omega arith
@@ -116,27 +106,6 @@ module _ {A : Type 0} where
   every-weaken p q [] h e = refl
   every-weaken p q (a ∷ l) h e = both (h a (and-left (p a) (every p l) e)) (every-weaken p q l h (and-right (p a) (every p l) e))
 
-  pub any-not : (p : A → Bool) (l : List A) → any (λ a. not (p a)) l ≡ not (every p l)
-  unfolding any every
-  any-not p [] = refl
-  any-not p (a ∷ l) = rw (any-not p l) (sym (not-and (p a) (every p l)))
-
-  pub count-none : (p : A → Bool) (l : List A) → any p l ≡ false → count p l ≡ 0
-  unfolding any count
-  count-none p [] e = refl
-  count-none p (a ∷ l) e = rw (or-left (p a) (any p l) e) (rw (count-none p l (or-right (p a) (any p l) e)))
-
-  -- what is kept passes
-  every-head : (p : A → Bool) (b : Bool) (a : A) (l : List A) → p a ≡ b → every p l ≡ true → every p (cond b (a ∷ l) l) ≡ true
-  unfolding every
-  every-head p true a l e h = both e h
-  every-head p false a l e h = h
-
-  pub every-keep : (p : A → Bool) (l : List A) → every p (keep p l) ≡ true
-  unfolding keep every
-  every-keep p [] = refl
-  every-keep p (a ∷ l) = every-head p (p a) a (keep p l) refl (every-keep p l)
-
   -- ---- one more place: what is left of a scan at i
   pub every-more : (p : A → Bool) (l : List A) (i : ℕ) (d : A) → i < length l → every p (drop i l) ≡ (p (getD l i d) && every p (drop (i + 1) l))
   unfolding every
@@ -145,14 +114,6 @@ module _ {A : Type 0} where
   pub every-done : (p : A → Bool) (l : List A) (i : ℕ) → length l ≤ i → every p (drop i l) ≡ true
   unfolding every
   every-done p l i h = rw (drop-of-length-le l h)
-
-  pub any-more : (p : A → Bool) (l : List A) (i : ℕ) (d : A) → i < length l → any p (drop i l) ≡ (p (getD l i d) || any p (drop (i + 1) l))
-  unfolding any
-  any-more p l i d h = rw (add-one i, drop-cons l i d)
-
-  pub any-done : (p : A → Bool) (l : List A) (i : ℕ) → length l ≤ i → any p (drop i l) ≡ false
-  unfolding any
-  any-done p l i h = rw (drop-of-length-le l h)
 
   -- ---- what is done at i
   last-count : (p : A → Bool) (n : ℕ) (a : A) → n + count p (a ∷ []) ≡ n + cond (p a) 1 0
@@ -192,26 +153,10 @@ module _ {A B : Type 0} where
   fold-keeps P f h b [] p = p
   fold-keeps P f h b (a ∷ l) p = fold-keeps P f h (f b a) l (h b a p)
 
-  -- of map
-  pub every-map : (p : B → Bool) (f : A → B) (l : List A) → every p (map f l) ≡ every (λ a. p (f a)) l
-  unfolding every
-  every-map p f [] = refl
-  every-map p f (a ∷ l) = rw (every-map p f l)
-
-  pub any-map : (p : B → Bool) (f : A → B) (l : List A) → any p (map f l) ≡ any (λ a. p (f a)) l
-  unfolding any
-  any-map p f [] = refl
-  any-map p f (a ∷ l) = rw (any-map p f l)
-
   pub count-map : (p : B → Bool) (f : A → B) (l : List A) → count p (map f l) ≡ count (λ a. p (f a)) l
   unfolding count
   count-map p f [] = refl
   count-map p f (a ∷ l) = rw (count-map p f l)
-
-  pub sum-map : (g : B → ℕ) (f : A → B) (l : List A) → sum g (map f l) ≡ sum (λ a. g (f a)) l
-  unfolding sum
-  sum-map g f [] = refl
-  sum-map g f (a ∷ l) = rw (sum-map g f l)
 
   keep-map-head : (b : Bool) (f : A → B) (a : A) (l : List A) → cond b (f a ∷ map f l) (map f l) ≡ map f (cond b (a ∷ l) l)
   keep-map-head true f a l = refl
@@ -273,34 +218,8 @@ pub every-numbers : (p : ℕ → Bool) (i n : ℕ) → every p (numbers i (n + 1
 unfolding every
 every-numbers p i n = rw (numbers-more i n, every-append, and-true)
 
--- ---- the first that passes
-pub first-none : (p : ℕ → Bool) (l : List ℕ) → any p l ≡ false → first p l ≡ 0
-unfolding first any
-first-none p [] e = refl
-first-none p (n ∷ l) e = rw (or-left (p n) (any p l) e) (first-none p l (or-right (p n) (any p l) e))
-
-pub first-skip : (p : ℕ → Bool) (l m : List ℕ) → any p l ≡ false → first p (l ++ m) ≡ first p m
-unfolding first any
-first-skip p [] m e = refl
-first-skip p (n ∷ l) m e = rw (or-left (p n) (any p l) e) (first-skip p l m (or-right (p n) (any p l) e))
-
-pub first-hit : (p : ℕ → Bool) (n : ℕ) (l : List ℕ) → p n ≡ true → first p (n ∷ l) ≡ n
-unfolding first
-first-hit p n l e = rw e
-
-pub first-pass : (p : ℕ → Bool) (n : ℕ) (l : List ℕ) → p n ≡ false → first p (n ∷ l) ≡ first p l
-unfolding first
-first-pass p n l e = rw e
-
--- one of them passes exactly where the first is no 0
-pub first-some : (p : ℕ → Bool) (l : List ℕ) → first p l ≡ 0 → every (λ n. ltb 0 n) l ≡ true → any p l ≡ false
-unfolding first any every
-first-some p [] e h = refl
-first-some p (n ∷ l) e h = by-test (p n) refl (λ f. first-some p l f (and-right (ltb 0 n) (every (λ k. ltb 0 k) l) h))
-  where
-    by-test : (b : Bool) → p n ≡ b → (first p l ≡ 0 → any p l ≡ false) → (p n || any p l) ≡ false
-    by-test true f next =
-        let z : n ≡ 0 = rw f at e in
-        let g : 0 < n = ltb-true 0 n (and-left (ltb 0 n) (every (λ k. ltb 0 k) l) h) in
-        absurd (omega arith)
-    by-test false f next = rw f (next (rw f at e))
+-- of map
+pub every-map : {A B : Type 0} (p : B → Bool) (f : A → B) (l : List A) → every p (map f l) ≡ every (λ a. p (f a)) l
+unfolding every
+every-map p f [] = refl
+every-map p f (a ∷ l) = rw (every-map p f l)

@@ -1,10 +1,5 @@
 -- A word as an index, `w as usize`: one that is no negative number. Assumes nothing.
-use Prim.Native.Nat.{ℕ, _<_, _^_}
-use mathlib.Core.Path.{_≡_}
-use native.Mathlib.Omega.{arith}
-use lib.Dec.{T}
-use lib.IntN.{ℤ, pos, natAbs}
-use lib.Signed.{mag, nonNeg}
+use Rattle.whole.specs.Plain.{ℕ, _<_, _^_, _≡_, T, ℤ, pos, natAbs, mag, nonNeg, arith}
 use mir.Syntax.{w64}
 use mir.Val.{Fits, toZ, ofZ}
 use Rattle.whole.specs.Int.{read64}

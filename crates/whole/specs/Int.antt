@@ -1,16 +1,13 @@
 -- Laws on ℤ that lib.IntN lacks: sizes of sums and products, ring laws, tests as facts. Assumes nothing.
-use mathlib.Core.Path.{_≡_, refl, sym, _∙_, ap, subst}
-use mathlib.Core.Bool.{Bool, true, false, not, cond}
-use Prim.Native.Nat.{ℕ, zero, suc, _+_, _*_, _-_, _<_, _≤_, _^_}
+use Rattle.whole.specs.Plain.{ℕ, zero, suc, _+_, _*_, _-_, _<_, _≤_, _^_, _≡_, refl, sym, _∙_, ap, subst, Bool}
+use Rattle.whole.specs.Plain.{true, false, not, cond, T, ltb, ltb→lt, ℤ, pos, negsuc, negℤ, natAbs, sucℤ, predℤ}
+use Rattle.whole.specs.Plain.{subℕ, _+ℤ_, _-ℤ_, _*ℤ_, +ℤ-assoc, +ℤ-comm, +ℤ-idl, +ℤ-idr, *ℤ-zero, zero-*ℤ}
+use Rattle.whole.specs.Plain.{sucℤ-*ℤ, predℤ-*ℤ, *ℤ-comm, sucℤ-+ℤ, predℤ-+ℤ, negℤ-+ℤ, negℤ-negℤ, mag, ltZ, nonNeg}
+use Rattle.whole.specs.Plain.{lt-ltb, le-ltb, arith}
 use native.Mathlib.Nat as NatL
-use native.Mathlib.Omega.{arith}
-use lib.Dec.{T, ltb, ltb→lt}
-use lib.IntN.{ℤ, pos, negsuc, negℤ, natAbs, sucℤ, predℤ, subℕ, _+ℤ_, _-ℤ_, _*ℤ_, +ℤ-assoc, +ℤ-comm, +ℤ-idl, +ℤ-idr, *ℤ-zero, zero-*ℤ, sucℤ-*ℤ, predℤ-*ℤ, *ℤ-comm, sucℤ-+ℤ, predℤ-+ℤ, negℤ-+ℤ, negℤ-negℤ, +ℤ-invr}
-use lib.Signed.{mag, leZ, ltZ, nonNeg}
 use mir.Syntax.{w64}
 use mir.Val.{SFits, toZ, ofZ}
 use mir.Facts.{toZ-ofZ}
-use borrow.Author.Tests.{leb-true, lt-ltb, le-ltb}
 
 cond-ind : (c : Bool) (x y : ℤ) (P : ℤ → Type 0) → (T c → P x) → (T (not c) → P y) → P (cond c x y)
 cond-ind true x y P f g = f tt
@@ -95,10 +92,6 @@ pub *ℤ-neg : (a b : ℤ) → a *ℤ negℤ b ≡ negℤ (a *ℤ b)
 -- sums of products, sorted: `simp ring-laws` proves an equation of polynomials without cancellation
 pub ruleset ring-laws = (+ℤ-assoc, +ℤ-comm, +ℤ-left, *ℤ-assoc, *ℤ-comm, *ℤ-left, *ℤ-distr-r, *ℤ-distr-l, neg-*ℤ, *ℤ-neg, negℤ-+ℤ, negℤ-negℤ, +ℤ-idl, +ℤ-idr, zero-*ℤ, *ℤ-zero)
 
--- cancellation of a term against its negation
-pub +ℤ-cancel : (a b : ℤ) → a +ℤ (negℤ a +ℤ b) ≡ b
-+ℤ-cancel a b = sym (+ℤ-assoc a (negℤ a) b) ∙ ap (λ (x : ℤ). x +ℤ b) (+ℤ-invr a) ∙ +ℤ-idl b
-
 -- ---- ranges
 pub mag-le : (z : ℤ) → mag z ≤ natAbs z
 mag-le (pos n) = omega arith
@@ -120,25 +113,12 @@ abs-sub-le x y p q = omega (arith, abs-sub x y)
 pub read64 : (z : ℤ) → mag z < 2 ^ 63 → toZ w64 (ofZ w64 z) ≡ z
 read64 z h = toZ-ofZ (record { sfits = h })
 
--- ---- a word as an index
-pub nonneg-of : (z : ℤ) → leZ (pos 0) z ≡ true → T (nonNeg z)
-nonneg-of (pos n) e = tt
-nonneg-of (negsuc n) e = subst T (sym e) tt
-
-pub index-le : (z : ℤ) (k : ℕ) → leZ (pos 0) z ≡ true → leZ z (pos k) ≡ true → natAbs z ≤ k
-index-le (pos n) k e f = leb-true n k f
-index-le (negsuc n) k e f = absurd (nonneg-of (negsuc n) e)
-
 -- ---- a difference of two naturals
 pub subℕ-lt : (a b : ℕ) → a < b → subℕ a b ≡ negsuc (b - suc a)
 subℕ-lt a b h = rw (lt-ltb a b h)
 
 pub subℕ-ge : (a b : ℕ) → b ≤ a → subℕ a b ≡ pos (a - b)
 subℕ-ge a b h = rw (le-ltb a b h)
-
--- `==` on signed words is an equation of their bits
-pub same-bits : {x y : ℤ} → SFits w64 x → SFits w64 y → ofZ w64 x ≡ ofZ w64 y → x ≡ y
-same-bits f g e = sym (toZ-ofZ f) ∙ ap (toZ w64) e ∙ toZ-ofZ g
 
 -- and with a literal, whose bits are a number b
 pub is-lit : {x : ℤ} (b : ℕ) → SFits w64 x → ofZ w64 x ≡ b → x ≡ toZ w64 b

@@ -1,3 +1,4 @@
+pub mod Plain
 pub mod Tables
 pub mod Reads
 pub mod Truths
@@ -7,7 +8,6 @@ pub mod Lists
 pub mod Loans
 pub mod Int
 pub mod Size
-pub mod Linear
 pub mod Folds
 pub mod Totals
 pub mod TurnLaws

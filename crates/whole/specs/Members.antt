@@ -1,13 +1,8 @@
 -- What stands in a list: in a list of numbers, in what is kept, in a map; the first that passes. Assumes nothing.
-use Prim.Native.Nat.{ℕ, zero, suc, _+_, _≤_, _<_}
-use mathlib.Core.Path.{_≡_, refl, sym, ap, _∙_}
-use mathlib.Core.Logic.{_⊎_, inl, inr}
-use mathlib.Core.Bool.{Bool, true, false, cond, true≢false}
-use mathlib.Core.List.{List, [], _∷_, map, List·Memᴰ, List·Memᴰ·head, List·Memᴰ·tail, List·Memᴰ·cases-cons, List·Memᴰ·not-nil}
-use native.Mathlib.Omega.{arith}
-use native.Mathlib.Decide.{ℕ-discrete}
-use lib.ListN.{length, getD}
-use Rattle.whole.specs.Lists.{keep, numbers, first}
+use Rattle.whole.specs.Plain.{ℕ, zero, suc, _+_, _≤_, _<_, _≡_, refl, sym, ap, _∙_, _⊎_, inl, inr, Bool, true}
+use Rattle.whole.specs.Plain.{false, cond, true≢false, List, [], _∷_, map, List·Memᴰ, List·Memᴰ·head}
+use Rattle.whole.specs.Plain.{List·Memᴰ·tail, List·Memᴰ·cases-cons, List·Memᴰ·not-nil, length, getD, ℕ-discrete}
+use Rattle.whole.specs.Plain.{arith, keep, numbers, first}
 
 abbrev pub Among : {A : Type 0} → A → List A → Type 0
 Among a l = List·Memᴰ a l
@@ -56,6 +51,20 @@ module _ {A : Type 0} where
       go true f j more = head f (List·Memᴰ·cases-cons j) more
       go false f j more = deeper (more j)
 
+-- what holds of each
+unfoldable pub All : {A : Type 0} → (A → Type 0) → List A → Type 0
+All P [] = Unit {0}
+All P (a ∷ l) = P a × All P l
+
+pub all-among : {A : Type 0} (P : A → Type 0) (l : List A) → All P l → {a : A} → Among a l → P a
+unfolding All
+all-among P [] ps i = absurd (List·Memᴰ·not-nil i)
+all-among P (b ∷ l) ps {a} i = go (List·Memᴰ·cases-cons i) (λ j. all-among P l (ps .1) j)
+  where
+    go : (a ≡ b) ⊎ Among a l → (Among a l → P a) → P a
+    go (inl e) more = rw e (ps .0)
+    go (inr j) more = more j
+
 module _ {A B : Type 0} where
   pub among-map : (f : A → B) (l : List A) {a : A} → Among a l → Among (f a) (map f l)
   among-map f [] i = absurd (List·Memᴰ·not-nil i)
@@ -83,11 +92,10 @@ module _ {A B : Type 0} where
 pub among-numbers : (i n : ℕ) {x : ℕ} → i ≤ x → x < i + n → Among x (numbers i n)
 unfolding numbers
 among-numbers i zero h k = absurd (omega arith)
-among-numbers i (suc n) {x} h k = go (ℕ-discrete x i) (λ u v. among-numbers (suc i) n u v)
-  where
-    go : Dec (x ≡ i) → (suc i ≤ x → x < suc i + n → Among x (numbers (suc i) n)) → Among x (i ∷ numbers (suc i) n)
-    go (yes q) more = top q
-    go (no q) more = below (more (omega arith) (omega arith))
+among-numbers i (suc n) {x} h k = elim (ℕ-discrete x i) as (λ _. (suc i ≤ x → x < suc i + n → Among x (numbers (suc i) n)) → Among x (i ∷ numbers (suc i) n)) [
+  | yes q ↦ λ more. top q
+  | no q ↦ λ more. below (more (omega arith) (omega arith))
+] (λ u v. among-numbers (suc i) n u v)
 
 pub numbers-among : (i n : ℕ) {x : ℕ} → Among x (numbers i n) → (i ≤ x) × (x < i + n)
 unfolding numbers
@@ -102,8 +110,7 @@ numbers-among i (suc n) {x} a = go (List·Memᴰ·cases-cons a) (λ j. numbers-a
 pub first-among : (p : ℕ → Bool) (l : List ℕ) {n : ℕ} → first p l ≡ suc n → Among (suc n) l × (p (suc n) ≡ true)
 unfolding first
 first-among p [] e = absurd (omega arith)
-first-among p (m ∷ l) {n} e = go (p m) refl e (λ f. first-among p l f)
-  where
-    go : (t : Bool) → p m ≡ t → cond t m (first p l) ≡ suc n → (first p l ≡ suc n → Among (suc n) l × (p (suc n) ≡ true)) → Among (suc n) (m ∷ l) × (p (suc n) ≡ true)
-    go true f q more = (top (sym q), rw (← q) f)
-    go false f q more = let r = more q in (below (r .0), r .1)
+first-among p (m ∷ l) {n} e = elim (p m) as (λ t. p m ≡ t → cond t m (first p l) ≡ suc n → (first p l ≡ suc n → Among (suc n) l × (p (suc n) ≡ true)) → Among (suc n) (m ∷ l) × (p (suc n) ≡ true)) [
+  | true ↦ λ f q more. (top (sym q), rw (← q) f)
+  | false ↦ λ f q more. let r = more q in (below (r .0), r .1)
+] refl e (λ f. first-among p l f)

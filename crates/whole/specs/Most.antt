@@ -1,10 +1,5 @@
 -- The largest of some numbers, as a fold of `max`. Assumes nothing.
-use Prim.Native.Nat.{ℕ, zero, suc, _≤_, _<_, max}
-use mathlib.Core.Path.{_≡_, refl}
-use mathlib.Core.List.{List, [], _∷_}
-use native.Mathlib.Omega.{arith}
-use lib.ListN.{length, getD}
-use Rattle.whole.specs.Lists.{fold}
+use Rattle.whole.specs.Plain.{ℕ, zero, suc, _≤_, _<_, max, List, [], _∷_, length, getD, arith, fold}
 
 module _ {A : Type 0} (f : A → ℕ) where
   abbrev pub most : ℕ → List A → ℕ

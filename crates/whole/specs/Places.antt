@@ -1,10 +1,6 @@
 -- The first place of a list that passes a test: none, or the least. Assumes nothing.
-use Prim.Native.Nat.{ℕ, zero, suc, _+_, _≤_, _<_}
-use native.Mathlib.Omega.{arith}
-use mathlib.Core.Path.{_≡_, refl, sym, ap, _∙_}
-use mathlib.Core.Bool.{Bool, true, false, cond}
-use mathlib.Core.List.{List, [], _∷_}
-use lib.ListN.{length, getD}
+use Rattle.whole.specs.Plain.{ℕ, zero, suc, _+_, _<_, _≡_, refl, _∙_, Bool, true, false, cond, List, [], _∷_}
+use Rattle.whole.specs.Plain.{length, getD, arith}
 
 module _ {A : Type 0} where
   -- the place, from 1, of the first that passes, the list's first being in place suc i; 0 where none does

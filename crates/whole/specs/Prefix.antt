@@ -1,16 +1,8 @@
 -- Counts and sums over the first i of a list: they grow with i, and stay where each one more was tested. Assumes nothing.
-use Prim.Native.Nat.{ℕ, zero, suc, _+_, _≤_, _<_}
-use mathlib.Core.Path.{_≡_, refl}
-use mathlib.Core.Bool.{Bool, true, false, cond, _&&_}
-use mathlib.Core.List.{List, [], _∷_}
-use native.Mathlib.Omega.{arith}
+use Rattle.whole.specs.Plain.{ℕ, zero, suc, _+_, _≤_, _<_, _≡_, refl, Bool, true, false, cond, _&&_, List, []}
+use Rattle.whole.specs.Plain.{_∷_, leb, ltb, ℤ, +ℤ-idl, +ℤ-idr, length, getD, take, take-length, leb-false}
+use Rattle.whole.specs.Plain.{ltb-false, arith, z, count, sum, total}
 use native.Mathlib.Numerals.{add-one}
-use lib.ListN.{length, getD, take}
-use lib.Seq.{take-length}
-use lib.Dec.{leb, ltb}
-use lib.IntN.{ℤ, +ℤ-idl, +ℤ-idr}
-use borrow.Author.Tests.{leb-false, ltb-false}
-use Rattle.whole.specs.Lists.{z, count, sum, total}
 use Rattle.whole.specs.Folds.{count-next, sum-next, none-if}
 use Rattle.whole.specs.Written.{total-none}
 
@@ -22,14 +14,6 @@ module _ {A : Type 0} (d : A) where
   sum-grows f [] (suc i) (suc j) h = omega arith
   sum-grows f (a ∷ l) (suc i) zero h = absurd (omega arith)
   sum-grows f (a ∷ l) (suc i) (suc j) h = omega (arith, sum-grows f l i j (omega arith))
-
-  pub count-grows : (p : A → Bool) (l : List A) (i j : ℕ) → i ≤ j → count p (take i l) ≤ count p (take j l)
-  unfolding count
-  count-grows p l zero j h = omega arith
-  count-grows p [] (suc i) zero h = absurd (omega arith)
-  count-grows p [] (suc i) (suc j) h = omega arith
-  count-grows p (a ∷ l) (suc i) zero h = absurd (omega arith)
-  count-grows p (a ∷ l) (suc i) (suc j) h = omega (arith, count-grows p l i j (omega arith))
 
   -- what one place adds stands before every later place
   pub sum-below : (f : A → ℕ) (l : List A) (i j : ℕ) → i < j → i < length l → sum f (take i l) + f (getD l i d) ≤ sum f (take j l)

@@ -1,17 +1,12 @@
 -- Whether |x| ≤ m: by the sign of m - |x|, and for many words at once by the sign of all these taken together. Assumes nothing.
-use Prim.Native.Nat.{ℕ, zero, suc, _-_, _<_, _≤_, _^_}
-use mathlib.Core.Path.{_≡_, refl, sym, ap, _∙_}
-use mathlib.Core.Bool.{Bool, true, false, _&&_, true≢false}
-use native.Mathlib.Omega.{arith}
-use borrow.Author.Tests.{ltb-true, ltb-false, lt-ltb, le-ltb, lt-leb, le-leb, eqb-true, eqb-false, ne-eqb}
+use Rattle.whole.specs.Plain.{ℕ, zero, suc, _-_, _<_, _≤_, _^_, _≡_, refl, sym, ap, _∙_, Bool, true, false, _&&_}
+use Rattle.whole.specs.Plain.{true≢false, T, leb, ltb, eqb, leb·zero, leb·suc-zero, eqb·suc-zero, ℤ, pos, negsuc}
+use Rattle.whole.specs.Plain.{natAbs, subℕ, _+ℤ_, _-ℤ_, mag, leZ, ltZ, nonNeg, ltb-true, ltb-false, lt-ltb}
+use Rattle.whole.specs.Plain.{le-ltb, lt-leb, le-leb, eqb-true, eqb-false, ne-eqb, arith, upTo}
 use lib.Bits.{bitOr, or-lt, or-comm, or-add-and, and-le-r}
-use lib.Dec.{T, leb, ltb, eqb, leb·zero, leb·suc-zero, eqb·suc-zero}
-use lib.IntN.{ℤ, pos, negsuc, natAbs, subℕ, _+ℤ_, _-ℤ_}
-use lib.Signed.{mag, leZ, ltZ, nonNeg}
 use mir.Syntax.{w64}
 use mir.Val.{SFits, toZ, ofZ}
 use Rattle.whole.specs.Int.{subℕ-lt, subℕ-ge}
-use Rattle.whole.specs.Lists.{upTo}
 
 -- what is left of m over |x|
 abbrev pub roomOf : ℤ → ℤ → ℤ
@@ -32,18 +27,16 @@ room-pos m (negsuc n) e = absurd (true≢false e)
 -- by the test n ≤ k: what is left is k - n, or short of 0 by n - k
 module _ (k n : ℕ) where
   room-fits-at : k < 2 ^ 63 → n ≤ 2 ^ 63 → SFits w64 (subℕ k n)
-  room-fits-at h l = by-test (ltb k n) refl
-    where
-      by-test : (t : Bool) → ltb k n ≡ t → SFits w64 (subℕ k n)
-      by-test true e = let q : k < n = ltb-true k n e in rw (subℕ-lt k n q) (record { sfits = omega arith })
-      by-test false e = let q : n ≤ k = ltb-false k n e in rw (subℕ-ge k n q) (record { sfits = omega arith })
+  room-fits-at h l = elim (ltb k n) as (λ t. ltb k n ≡ t → SFits w64 (subℕ k n)) [
+    | true ↦ λ e. let q : k < n = ltb-true k n e in rw (subℕ-lt k n q) (record { sfits = omega arith })
+    | false ↦ λ e. let q : n ≤ k = ltb-false k n e in rw (subℕ-ge k n q) (record { sfits = omega arith })
+  ] refl
 
   room-sign-at : leZ (pos 0) (subℕ k n) ≡ leb n k
-  room-sign-at = by-test (ltb k n) refl
-    where
-      by-test : (t : Bool) → ltb k n ≡ t → leZ (pos 0) (subℕ k n) ≡ leb n k
-      by-test true e = let q : k < n = ltb-true k n e in rw (subℕ-lt k n q, lt-leb n k q)
-      by-test false e = let q : n ≤ k = ltb-false k n e in rw (subℕ-ge k n q, le-leb n k q) (leb·zero (k - n))
+  room-sign-at = elim (ltb k n) as (λ t. ltb k n ≡ t → leZ (pos 0) (subℕ k n) ≡ leb n k) [
+    | true ↦ λ e. let q : k < n = ltb-true k n e in rw (subℕ-lt k n q, lt-leb n k q)
+    | false ↦ λ e. let q : n ≤ k = ltb-false k n e in rw (subℕ-ge k n q, le-leb n k q) (leb·zero (k - n))
+  ] refl
 
 abs-most : (x : ℤ) → mag x < 2 ^ 63 → natAbs x ≤ 2 ^ 63
 abs-most (pos n) h = omega arith
@@ -59,11 +52,7 @@ room-sign (pos k) x t = rw (pos-sub k (natAbs x)) (room-sign-at k (natAbs x))
 
 -- ---- the sign of a word is its highest bit
 pub sign-bit : (n : ℕ) → leZ (pos 0) (toZ w64 n) ≡ ltb n (2 ^ 63)
-sign-bit n = by-test (ltb n (2 ^ 63)) refl
-  where
-    by-test : (t : Bool) → ltb n (2 ^ 63) ≡ t → leZ (pos 0) (toZ w64 n) ≡ ltb n (2 ^ 63)
-    by-test true e = rw e (leb·zero n)
-    by-test false e = rw e
+sign-bit n = elim (ltb n (2 ^ 63)) as (λ t. ltb n (2 ^ 63) ≡ t → leZ (pos 0) (toZ w64 n) ≡ ltb n (2 ^ 63)) [ true ↦ λ e. rw e (leb·zero n) | false ↦ λ e. rw e ] refl
 
 or-above : (a b : ℕ) → a ≤ bitOr a b
 or-above a b = omega (arith, or-add-and a b, and-le-r a b)

@@ -1,8 +1,5 @@
 -- What is left of a repeated element. Assumes nothing.
-use Prim.Native.Nat.{ℕ, zero, suc, _-_}
-use native.Mathlib.Omega.{arith}
-use mathlib.Core.Path.{_≡_, refl}
-use lib.ListN.{drop, replicate}
+use Rattle.whole.specs.Plain.{ℕ, zero, suc, _-_, _≡_, drop, replicate, arith}
 
 pub drop-replicate : {A : Type 0} (m n : ℕ) (a : A) → drop m (replicate n a) ≡ replicate (n - m) a
 drop-replicate zero n a = let e : n - 0 ≡ n = omega arith in rw e

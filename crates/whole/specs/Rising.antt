@@ -1,11 +1,6 @@
 -- Rising lists of numbers, in which the first that passes a test is the lowest that does. Assumes nothing.
-use Prim.Native.Nat.{ℕ, zero, suc, _≤_, _<_}
-use mathlib.Core.Path.{_≡_, refl, sym}
-use mathlib.Core.Logic.{_⊎_, inl, inr}
-use mathlib.Core.Bool.{Bool, true, false, cond}
-use mathlib.Core.List.{List, [], _∷_, List·Memᴰ·cases-cons, List·Memᴰ·not-nil}
-use native.Mathlib.Omega.{arith}
-use Rattle.whole.specs.Lists.{keep, numbers, first}
+use Rattle.whole.specs.Plain.{ℕ, zero, suc, _≤_, _<_, _≡_, refl, sym, _⊎_, inl, inr, Bool, true, false, cond}
+use Rattle.whole.specs.Plain.{List, [], _∷_, List·Memᴰ·cases-cons, List·Memᴰ·not-nil, arith, keep, numbers, first}
 use Rattle.whole.specs.Members.{Among, top, below}
 
 -- each is over b, and over the one before it
@@ -25,11 +20,10 @@ rising-numbers i (suc n) = (omega arith, rising-numbers (suc i) n)
 pub rising-keep : (p : ℕ → Bool) (b : ℕ) (l : List ℕ) → Rising b l → Rising b (keep p l)
 unfolding keep
 rising-keep p b [] r = tt
-rising-keep p b (x ∷ l) r = go (p x) (rising-keep p x l (r .1))
-  where
-    go : (t : Bool) → Rising x (keep p l) → Rising b (cond t (x ∷ keep p l) (keep p l))
-    go true q = (r .0, q)
-    go false q = rising-from x b (keep p l) (omega (arith, r .0)) q
+rising-keep p b (x ∷ l) r = elim (p x) as (λ t. Rising x (keep p l) → Rising b (cond t (x ∷ keep p l) (keep p l))) [
+  | true ↦ λ q. (r .0, q)
+  | false ↦ λ q. rising-from x b (keep p l) (omega (arith, r .0)) q
+] (rising-keep p x l (r .1))
 
 pub rising-over : (b : ℕ) (l : List ℕ) {x : ℕ} → Rising b l → Among x l → b < x
 rising-over b [] r i = absurd (List·Memᴰ·not-nil i)

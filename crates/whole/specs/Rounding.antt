@@ -1,13 +1,9 @@
 -- Quotients: to the nearest, halves up; toward zero. Assumes nothing.
-use Prim.Native.Nat.{ℕ, zero, suc, _+_, _*_, _-_, _<_, _≤_, _^_, _/_, _%_}
-use mathlib.Core.Path.{_≡_, refl, sym, ap, _∙_}
-use mathlib.Core.Bool.{true, false≢true}
+use Rattle.whole.specs.Plain.{ℕ, zero, suc, _+_, _*_, _-_, _<_, _≤_, _^_, _/_, _%_, _≡_, refl, sym, ap, _∙_, true}
+use Rattle.whole.specs.Plain.{false≢true, ℤ, pos, negsuc, negℤ, natAbs, _*ℤ_, mag, ltZ, quotZ, ltb-true}
+use Rattle.whole.specs.Plain.{div-eq-of-lt-le, div-add-mod', div-le-of-le-mul, div-mul-le-self, lt-div-mul-add}
+use Rattle.whole.specs.Plain.{mul-le-mul-right, mul-le-mul-left, mod-lt, arith}
 use native.Mathlib.Nat as NatL
-use native.Mathlib.Nat.{div-eq-of-lt-le, div-add-mod', div-le-of-le-mul, div-mul-le-self, lt-div-mul-add, mul-le-mul-right, mul-le-mul-left, mod-lt}
-use native.Mathlib.Omega.{arith}
-use borrow.Author.Tests.{ltb-true}
-use lib.IntN.{ℤ, pos, negsuc, negℤ, natAbs, _*ℤ_}
-use lib.Signed.{mag, ltZ, quotZ}
 use mir.Syntax.{w64}
 use mir.Val.{SFits, ofZ}
 use Rattle.whole.specs.Int.{abs-neg, abs-mul}
@@ -62,9 +58,6 @@ neg-fits (suc k) n h l = record { sfits = omega arith }
 pub quot-fits : (x : ℤ) (d : ℕ) → mag x < 2 ^ 63 → SFits w64 (quotZ x (pos d))
 quot-fits (pos n) d h = record { sfits = NatL.lt-of-le-of-lt (NatL.div-le-self n d) h }
 quot-fits (negsuc n) d h = neg-fits (suc n / d) n (NatL.div-le-self (suc n) d) h
-
-pub quot-size : {x : ℤ} {m : ℕ} (d : ℕ) → ∣ x ∣≤ m → ∣ quotZ x (pos d) ∣≤ m
-quot-size {x} d p = record { size = omega (arith, quot-abs x d, NatL.div-le-self (natAbs x) d, p .size) }
 
 -- a part n / d of x, with n at most d, is no larger than x
 pub part-size : {x : ℤ} {m : ℕ} (n d : ℕ) → n ≤ d → ∣ x ∣≤ m → ∣ quotZ (x *ℤ pos n) (pos d) ∣≤ m

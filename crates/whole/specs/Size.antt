@@ -1,12 +1,6 @@
 -- ∣ z ∣≤ m, as a record, so that z and m are inferred from a proof: bounds are put together forward, and no argument is written.
-use mathlib.Core.Path.{_≡_}
-use mathlib.Core.Bool.{true}
-use Prim.Native.Nat.{ℕ, _+_, _*_, _≤_, _^_}
-use native.Mathlib.Omega.{arith}
-use native.Mathlib.Nat.{le-trans}
-use borrow.Author.Tests.{leb-true}
-use lib.Dec.{T, ltb, leb, ltb→lt, leb→le}
-use lib.IntN.{ℤ, natAbs, _+ℤ_, _-ℤ_, _*ℤ_}
+use Rattle.whole.specs.Plain.{ℕ, _+_, _*_, _≤_, _^_, T, ltb, leb, ltb→lt, leb→le, ℤ, natAbs, _+ℤ_, _-ℤ_, _*ℤ_}
+use Rattle.whole.specs.Plain.{le-trans, arith}
 use mir.Syntax.{w64}
 use mir.Val.{SFits}
 use Rattle.whole.specs.Int.{fits64, abs-add-le, abs-sub-le, abs-mul-le}
@@ -31,6 +25,3 @@ weaken {x} {m} {n} p t = record { size = le-trans (p .size) (leb→le m n t) }
 -- it fits a word where the bound does; at a numeral, `fits p tt`
 pub fits : {x : ℤ} {m : ℕ} → ∣ x ∣≤ m → T (ltb m (2 ^ 63)) → SFits w64 x
 fits {x} {m} p t = let h = ltb→lt m (2 ^ 63) t in fits64 x (omega (arith, p .size))
-
-pub tested : (x : ℤ) (m : ℕ) → leb (natAbs x) m ≡ true → ∣ x ∣≤ m
-tested x m e = record { size = leb-true (natAbs x) m e }

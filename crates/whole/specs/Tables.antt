@@ -1,9 +1,5 @@
 -- A table as the list of what a function gives at each place: a constant table of the code is one, by computation. Assumes nothing.
-use Prim.Native.Nat.{ℕ, zero, suc, _+_, _<_}
-use mathlib.Core.Path.{_≡_, refl, ap, _∙_}
-use mathlib.Core.List.{List, [], _∷_}
-use native.Mathlib.Omega.{arith}
-use lib.ListN.{getD}
+use Rattle.whole.specs.Plain.{ℕ, zero, suc, _+_, _<_, _≡_, ap, _∙_, List, [], _∷_, getD, arith}
 
 module _ {A : Type 0} where
   -- f at i, i + 1, .. : n entries

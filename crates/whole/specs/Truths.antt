@@ -1,6 +1,5 @@
 -- Tests joined with a known one. Assumes nothing.
-use mathlib.Core.Path.{_≡_, refl}
-use mathlib.Core.Bool.{Bool, true, false, _&&_, _||_}
+use Rattle.whole.specs.Plain.{_≡_, refl, Bool, true, false, _&&_, _||_}
 
 pub and-false : (b : Bool) → (b && false) ≡ false
 and-false true = refl

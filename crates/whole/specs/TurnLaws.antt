@@ -1,14 +1,7 @@
 -- More laws of counted loops: split, kept, seen through a function, written place by place. Assumes nothing.
-use Prim.Native.Nat.{ℕ, zero, suc, _+_, _-_, _<_, _≤_}
-use mathlib.Core.Path.{_≡_, refl, ap, _∙_}
-use mathlib.Core.Bool.{Bool, true, false}
-use mathlib.Core.List.{List}
-use native.Mathlib.Omega.{arith}
-use borrow.Author.Tests.{ltb-true, ltb-false}
-use lib.Dec.{ltb}
-use lib.ListN.{length, getD, set, length-set}
-use lib.Seq.{getD-set-same, getD-set-other}
-use Rattle.whole.specs.Lists.{fold, numbers}
+use Rattle.whole.specs.Plain.{ℕ, zero, suc, _+_, _-_, _<_, _≤_, _≡_, refl, ap, _∙_, Bool, true, false, List, ltb}
+use Rattle.whole.specs.Plain.{length, getD, set, length-set, getD-set-same, getD-set-other, ltb-true, ltb-false}
+use Rattle.whole.specs.Plain.{arith, fold, numbers}
 use Rattle.whole.specs.Turns.{run, turns, downs}
 
 module _ {A : Type 0} where
@@ -103,12 +96,6 @@ module _ {A : Type 0} (d : A) (g : ℕ → A → A) where
   run-before (suc k) i l p h =
       run-before k (suc i) (setHere i l) p (omega arith) ∙ getD-set-other l i p (g i (getD l i d)) d (λ e. omega arith)
 
-  run-after : (k i : ℕ) (l : List A) (p : ℕ) → i + k ≤ p → getD (run k i setHere l) p d ≡ getD l p d
-  unfolding run
-  run-after zero i l p h = refl
-  run-after (suc k) i l p h =
-      run-after k (suc i) (setHere i l) p (omega arith) ∙ getD-set-other l i p (g i (getD l i d)) d (λ e. omega arith)
-
   run-length : (k i : ℕ) (l : List A) → length (run k i setHere l) ≡ length l
   unfolding run
   run-length zero i l = refl
@@ -137,10 +124,6 @@ module _ {A : Type 0} (d : A) (g : ℕ → A → A) where
   pub turns-before : (i n : ℕ) (l : List A) (p : ℕ) → p < i → getD (turns i n setHere l) p d ≡ getD l p d
   unfolding turns
   turns-before i n l p h = run-before (n - i) i l p h
-
-  pub turns-after : (i n : ℕ) (l : List A) (p : ℕ) → i ≤ n → n ≤ p → getD (turns i n setHere l) p d ≡ getD l p d
-  unfolding turns
-  turns-after i n l p h k = run-after (n - i) i l p (omega arith)
 
   pub turns-length : (i n : ℕ) (l : List A) → length (turns i n setHere l) ≡ length l
   unfolding turns

@@ -1,11 +1,6 @@
 -- A list that has f k at each place k below n: what a loop that writes place by place has done so far. Assumes nothing.
-use Prim.Native.Nat.{ℕ, zero, suc, _+_, _≤_, _<_}
-use mathlib.Core.Path.{_≡_, refl, sym, ap, _∙_}
-use mathlib.Core.List.{List, [], _∷_}
-use native.Mathlib.Omega.{arith}
-use native.Mathlib.Decide.{ℕ-discrete}
-use lib.ListN.{length, getD, set}
-use lib.Seq.{getD-set-same, getD-set-other, ext-getD}
+use Rattle.whole.specs.Plain.{ℕ, zero, suc, _+_, _<_, _≡_, refl, _∙_, List, [], _∷_, length, getD, set}
+use Rattle.whole.specs.Plain.{getD-set-same, getD-set-other, ℕ-discrete, arith}
 
 module _ {A : Type 0} where
   pub record Upto (d : A) (f : ℕ → A) (n : ℕ) (l : List A) : Type 0 where
@@ -18,15 +13,7 @@ module _ {A : Type 0} where
   upto-next d f n l x h e u = record { at = place }
     where
       place : (k : ℕ) → k < n + 1 → getD (set l n x) k d ≡ f k
-      place k q = go (ℕ-discrete k n)
-        where
-          go : Dec (k ≡ n) → getD (set l n x) k d ≡ f k
-          go (yes p) = rw p (getD-set-same l n x d h ∙ e)
-          go (no p) = getD-set-other l n k x d p ∙ u .at k (omega arith)
-
-  -- a list of n places is known by them
-  pub upto-whole : (d : A) (f : ℕ → A) (l m : List A) → length l ≡ length m → Upto d f (length l) l → Upto d f (length m) m → l ≡ m
-  upto-whole d f l m e u v = ext-getD d l m e (λ i h. u .at i h ∙ sym (v .at i (omega arith)))
+      place k q = elim (ℕ-discrete k n) [ yes p ↦ rw p (getD-set-same l n x d h ∙ e) | no p ↦ getD-set-other l n k x d p ∙ u .at k (omega arith) ]
 
   -- within a list, what stands past its end does not matter
   pub any-default : (l : List A) (n : ℕ) (d e : A) → n < length l → getD l n d ≡ getD l n e

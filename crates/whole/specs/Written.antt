@@ -1,25 +1,17 @@
 -- Lists written place by place, and sums, counts and tests over the parts of a list that pass. Assumes nothing.
-use Prim.Native.Nat.{ℕ, zero, suc, _+_, _<_, _≤_}
-use mathlib.Core.Path.{_≡_, refl, sym, ap, _∙_}
-use mathlib.Core.Bool.{Bool, true, false, cond, _&&_, _||_, false≢true}
-use mathlib.Core.List.{List, [], _∷_}
-use native.Mathlib.Omega.{arith}
-use borrow.Author.Tests.{eqb-true, eqb-false, ne-eqb}
-use lib.Dec.{eqb}
-use lib.ListN.{length, getD, take, drop, set, length-set, take-append-drop}
-use lib.Seq.{getD-set-same, getD-set-other}
-use lib.IntN.{ℤ}
-use Rattle.whole.specs.Lists.{z, any, count, keep, total, fold, numbers}
+use Rattle.whole.specs.Plain.{ℕ, zero, suc, _+_, _<_, _≤_, _≡_, refl, sym, ap, _∙_, Bool, true, false, cond, _&&_}
+use Rattle.whole.specs.Plain.{_||_, false≢true, List, [], _∷_, eqb, ℤ, length, getD, take, drop, set, length-set}
+use Rattle.whole.specs.Plain.{take-append-drop, getD-set-same, getD-set-other, eqb-true, eqb-false, ne-eqb, arith}
+use Rattle.whole.specs.Plain.{z, any, count, keep, total, fold, numbers}
 use Rattle.whole.specs.Folds.{or-left, or-right, count-append}
 use Rattle.whole.specs.Totals.{total-zero}
 
 -- what is written at a place, and what at another
 pub set-at : {A : Type 0} (l : List A) (i n : ℕ) (x d : A) → n < length l → getD (set l i x) n d ≡ cond (eqb i n) x (getD l n d)
-set-at l i n x d h = by-test (eqb i n) refl
-  where
-    by-test : (b : Bool) → eqb i n ≡ b → getD (set l i x) n d ≡ cond b x (getD l n d)
-    by-test true e = let q : i ≡ n = eqb-true i n e in rw q (getD-set-same l n x d h)
-    by-test false e = getD-set-other l i n x d (λ q. eqb-false i n e (sym q))
+set-at l i n x d h = elim (eqb i n) as (λ b. eqb i n ≡ b → getD (set l i x) n d ≡ cond b x (getD l n d)) [
+  | true ↦ λ e. let q : i ≡ n = eqb-true i n e in rw q (getD-set-same l n x d h)
+  | false ↦ λ e. getD-set-other l i n x d (λ q. eqb-false i n e (sym q))
+] refl
 
 module _ {A : Type 0} where
   pub total-none : (p : A → Bool) (f : A → ℤ) (l : List A) → any p l ≡ false → total (λ a. cond (p a) (f a) z) l ≡ z
@@ -37,11 +29,10 @@ module _ {A : Type 0} where
   pub count-imply : (p q : A → Bool) (l : List A) → ((a : A) → p a ≡ true → q a ≡ true) → count p l ≤ count q l
   unfolding count
   count-imply p q [] h = omega arith
-  count-imply p q (a ∷ l) h = by-test (p a) refl (q a) (count-imply p q l h)
-    where
-      by-test : (b : Bool) → p a ≡ b → (c : Bool) → count p l ≤ count q l → cond b 1 0 + count p l ≤ cond (q a) 1 0 + count q l
-      by-test true e c k = rw (h a e) (omega arith)
-      by-test false e c k = omega arith
+  count-imply p q (a ∷ l) h = elim (p a) as (λ b. p a ≡ b → (c : Bool) → count p l ≤ count q l → cond b 1 0 + count p l ≤ cond (q a) 1 0 + count q l) [
+    | true ↦ λ e c k. rw (h a e) (omega arith)
+    | false ↦ λ e c k. omega arith
+  ] refl (q a) (count-imply p q l h)
 
   -- a fold that writes, at each number that passes, what belongs there
   pub fold-set : (q : ℕ → Bool) (f : ℕ → A) (w : List A) (l : List ℕ) (n : ℕ) (d : A) → n < length w
@@ -60,10 +51,6 @@ module _ {A : Type 0} where
       hit false true = refl
       hit false false = refl
 
-      head : (b : Bool) → getD (cond b (set w n (f n)) w) n d ≡ cond b (f n) (getD w n d)
-      head true = getD-set-same w n (f n) d h
-      head false = refl
-
       other : (b : Bool) → (n ≡ m → ⊥) → getD (cond b (set w m (f m)) w) n d ≡ getD w n d
       other true g = getD-set-other w m n (f m) d g
       other false g = refl
@@ -72,7 +59,7 @@ module _ {A : Type 0} where
           → cond (any (λ m. eqb m n) l && q n) (f n) (getD (cond (q m) (set w m (f m)) w) n d) ≡ cond ((t || any (λ m. eqb m n) l) && q n) (f n) (getD w n d)
       by-place true e =
           let g : m ≡ n = eqb-true m n e in
-          rw (g, head (q n)) (hit (q n) (any (λ m. eqb m n) l))
+          rw (g, (elim (q n) as (λ b. getD (cond b (set w n (f n)) w) n d ≡ cond b (f n) (getD w n d)) [ true ↦ getD-set-same w n (f n) d h | false ↦ refl ])) (hit (q n) (any (λ m. eqb m n) l))
       by-place false e = rw (other (q m) (λ g. eqb-false m n e (sym g)))
 
 -- whether a number is among those kept
@@ -94,11 +81,7 @@ kept-in p i zero n e lo hi = absurd (omega arith)
 kept-in p i (suc k) n e lo hi = by-place (eqb i n) refl (λ g. kept-in p (suc i) k n e g (omega arith))
   where
     later : (b : Bool) → any (λ m. eqb m n) (keep p (numbers (suc i) k)) ≡ true → any (λ m. eqb m n) (cond b (i ∷ keep p (numbers (suc i) k)) (keep p (numbers (suc i) k))) ≡ true
-    later true r = rw r (or-true (eqb i n))
-      where
-        or-true : (b : Bool) → (b || true) ≡ true
-        or-true true = refl
-        or-true false = refl
+    later true r = rw r (elim (eqb i n) as (λ b. (b || true) ≡ true) [ true ↦ refl | false ↦ refl ])
     later false r = r
 
     by-place : (t : Bool) → eqb i n ≡ t → (i < n → any (λ m. eqb m n) (keep p (numbers (suc i) k)) ≡ true)
@@ -117,13 +100,10 @@ pub record Somewhere {A : Type 0} (p : A → Bool) (l : List A) (d : A) : Type 0
 pub some-at : {A : Type 0} (p : A → Bool) (l : List A) (d : A) → any p l ≡ true → Somewhere p l d
 unfolding any
 some-at p [] d e = absurd (false≢true e)
-some-at p (a ∷ l) d e = by-test (p a) refl (λ r. some-at p l d r)
-  where
-    by-test : (b : Bool) → p a ≡ b → (any p l ≡ true → Somewhere p l d) → Somewhere p (a ∷ l) d
-    by-test true f next = record { place = 0; within = omega arith; passes = f }
-    by-test false f next =
-        let s = next (rw f at e) in
-        record { place = suc (s .place); within = omega (arith, s .within); passes = s .passes }
+some-at p (a ∷ l) d e = elim (p a) as (λ b. p a ≡ b → (any p l ≡ true → Somewhere p l d) → Somewhere p (a ∷ l) d) [
+  | true ↦ λ f next. record { place = 0; within = omega arith; passes = f }
+  | false ↦ λ f next. let s = next (rw f at e) in record { place = suc (s .place); within = omega (arith, s .within); passes = s .passes }
+] refl (λ r. some-at p l d r)
 
 -- what is kept twice, and by tests that agree
 pub keep-keep : {A : Type 0} (p q : A → Bool) (l : List A) → keep p (keep q l) ≡ keep (λ a. q a && p a) l
@@ -134,9 +114,3 @@ keep-keep {A = A} p q (a ∷ l) = by-test (q a) ∙ ap (λ (r : List A). cond (q
     by-test : (b : Bool) → keep p (cond b (a ∷ keep q l) (keep q l)) ≡ cond (b && p a) (a ∷ keep p (keep q l)) (keep p (keep q l))
     by-test true = refl
     by-test false = refl
-
-pub keep-numbers : (p q : ℕ → Bool) (i k : ℕ) → ((n : ℕ) → i ≤ n → n < i + k → p n ≡ q n) → keep p (numbers i k) ≡ keep q (numbers i k)
-unfolding keep numbers
-keep-numbers p q i zero h = refl
-keep-numbers p q i (suc k) h =
-    rw (h i (omega arith) (omega arith)) (ap (λ (r : List ℕ). cond (q i) (i ∷ r) r) (keep-numbers p q (suc i) k (λ n lo hi. h n (omega arith) (omega arith))))

@@ -1,11 +1,5 @@
 // Whole numbers: the tests and divisions that every crate above makes. The laws stand in specs/.
-ghost use mathlib.Core.Path.{_≡_};
-ghost use Prim.Native.Nat.{_<_};
-ghost use lib.Dec.{T};
-ghost use mathlib.Core.Bool.{true};
-ghost use lib.IntN.{pos, natAbs};
-ghost use lib.Signed.{nonNeg, ltZ, quotZ};
-ghost use Rattle.whole.specs.Lists.{upTo, every};
+ghost use Rattle.whole.specs.Plain.{_<_, _≡_, true, T, pos, natAbs, nonNeg, ltZ, quotZ, upTo, every};
 ghost use Rattle.whole.specs.Ranges.{roomOf};
 ghost use Rattle.whole.specs.Rounding.{nearest};
 ghost use Rattle.whole.specs.Floor.{high, low};

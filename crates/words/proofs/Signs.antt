@@ -1,12 +1,6 @@
 -- A small number as a signed word, and its negation. Assumes nothing.
-use Prim.Native.Nat.{ℕ, _≤_, _<_, _^_}
-use native.Mathlib.Omega.{arith}
-use mathlib.Core.Path.{_≡_, sym, _∙_, ap, subst}
-use mathlib.Core.Bool.{true}
-use lib.Dec.{eqb}
-use lib.IntN.{ℤ, pos, negℤ, natAbs, _-ℤ_, +ℤ-idl}
-use lib.ListN.{getD, length}
-use mathlib.Core.List.{List, [], _∷_}
+use Rattle.whole.specs.Plain.{ℕ, _≤_, _≡_, _∙_, ap, true, List, [], _∷_, eqb, ℤ, pos, negℤ, _-ℤ_, +ℤ-idl, getD, length}
+use Rattle.whole.specs.Plain.{arith}
 use mir.Syntax.{w64}
 use mir.Val.{SFits, toZ, ofZ}
 use mir.Facts.{toZ-ofZ}

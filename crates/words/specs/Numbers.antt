@@ -1,17 +1,11 @@
 -- A number of any length, held at an end that lies past every field's. Assumes nothing.
-use Prim.Native.Nat.{ℕ, zero, suc, _+_, _*_, _-_, _≤_, _<_}
-use native.Mathlib.Omega.{arith}
-use mathlib.Core.Path.{_≡_, refl, sym, _∙_, ap, subst}
-use mathlib.Core.Bool.{Bool, true, false, not, cond, _&&_, _||_}
-use mathlib.Core.List.{List, [], _∷_}
-use borrow.Author.Tests.{ltb-true, ltb-false, lt-ltb, le-ltb, eqb-true, eqb-false, ne-eqb}
-use lib.Dec.{leb, ltb, eqb}
-use lib.IntN.{ℤ, pos, negsuc, negℤ}
-use lib.ListN.{getD, length, drop, drop-of-length-le, length-drop}
-use lib.Seq.{drop-cons}
+use Rattle.whole.specs.Plain.{ℕ, zero, suc, _+_, _*_, _-_, _≤_, _<_, _≡_, refl, sym, _∙_, ap, subst, Bool, true, false}
+use Rattle.whole.specs.Plain.{not, cond, _&&_, _||_, List, [], _∷_, ltb, eqb, ℤ, pos, negsuc, negℤ, getD, length, drop}
+use Rattle.whole.specs.Plain.{drop-of-length-le, length-drop, drop-cons, lt-ltb, le-ltb, eqb-true, eq-eqb, ne-eqb}
+use Rattle.whole.specs.Plain.{decLt, ℕ-discrete, arith, z, empty, every, fold}
 use Rattle.whole.specs.Truths.{and-false, and-true, or-false}
-use Rattle.whole.specs.Lists.{z, empty, every, fold}
-use Rattle.paper.specs.Text.{MINUS, digit, decimal, negative, decimalOf, numberOf}
+use Rattle.paper.specs.Text.{digit, decimal, negative, decimalOf, numberOf}
+use Rattle.paper.specs.Kept.{either}
 use Rattle.words.specs.declared.Digits.{Digits}
 use Rattle.words.specs.declared.Number.{Number}
 
@@ -32,11 +26,7 @@ unfolding cap
 cap-large n h = rw (le-ltb n heldEnd h)
 
 pub cap-most : (n : ℕ) → cap n ≤ heldEnd
-cap-most n = by-test (ltb n heldEnd) refl
-  where
-    by-test : (t : Bool) → ltb n heldEnd ≡ t → cap n ≤ heldEnd
-    by-test true e = rw (cap-small n (ltb-true n heldEnd e)) (let h : n < heldEnd = ltb-true n heldEnd e in omega arith)
-    by-test false e = rw (cap-large n (ltb-false n heldEnd e)) (omega arith)
+cap-most n = elim (decLt n heldEnd) [ yes h ↦ rw (cap-small n h) (omega arith) | no h ↦ rw (cap-large n (omega arith)) (omega arith) ]
 
 unfoldable pub capZ : ℤ → ℤ
 capZ (pos n) = pos (cap n)
@@ -53,13 +43,9 @@ held v b = cap (10 * v + (b - 48))
 
 held-cap : (v b : ℕ) → held (cap v) b ≡ cap (10 * v + (b - 48))
 unfolding held
-held-cap v b = by-test (ltb v heldEnd) refl
-  where
-    by-test : (t : Bool) → ltb v heldEnd ≡ t → cap (10 * cap v + (b - 48)) ≡ cap (10 * v + (b - 48))
-    by-test true e = rw (cap-small v (ltb-true v heldEnd e))
-    by-test false e =
-        let h : heldEnd ≤ v = ltb-false v heldEnd e in
-        rw (cap-large v h, cap-large (10 * heldEnd + (b - 48)) (omega arith), cap-large (10 * v + (b - 48)) (omega arith))
+held-cap v b =
+    elim (decLt v heldEnd)
+    [ yes h ↦ rw (cap-small v h) | no h ↦ rw (cap-large v (omega arith), cap-large (10 * heldEnd + (b - 48)) (omega arith), cap-large (10 * v + (b - 48)) (omega arith)) ]
 
 -- holding on the way is holding at the end
 held-fold : (v : ℕ) (s : List ℕ) → fold held (cap v) s ≡ cap (fold (λ n b. 10 * n + (b - 48)) v s)
@@ -102,15 +88,10 @@ decimal-is b [] e = sym (and-true (digit b))
 decimal-is b (c ∷ t) e = rw (e, and-true (digit b))
 
 -- what the digits read give
-given : (b : Bool) (v : ℕ) (x : ℤ) → (b ≡ true → pos v ≡ x)
-    → _≡_ {A = Number} (record { ok = digitsIf b v .ok; value = pos (digitsIf b v .value) }) (record { ok = b; value = cond b x z })
-given true v x h = rw (h refl)
-given false v x h = refl
-
-given-neg : (b : Bool) (v : ℕ) (x : ℤ) → (b ≡ true → negℤ (pos v) ≡ x)
-    → _≡_ {A = Number} (record { ok = digitsIf b v .ok; value = negℤ (pos (digitsIf b v .value)) }) (record { ok = b; value = cond b x z })
-given-neg true v x h = rw (h refl)
-given-neg false v x h = refl
+given : (f : ℕ → ℤ) → f 0 ≡ z → (b : Bool) (v : ℕ) (x : ℤ) → f v ≡ x
+    → _≡_ {A = Number} (record { ok = digitsIf b v .ok; value = f (digitsIf b v .value) }) (record { ok = b; value = cond b x z })
+given f o true v x h = rw h
+given f o false v x h = rw o
 
 abbrev pub asNumber : Digits → Number
 asNumber d = record { ok = d .ok; value = pos (d .value) }
@@ -118,25 +99,38 @@ asNumber d = record { ok = d .ok; value = pos (d .value) }
 abbrev pub asNegative : Digits → Number
 asNegative d = record { ok = d .ok; value = negℤ (pos (d .value)) }
 
-zero-is : (t : List ℕ) → asNumber (zeroIf (empty t)) ≡ (record { ok = decimal (48 ∷ t); value = cond (decimal (48 ∷ t)) (capZ (numberOf (48 ∷ t))) z })
+abbrev plainRead : List ℕ → Number
+plainRead s = record { ok = decimal s; value = cond (decimal s) (capZ (numberOf s)) z }
+
+zero-is : (t : List ℕ) → asNumber (zeroIf (empty t)) ≡ plainRead (48 ∷ t)
 unfolding decimal digit numberOf decimalOf fold capZ cap
 zero-is [] = refl
 zero-is (c ∷ t) = refl
 
-digits-are : (b : ℕ) (t : List ℕ) → eqb b 45 ≡ false → eqb b 48 ≡ false
-    → asNumber (digitsOf (b ∷ t)) ≡ (record { ok = decimal (b ∷ t); value = cond (decimal (b ∷ t)) (capZ (numberOf (b ∷ t))) z })
+digits-are : (b : ℕ) (t : List ℕ) → eqb b 45 ≡ false → eqb b 48 ≡ false → asNumber (digitsOf (b ∷ t)) ≡ plainRead (b ∷ t)
 unfolding digitsOf numberOf capZ
 digits-are b t m e =
-    rw (decimal-is b t e, m) (given (every digit (b ∷ t)) (fold held 0 (b ∷ t)) (pos (cap (decimalOf (b ∷ t)))) (λ _. ap pos (held-decimal (b ∷ t))))
+    rw (decimal-is b t e, m) (given pos refl (every digit (b ∷ t)) (fold held 0 (b ∷ t)) (pos (cap (decimalOf (b ∷ t)))) (ap pos (held-decimal (b ∷ t))))
 
-plain-is : (s : List ℕ) → eqb (getD s 0 0) 45 ≡ false → asNumber (plainOf true s) ≡ (record { ok = decimal s; value = cond (decimal s) (capZ (numberOf s)) z })
+not-decimal : (t : List ℕ) → decimal (45 ∷ t) ≡ false
+unfolding decimal digit
+not-decimal [] = refl
+not-decimal (c ∷ t) = refl
+
+-- a minus is no digit
+no-digits : (t : List ℕ) → asNumber (plainOf true (45 ∷ t)) ≡ plainRead (45 ∷ t)
+unfolding plainOf digitsOf every digit
+no-digits t = rw (not-decimal t)
+
+plain-is : (s : List ℕ) → asNumber (plainOf true s) ≡ plainRead s
 unfolding plainOf decimal
-plain-is [] m = refl
-plain-is (b ∷ t) m = by-zero (eqb b 48) refl
-  where
-    by-zero : (e : Bool) → eqb b 48 ≡ e → asNumber (plainOf true (b ∷ t)) ≡ (record { ok = decimal (b ∷ t); value = cond (decimal (b ∷ t)) (capZ (numberOf (b ∷ t))) z })
-    by-zero true e = subst (λ (x : ℕ). asNumber (plainOf true (x ∷ t)) ≡ (record { ok = decimal (x ∷ t); value = cond (decimal (x ∷ t)) (capZ (numberOf (x ∷ t))) z })) (sym (eqb-true b 48 e)) (zero-is t)
-    by-zero false e = rw e (digits-are b t m e)
+plain-is [] = refl
+plain-is (b ∷ t) =
+    let P : ℕ → Type 0 = λ x. asNumber (plainOf true (x ∷ t)) ≡ plainRead (x ∷ t) in
+    elim (ℕ-discrete b 48) [
+      | yes q ↦ subst P (sym q) (zero-is t)
+      | no n ↦ elim (ℕ-discrete b 45) [ yes q ↦ subst P (sym q) (no-digits t) | no m ↦ rw (ne-eqb b 48 n) (digits-are b t (ne-eqb b 45 m) (ne-eqb b 48 n)) ]
+    ]
 
 -- ---- and one with it
 
@@ -146,24 +140,11 @@ peakOf t = let ok = decimal t && not (eqb (getD t 0 48) 48) in record { ok = ok;
 minus-is : (t : List ℕ) → asNegative (plainOf false t) ≡ peakOf t
 unfolding plainOf decimal digitsOf
 minus-is [] = refl
-minus-is (b ∷ t) = by-zero (eqb b 48) refl
-  where
-    by-zero : (e : Bool) → eqb b 48 ≡ e → asNegative (plainOf false (b ∷ t)) ≡ peakOf (b ∷ t)
-    by-zero true e = rw (e, and-false (decimal (b ∷ t)))
-    by-zero false e =
-        rw (e, and-true (decimal (b ∷ t)), decimal-is b t e)
-        (given-neg (every digit (b ∷ t)) (fold held 0 (b ∷ t)) (capZ (negℤ (pos (decimalOf (b ∷ t)))))
-        (λ _. ap (λ (n : ℕ). negℤ (pos n)) (held-decimal (b ∷ t)) ∙ sym (cap-neg (decimalOf (b ∷ t)))))
-
-not-decimal : (t : List ℕ) → decimal (45 ∷ t) ≡ false
-unfolding decimal digit
-not-decimal [] = refl
-not-decimal (c ∷ t) = refl
-
--- a minus is no digit
-no-digits : (t : List ℕ) → asNumber (plainOf true (45 ∷ t)) ≡ (record { ok = false; value = z })
-unfolding plainOf digitsOf every digit
-no-digits t = refl
+minus-is (b ∷ t) =
+    let neg : ℕ → ℤ = λ n. negℤ (pos n) in
+    let given-neg = given neg refl (every digit (b ∷ t)) (fold held 0 (b ∷ t)) (capZ (negℤ (pos (decimalOf (b ∷ t))))) (ap neg (held-decimal (b ∷ t)) ∙ sym (cap-neg (decimalOf (b ∷ t)))) in
+    elim (ℕ-discrete b 48)
+    [ yes q ↦ rw (eq-eqb b 48 q, and-false (decimal (b ∷ t))) | no n ↦ rw (ne-eqb b 48 n, and-true (decimal (b ∷ t)), decimal-is b t (ne-eqb b 48 n)) given-neg ]
 
 -- ---- a field
 
@@ -181,15 +162,7 @@ no-negative false s e = refl
 
 pub without-minus : (signed : Bool) (s : List ℕ) → (signed && eqb (getD s 0 0) 45) ≡ false → asNumber (plainOf true s) ≡ readNumber signed s
 unfolding readNumber
-without-minus signed s e = by-first (eqb (getD s 0 0) 45) refl
-  where
-    at-minus : (s : List ℕ) → eqb (getD s 0 0) 45 ≡ true → asNumber (plainOf true s) ≡ (record { ok = decimal s; value = cond (decimal s) (capZ (numberOf s)) z })
-    at-minus [] f = let c : _≡_ {A = ℕ} 0 1 = cc in absurd (omega arith)
-    at-minus (b ∷ t) f = let q : b ≡ 45 = eqb-true b 45 f in rw (q, not-decimal t) (no-digits t)
-
-    by-first : (m : Bool) → eqb (getD s 0 0) 45 ≡ m → asNumber (plainOf true s) ≡ readNumber signed s
-    by-first true f = rw (no-negative signed s e, or-false (decimal s)) (at-minus s f)
-    by-first false f = rw (no-negative signed s e, or-false (decimal s)) (plain-is s f)
+without-minus signed s e = rw (no-negative signed s e, or-false (decimal s)) (plain-is s)
 
 -- ---- how large it may be
 
@@ -205,11 +178,8 @@ if-most false v h = omega arith
 pub plain-most : (may : Bool) (s : List ℕ) → plainOf may s .value ≤ heldEnd
 unfolding plainOf digitsOf
 plain-most may [] = omega arith
-plain-most may (b ∷ t) = by-zero (eqb b 48)
-  where
-    by-zero : (e : Bool) → cond e (zeroIf (may && empty t)) (digitsOf (b ∷ t)) .value ≤ heldEnd
-    by-zero true = omega arith
-    by-zero false = if-most (every digit (b ∷ t)) (fold held 0 (b ∷ t)) (fold-most 0 (b ∷ t) (omega arith))
+plain-most may (b ∷ t) =
+    either (λ (d : Digits). d .value ≤ heldEnd) (eqb b 48) _ _ (omega arith) (if-most (every digit (b ∷ t)) (fold held 0 (b ∷ t)) (fold-most 0 (b ∷ t) (omega arith)))
 
 -- ---- the ways through the code
 
@@ -222,17 +192,13 @@ unfolding digitsOf
 digits-good s v e f = rw (e, f)
 
 empty-drop : (s : List ℕ) (i : ℕ) → i < length s → empty (drop (suc i) s) ≡ eqb (length s) (i + 1)
-empty-drop s i h = by-test (eqb (length s) (i + 1)) refl
+empty-drop s i h =
+    elim (ℕ-discrete (length s) (i + 1))
+    [ yes q ↦ let m : length s ≤ suc i = omega arith in rw (eq-eqb (length s) (i + 1) q, drop-of-length-le s m) | no n ↦ rw (ne-eqb (length s) (i + 1) n) (some (drop (suc i) s) (λ e. n (omega (arith, length-drop (suc i) s)))) ]
   where
     some : (t : List ℕ) → (length t ≡ 0 → ⊥) → empty t ≡ false
     some [] n = absurd (n refl)
     some (b ∷ t) n = refl
-
-    by-test : (t : Bool) → eqb (length s) (i + 1) ≡ t → empty (drop (suc i) s) ≡ eqb (length s) (i + 1)
-    by-test true e = let l : length s ≡ i + 1 = eqb-true (length s) (i + 1) e in let m : length s ≤ suc i = omega arith in rw (e, drop-of-length-le s m)
-    by-test false e =
-        let l : length s ≡ i + 1 → ⊥ = eqb-false (length s) (i + 1) e in
-        rw e (some (drop (suc i) s) (λ (n : length (drop (suc i) s) ≡ 0). l (omega (arith, length-drop (suc i) s))))
 
 module _ (may : Bool) (s : List ℕ) (start : ℕ) where
   pub plain-none : length s ≤ start → noDigits ≡ plainOf may (drop start s)

@@ -1,24 +1,18 @@
 -- The words of the study text. Assumes nothing.
-use Prim.Native.Nat.{ℕ, zero, suc, _+_, _≤_, _<_}
-use native.Mathlib.Omega.{arith}
+use Rattle.whole.specs.Plain.{ℕ, suc, _+_, _≤_, _<_, _≡_, refl, sym, _∙_, ap, Bool, true, false, cond, _&&_, List, []}
+use Rattle.whole.specs.Plain.{_∷_, eqb, getD, length, drop, drop-of-length-le, drop-cons, eq-eqb, ne-eqb, arith}
+use Rattle.whole.specs.Plain.{sameBytes}
 use native.Mathlib.Numerals.{add-one}
-use mathlib.Core.Path.{_≡_, refl, sym, _∙_, ap}
-use mathlib.Core.Bool.{Bool, true, false, cond, _&&_, _||_}
-use mathlib.Core.List.{List, [], _∷_}
-use borrow.Author.Tests.{eq-eqb, ne-eqb}
-use lib.Dec.{eqb}
-use lib.ListN.{getD, length, drop, drop-of-length-le}
-use lib.Seq.{drop-cons}
 use Rattle.whole.specs.Tables.{table, table-at}
 use Rattle.whole.specs.Truths.{and-false}
-use Rattle.whole.specs.Lists.{sameBytes}
-use Rattle.paper.specs.Rows.{Kind, bytes, kinds, noKind}
+use Rattle.paper.specs.Rows.{bytes, kinds, unknown}
 use Rattle.paper.specs.Text.{placeOf}
+use Rattle.paper.specs.Kept.{either}
 use Rattle.kinds.specs.Fields.{each}
 
 -- the word of a kind
 unfoldable pub spelling : ℕ → List ℕ
-spelling k = getD kinds k (record { spelt = []; fields = [] }) .spelt
+spelling k = getD kinds k unknown .spelt
 
 -- ---- its letters, as code holds them
 
@@ -90,19 +84,15 @@ module _ {b n : ℕ} where
   -- L and LINE begin alike
   pub only-L : b ≡ 76 → n ≡ 1 → Only b n 2
   unfolding placeOf kinds bytes sameBytes spelling
-  only-L e o = record { most = omega arith; only = λ t l. rw e (alone t (omega arith)) }
-    where
-      alone : (t : List ℕ) → length t ≡ 0 → placeOf 0 kinds (76 ∷ t) ≡ cond (sameBytes (spelling 2) (76 ∷ t)) 2 8
-      alone [] l = refl
-      alone (c ∷ t) l = absurd (omega arith)
+  only-L e o =
+      let alone : (t : List ℕ) → suc (length t) ≡ n → placeOf 0 kinds (76 ∷ t) ≡ cond (sameBytes (spelling 2) (76 ∷ t)) 2 8 = elim [ [] ↦ λ l. refl | c ∷ t ↦ λ l. absurd (omega arith) ] in
+      record { most = omega arith; only = λ t l. rw e (alone t l) }
 
   pub only-LINE : b ≡ 76 → (n ≡ 1 → ⊥) → Only b n 4
   unfolding placeOf kinds bytes sameBytes spelling
-  only-LINE e o = record { most = omega arith; only = λ t l. rw e (more t l) }
-    where
-      more : (t : List ℕ) → suc (length t) ≡ n → placeOf 0 kinds (76 ∷ t) ≡ cond (sameBytes (spelling 4) (76 ∷ t)) 4 8
-      more [] l = absurd (o (omega arith))
-      more (c ∷ t) l = refl
+  only-LINE e o =
+      let more : (t : List ℕ) → suc (length t) ≡ n → placeOf 0 kinds (76 ∷ t) ≡ cond (sameBytes (spelling 4) (76 ∷ t)) 4 8 = elim [ [] ↦ λ l. absurd (o (omega arith)) | c ∷ t ↦ λ l. refl ] in
+      record { most = omega arith; only = λ t l. rw e (more t l) }
 
   pub only-study : Other b → Only b n 0
   unfolding placeOf kinds bytes sameBytes spelling
@@ -134,11 +124,7 @@ kind-at (b ∷ w) k h o = o .only w refl
 pub kind-past : (w : List ℕ) (k : ℕ) → (length w ≡ 0 → ⊥) → Only (getD w 0 0) (length w) k → 8 ≤ k → 8 ≡ placeOf 0 kinds w
 kind-past w k h o l =
     let e : k ≡ 8 = omega (arith, o .most) in
-    sym (kind-at w k h o ∙ ap (λ (n : ℕ). cond (sameBytes (spelling k) w) n 8) e ∙ alike (sameBytes (spelling k) w))
-  where
-    alike : (t : Bool) → _≡_ {A = ℕ} (cond t 8 8) 8
-    alike true = refl
-    alike false = refl
+    sym (kind-at w k h o ∙ ap (λ (n : ℕ). cond (sameBytes (spelling k) w) n 8) e ∙ either (λ (n : ℕ). n ≡ 8) (sameBytes (spelling k) w) 8 8 refl refl)
 
 pub kind-same : (w : List ℕ) (k : ℕ) (t : Bool) → (length w ≡ 0 → ⊥) → Only (getD w 0 0) (length w) k → t ≡ sameBytes (spelling k) w → cond t k 8 ≡ placeOf 0 kinds w
 kind-same w k t h o e = rw (kind-at w k h o, e)

@@ -1,14 +1,10 @@
 // A line's word as a kind, and a field as a number. "Numbers are decimal without leading zeros; a minus stands only before a nonzero peak";
 // "a number however long is well spelt".
-ghost use mathlib.Core.Path.{_≡_};
-ghost use mathlib.Core.Bool.{true, false, cond, _&&_};
-ghost use Prim.Native.Nat.{_≤_, _<_, _+_};
-ghost use lib.Dec.{eqb};
-ghost use lib.IntN.{pos, negℤ};
-ghost use lib.ListN.{length, getD, drop};
+ghost use Rattle.whole.specs.Plain.{_≤_, _<_, _+_, _≡_, true, false, cond, _&&_, eqb, pos, negℤ, length, getD, drop};
+ghost use Rattle.whole.specs.Plain.{sameBytes};
 ghost use Rattle.paper.specs.Rows.{kinds};
 ghost use Rattle.paper.specs.Text.{digit, placeOf};
-ghost use Rattle.whole.specs.Lists.{sameBytes};
+ghost use Rattle.whole.specs.Loans.{was};
 ghost use Rattle.words.specs.Numbers.{held, digitsOf, plainOf, readNumber};
 ghost use Rattle.words.specs.Words.{spelling, lettersOf, Only};
 
@@ -46,7 +42,7 @@ fn push(v: u64, b: u8) -> u64
 
 fn all_digits(s: &[u8], start: usize) -> Digits
     requires { ⌜ start ≤ length (now s) ⌝ }
-    ensures { λ r. ⌜ r ≡ digitsOf (drop start (now (s .entry))) ⌝ }
+    ensures { λ r. ⌜ r ≡ digitsOf (drop start (was s)) ⌝ }
 {
     let mut v: u64 = 0;
     let mut i = start;
@@ -67,7 +63,7 @@ fn all_digits(s: &[u8], start: usize) -> Digits
 // Digits without a leading zero, or 0 alone where it may stand.
 fn plain(s: &[u8], start: usize, zero: bool) -> Digits
     requires { ⌜ start ≤ length (now s) ⌝ }
-    ensures { λ r. ⌜ r ≡ plainOf zero (drop start (now (s .entry))) ⌝ }
+    ensures { λ r. ⌜ r ≡ plainOf zero (drop start (was s)) ⌝ }
 {
     if s.len() <= start {
         return Digits {
@@ -86,7 +82,7 @@ fn plain(s: &[u8], start: usize, zero: bool) -> Digits
 }
 
 fn starts_minus(s: &[u8]) -> bool
-    ensures { λ r. ⌜ r ≡ eqb (getD (now (s .entry)) 0 0) 45 ⌝ }
+    ensures { λ r. ⌜ r ≡ eqb (getD (was s) 0 0) 45 ⌝ }
 {
     if s.len() == 0 {
         return false;
@@ -96,7 +92,7 @@ fn starts_minus(s: &[u8]) -> bool
 
 // A field's number, and whether it is well spelt where a minus may stand, or may not.
 pub fn read_number(s: &[u8], signed: bool) -> Number
-    ensures { λ r. ⌜ r ≡ readNumber signed (now (s .entry)) ⌝ }
+    ensures { λ r. ⌜ r ≡ readNumber signed (was s) ⌝ }
 {
     if signed & starts_minus(s) {
         let n = plain(s, 1, false);
@@ -146,7 +142,7 @@ fn letters_of(kind: usize) -> [u8; 5]
 
 fn is_word(word: &[u8], kind: usize) -> bool
     requires { ⌜ kind < 8 ⌝ }
-    ensures { λ r. ⌜ r ≡ sameBytes (spelling kind) (now (word .entry)) ⌝ }
+    ensures { λ r. ⌜ r ≡ sameBytes (spelling kind) (was word) ⌝ }
 {
     if word.len() != length_of(kind) {
         return false;
@@ -162,7 +158,7 @@ fn is_word(word: &[u8], kind: usize) -> bool
     true
 }
 
-// The one kind whose word may begin so, or 8.
+// The one kind whose word may begin so, or the number of kinds.
 fn candidate(first: u8, length: usize) -> usize
     ensures { λ r. ⌜ Only first length r ⌝ }
 {
@@ -179,23 +175,23 @@ fn candidate(first: u8, length: usize) -> usize
         b'V' => 6,
         b'I' => 7,
         b'a'..=b'z' => 0,
-        _ => 8,
+        _ => paper::kinds::COUNT,
     }
 }
 
-// The kind that a word names, or 8.
+// The kind that a word names, or the number of kinds.
 pub fn kind_of(word: &[u8]) -> usize
-    ensures { λ r. ⌜ r ≡ placeOf 0 kinds (now (word .entry)) ⌝ }
+    ensures { λ r. ⌜ r ≡ placeOf 0 kinds (was word) ⌝ }
 {
     if word.len() == 0 {
-        return 8;
+        return paper::kinds::COUNT;
     }
     let kind = candidate(word[0], word.len());
-    if 8 <= kind {
-        return 8;
+    if paper::kinds::COUNT <= kind {
+        return paper::kinds::COUNT;
     }
     if is_word(word, kind) {
         return kind;
     }
-    8
+    paper::kinds::COUNT
 }

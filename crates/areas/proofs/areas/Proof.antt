@@ -1,11 +1,6 @@
 -- `areas::areas` meets its contract: from each node's own number, by rounds to the lowest nodes, and from these to the areas' numbers. Assumes nothing.
-use Prim.Native.Nat.{ℕ, suc, _≤_}
-use mathlib.Core.Path.{_≡_, sym, ap, _∙_}
-use mathlib.Core.List.{List}
-use native.Mathlib.Omega.{arith}
-use lib.ListN.{length}
+use Rattle.whole.specs.Plain.{ℕ, suc, _≤_, ap, _∙_, List, length, arith, filled, numbers}
 use borrow.Author.Needs.{needs}
-use Rattle.whole.specs.Lists.{filled, numbers}
 use Rattle.whole.specs.Turns.{turns}
 use Rattle.whole.specs.Folds.{length-numbers}
 use Rattle.whole.specs.Filled.{length-filled}

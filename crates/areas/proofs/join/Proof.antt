@@ -1,10 +1,6 @@
 -- `areas::join` meets its contract: what is stored is the lower of the two marks. Assumes nothing.
-use mathlib.Core.Path.{_≡_}
-use mathlib.Core.Logic.{⊎-elim}
-use Prim.Native.Nat.{ℕ, min}
-use native.Mathlib.Omega.{arith}
+use Rattle.whole.specs.Plain.{min, _≡_, ⊎-elim, getD, arith}
 use borrow.Author.Needs.{needs}
-use lib.ListN.{getD}
 use Rattle.areas.specs.Marks.{join-moves}
 use Rattle.areas.proofs.join.Statement.{statement}
 use Rattle.areas.proofs.join.Tie as tie

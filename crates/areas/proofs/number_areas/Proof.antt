@@ -1,7 +1,5 @@
 -- `areas::number_areas` meets its contract: the nodes passed have their areas' numbers. Assumes nothing.
-use Prim.Native.Nat.{ℕ, _≤_, _-_}
-use mathlib.Core.Path.{_≡_, sym, _∙_}
-use native.Mathlib.Omega.{arith}
+use Rattle.whole.specs.Plain.{_≤_, _-_, _≡_, arith}
 use Rattle.facts.specs.Nets.{netIn, net-sound}
 use Rattle.areas.specs.Numbered.{Numbering, lowIn, first-in, next-in, mark-in, count-in, areas-in}
 use Rattle.areas.proofs.number_areas.Statement.{statement}

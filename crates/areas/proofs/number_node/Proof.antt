@@ -1,7 +1,6 @@
 -- `areas::number_node` meets its contract. Assumes nothing.
-use native.Mathlib.Omega.{arith}
 use borrow.Author.Needs.{needs}
-use borrow.Author.Tests.{eq-eqb, ne-eqb}
+use Rattle.whole.specs.Plain.{eq-eqb, ne-eqb}
 use Rattle.areas.specs.Numbered.{countAt, numberAt}
 use Rattle.areas.proofs.number_node.Statement.{statement}
 use Rattle.areas.proofs.number_node.Tie as tie

@@ -1,5 +1,5 @@
 -- `areas::own_mark` meets its contract. Assumes nothing.
-use borrow.Author.Tests.{le-leb, lt-leb}
+use Rattle.whole.specs.Plain.{le-leb, lt-leb}
 use Rattle.areas.proofs.own_mark.Statement.{statement}
 use Rattle.areas.proofs.own_mark.Tie as tie
 

@@ -1,10 +1,5 @@
 -- `areas::round` meets its contract: the rows that are left lead to the round, and where no mark changed so far they stand as they were. Assumes nothing.
-use Prim.Native.Nat.{ℕ, _≤_, _-_}
-use mathlib.Core.Path.{_≡_, refl, _∙_, sym}
-use mathlib.Core.Bool.{false}
-use native.Mathlib.Omega.{arith}
-use lib.ListN.{length, drop}
-use Rattle.whole.specs.Lists.{fold}
+use Rattle.whole.specs.Plain.{_≤_, _-_, _≡_, refl, _∙_, false, length, drop, arith, fold}
 use Rattle.whole.specs.Folds.{fold-end}
 use Rattle.facts.specs.Nets.{netIn, rowAt}
 use Rattle.areas.specs.Marks.{joinRow, roundOf, moved-next, length-row}

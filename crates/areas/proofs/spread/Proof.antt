@@ -1,8 +1,5 @@
 -- `areas::spread` meets its contract: the rounds that are left lead to all of them. Assumes nothing.
-use Prim.Native.Nat.{ℕ, _≤_, _<_, _-_}
-use mathlib.Core.Path.{_≡_, refl, _∙_}
-use native.Mathlib.Omega.{arith}
-use lib.ListN.{length}
+use Rattle.whole.specs.Plain.{_≤_, _<_, _-_, _≡_, refl, _∙_, length, arith}
 use Rattle.whole.specs.Turns.{turns, turns-end}
 use Rattle.facts.specs.Nets.{netIn}
 use Rattle.areas.specs.Marks.{roundOf, round-next, next-turn, length-round}

@@ -1,8 +1,5 @@
 -- `areas::start` meets its contract. The invariant: the places passed have their nodes' own numbers. Assumes nothing.
-use Prim.Native.Nat.{ℕ, suc, _≤_, _-_}
-use mathlib.Core.Path.{_≡_, ap, _∙_}
-use native.Mathlib.Omega.{arith}
-use lib.ListN.{length, length-set}
+use Rattle.whole.specs.Plain.{_≤_, _-_, _≡_, _∙_, length, length-set, arith}
 use Rattle.whole.specs.Upto.{Upto, upto-none, upto-next}
 use Rattle.areas.specs.Marks.{ownMark, own-marks}
 use Rattle.areas.proofs.start.Statement.{statement}

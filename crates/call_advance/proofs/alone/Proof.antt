@@ -1,7 +1,5 @@
 -- `call_advance::alone` meets its contract: the tables hold the area's own, and its step from them is the paper's. Assumes nothing.
-use mathlib.Core.Path.{refl, ap}
-use mathlib.Core.List.{[]}
-use lib.ListN.{length, replicate, getD-replicate}
+use Rattle.whole.specs.Plain.{refl, ap, [], length, replicate, getD-replicate}
 use borrow.Author.Needs.{needs}
 use Rattle.facts.specs.Nets.{netIn}
 use Rattle.plan_own.specs.Areas.{room-first}

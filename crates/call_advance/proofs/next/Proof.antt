@@ -1,8 +1,5 @@
 -- `call_advance::next` meets its contract: 13 names the first line waited for, else the step is as it is. Assumes nothing.
-use Prim.Native.Nat.{_≤_}
-use mathlib.Core.Path.{_≡_, ap, _∙_}
-use native.Mathlib.Omega.{arith}
-use lib.ListN.{length}
+use Rattle.whole.specs.Plain.{_≤_, _≡_, ap, _∙_, length, arith}
 use borrow.Author.Needs.{needs}
 use Rattle.paper.specs.Advance.{memory, firstLate}
 use Rattle.facts.specs.Nets.{netIn}

@@ -1,10 +1,6 @@
 -- `call_advance::on_network` meets its contract: 10, 11 and 12 in turn, then the next step. Assumes nothing.
-use Prim.Native.Nat.{_≤_, _<_}
-use mathlib.Core.Path.{_≡_, sym, ap, _∙_}
-use mathlib.Core.Bool.{true}
-use native.Mathlib.Omega.{arith}
+use Rattle.whole.specs.Plain.{_≤_, _<_, _≡_, sym, ap, _∙_, true, not-true, not-false, le-leb, lt-leb, arith}
 use borrow.Author.Needs.{needs}
-use borrow.Author.Tests.{not-true, not-false, le-leb, lt-leb}
 use Rattle.paper.specs.Areas.{areaCount}
 use Rattle.paper.specs.Rows.{steps}
 use Rattle.paper.specs.Records.{countOf, wellFormed}

@@ -1,9 +1,5 @@
 -- `call_counts::all_taken` meets its contract. The invariant: the flag says whether the areas passed so far have taken as many. Assumes nothing.
-use Prim.Native.Nat.{_+_, _-_, _≤_}
-use mathlib.Core.Path.{_≡_, refl}
-use native.Mathlib.Nat.{add-comm}
-use native.Mathlib.Omega.{arith}
-use Rattle.whole.specs.Lists.{every, numbers}
+use Rattle.whole.specs.Plain.{_+_, _-_, _≤_, _≡_, refl, add-comm, arith, every, numbers}
 use Rattle.whole.specs.Folds.{every-numbers}
 use Rattle.call_counts.specs.Level.{tookAll}
 use Rattle.call_counts.proofs.all_taken.Statement.{statement}

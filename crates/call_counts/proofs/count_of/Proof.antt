@@ -1,12 +1,8 @@
 -- `call_counts::count_of` meets its contract. Assumes nothing.
-use Prim.Native.Nat.{_+_, _-_}
-use mathlib.Core.Path.{_≡_}
-use native.Mathlib.Nat.{zero-add}
+use Rattle.whole.specs.Plain.{_+_, _-_, _≡_, pos, zero-add, word}
 use borrow.Author.Needs.{needs}
-use lib.IntN.{pos}
 use Rattle.whole.specs.Int.{read64}
 use Rattle.whole.specs.Index.{index}
-use Rattle.whole.specs.Lists.{word}
 use Rattle.paper.specs.Records.{countOf}
 use Rattle.call_counts.proofs.count_of.Statement.{statement}
 use Rattle.call_counts.proofs.count_of.Tie as tie

@@ -1,9 +1,6 @@
 -- `call_counts::first_late` meets its contract. The invariant: of every network that the plan is of, the rows that are left lead to the answer.
 -- Assumes nothing.
-use Prim.Native.Nat.{_-_, _≤_, _<_}
-use mathlib.Core.Path.{_≡_, refl, sym, _∙_}
-use native.Mathlib.Omega.{arith}
-use lib.ListN.{length, drop}
+use Rattle.whole.specs.Plain.{_-_, _≤_, _<_, _≡_, refl, sym, _∙_, length, drop, arith}
 use Rattle.paper.specs.Areas.{Net}
 use Rattle.paper.specs.Advance.{firstLate}
 use Rattle.plan_rows.specs.Planned.{rowIn}

@@ -1,6 +1,5 @@
 -- `call_counts::near` meets its contract: a row that is no line is passed over. Assumes nothing.
-use native.Mathlib.Omega.{arith}
-use borrow.Author.Tests.{eq-eqb, ne-eqb}
+use Rattle.whole.specs.Plain.{eq-eqb, ne-eqb, arith}
 use Rattle.call_counts.specs.Counts.{EndsIn, nearBy}
 use Rattle.call_counts.proofs.near.Statement.{statement}
 use Rattle.call_counts.proofs.near.Tie as tie

@@ -1,5 +1,5 @@
 -- `call_counts::steps_taken` meets its contract: area 1 tells. Assumes nothing.
-use native.Mathlib.Omega.{arith}
+use Rattle.whole.specs.Plain.{arith}
 use Rattle.call_counts.specs.Level.{taken-none, taken-first}
 use Rattle.call_counts.proofs.steps_taken.Statement.{statement}
 use Rattle.call_counts.proofs.steps_taken.Tie as tie

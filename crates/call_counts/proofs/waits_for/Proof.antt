@@ -1,6 +1,5 @@
 -- `call_counts::waits_for` meets its contract: a row that is no line is passed over. Assumes nothing.
-use native.Mathlib.Omega.{arith}
-use borrow.Author.Tests.{eq-eqb, ne-eqb}
+use Rattle.whole.specs.Plain.{eq-eqb, ne-eqb, arith}
 use Rattle.call_counts.specs.Counts.{EndsIn, waitsBy}
 use Rattle.call_counts.proofs.waits_for.Statement.{statement}
 use Rattle.call_counts.proofs.waits_for.Tie as tie

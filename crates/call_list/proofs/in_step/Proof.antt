@@ -1,7 +1,5 @@
 -- `call_list::in_step` meets its contract: of every network that the plan is of. Assumes nothing.
-use mathlib.Core.Path.{_≡_, sym, _∙_}
-use mathlib.Core.Bool.{true}
-use borrow.Author.Tests.{not-true, not-false}
+use Rattle.whole.specs.Plain.{_≡_, sym, _∙_, true, not-true, not-false}
 use Rattle.paper.specs.Areas.{Net}
 use Rattle.paper.specs.Records.{wellFormed}
 use Rattle.plan_net.specs.Of.{Of}

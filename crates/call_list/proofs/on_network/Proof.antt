@@ -1,9 +1,6 @@
 -- `call_list::on_network` meets its contract: the plan, 10 for a state that is not well formed or whose areas are not in step, else the piece. Assumes nothing.
-use mathlib.Core.Path.{_≡_, sym, _∙_}
-use mathlib.Core.Bool.{true, _&&_}
+use Rattle.whole.specs.Plain.{_≡_, sym, _∙_, true, _&&_, length, not-true, not-false}
 use borrow.Author.Needs.{needs}
-use borrow.Author.Tests.{not-true, not-false}
-use lib.ListN.{length}
 use Rattle.paper.specs.Records.{wellFormed}
 use Rattle.paper.specs.Advance.{Memory, memory}
 use Rattle.paper.specs.Pieces.{level}

@@ -1,5 +1,5 @@
 -- `call_list::onward` meets its contract: the tables of all areas, and the piece from these. Assumes nothing.
-use mathlib.Core.Path.{refl, ap}
+use Rattle.whole.specs.Plain.{refl, ap}
 use borrow.Author.Needs.{needs}
 use Rattle.plan_rows.specs.declared.Totals.{Totals}
 use Rattle.call_list.specs.Laid.{begins}

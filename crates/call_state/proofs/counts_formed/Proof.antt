@@ -1,8 +1,6 @@
 -- `call_state::counts_formed` meets its contract. Assumes nothing.
-use mathlib.Core.Path.{_≡_}
-use native.Mathlib.Omega.{arith}
+use Rattle.whole.specs.Plain.{_≡_, pos, arith}
 use borrow.Author.Needs.{needs}
-use lib.IntN.{pos}
 use mir.Facts.{toZ-pos}
 use mir.Syntax.{w64}
 use mir.Val.{toZ}

@@ -1,10 +1,8 @@
 -- `call_state::held` meets its contract. Assumes nothing.
-use mathlib.Core.Path.{_∙_}
-use mathlib.Core.Logic.{⊎-elim}
+use Rattle.whole.specs.Plain.{_∙_, ⊎-elim, word}
 use mir.Facts.{toZ-ofZ}
 use borrow.Author.Needs.{needs}
 use Rattle.whole.specs.Int.{read64}
-use Rattle.whole.specs.Lists.{word}
 use Rattle.call_state.proofs.held.Statement.{statement}
 use Rattle.call_state.proofs.held.Tie as tie
 

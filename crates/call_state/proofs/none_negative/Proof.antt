@@ -1,17 +1,10 @@
 -- `call_state::none_negative` meets its contract. The invariant: the flag and the words that are left say together what all words say.
 -- Assumes nothing.
-use Prim.Native.Nat.{_-_, _≤_, _+_}
-use mathlib.Core.Path.{_≡_, refl, sym, ap, _∙_}
-use mathlib.Core.Bool.{Bool, _&&_, and-assoc, and-true}
-use native.Mathlib.Omega.{arith}
-use lib.Dec.{leb·zero}
-use lib.IntN.{ℤ, pos, negsuc}
-use lib.ListN.{length, getD, drop}
-use lib.Signed.{leZ, nonNeg}
+use Rattle.whole.specs.Plain.{_-_, _≤_, _+_, _≡_, refl, sym, ap, _∙_, Bool, _&&_, and-assoc, and-true, leb·zero, ℤ, pos}
+use Rattle.whole.specs.Plain.{negsuc, leZ, nonNeg, length, getD, drop, arith, every}
 use mir.Syntax.{w64}
 use mir.Val.{toZ, ofZ}
 use Rattle.whole.specs.Int.{read64}
-use Rattle.whole.specs.Lists.{every}
 use Rattle.whole.specs.Folds.{every-more, every-done}
 use Rattle.call_state.proofs.none_negative.Statement.{statement}
 use Rattle.call_state.proofs.none_negative.Tie as tie

@@ -1,9 +1,5 @@
 -- `call_state::rows_formed` meets its contract. The invariant: the flag says whether the rows passed so far are formed. Assumes nothing.
-use Prim.Native.Nat.{_-_, _≤_}
-use mathlib.Core.Path.{_≡_, refl}
-use native.Mathlib.Nat.{zero-add}
-use native.Mathlib.Omega.{arith}
-use Rattle.whole.specs.Lists.{every, numbers}
+use Rattle.whole.specs.Plain.{_-_, _≤_, _≡_, refl, zero-add, arith, every, numbers}
 use Rattle.whole.specs.Folds.{every-numbers}
 use Rattle.call_state.specs.Judged.{plannedFormed}
 use Rattle.call_state.proofs.rows_formed.Statement.{statement}

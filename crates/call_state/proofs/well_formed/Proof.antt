@@ -1,8 +1,5 @@
 -- `call_state::well_formed` meets its contract: the sections of the records and the two stores, each judged by itself. Assumes nothing.
-use mathlib.Core.Path.{_≡_, sym, _∙_}
-use mathlib.Core.Bool.{true}
-use native.Mathlib.Omega.{arith}
-use borrow.Author.Tests.{not-true, not-false}
+use Rattle.whole.specs.Plain.{_≡_, sym, _∙_, true, not-true, not-false, arith}
 use Rattle.call_counts.specs.Lines.{counted}
 use Rattle.call_state.specs.Judged.{countsFormed, formedBy}
 use Rattle.call_state.specs.Formed.{Few, few, formed-is}

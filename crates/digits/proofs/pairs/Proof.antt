@@ -1,5 +1,5 @@
 -- `digits::pairs` meets its contract. Assumes nothing.
-use mathlib.Core.Path.{refl}
+use Rattle.whole.specs.Plain.{refl}
 use Rattle.digits.specs.Pairs.{pairsFrom}
 use Rattle.digits.proofs.pairs.Statement.{statement}
 use Rattle.digits.proofs.pairs.Tie as tie

@@ -1,7 +1,5 @@
 -- `digits::put_digit` meets its contract. Assumes nothing.
-use Prim.Native.Nat.{_+_, _%_}
-use mathlib.Core.Path.{_≡_}
-use native.Mathlib.Omega.{arith}
+use Rattle.whole.specs.Plain.{_+_, _%_, _≡_, arith}
 use borrow.Author.Needs.{needs}
 use Rattle.digits.specs.Puts.{puts-one}
 use Rattle.digits.specs.Decimal.{fixed}

@@ -1,8 +1,6 @@
 -- `digits::put_pair` meets its contract: both digits are those looked up. Assumes nothing.
-use Prim.Native.Nat.{_+_, _/_, _%_}
-use native.Mathlib.Omega.{arith}
+use Rattle.whole.specs.Plain.{_+_, _/_, _%_, length-set, arith}
 use borrow.Author.Needs.{needs}
-use lib.ListN.{length-set}
 use Rattle.digits.specs.Puts.{puts-two}
 use Rattle.digits.specs.Pairs.{pair-tens, pair-ones, fixed-pair}
 use Rattle.digits.proofs.put_pair.Statement.{statement}

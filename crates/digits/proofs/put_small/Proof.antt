@@ -1,6 +1,5 @@
 -- `digits::put_small` meets its contract: the tens where there are any, and the ones. Assumes nothing.
-use Prim.Native.Nat.{_+_, _%_}
-use native.Mathlib.Omega.{arith}
+use Rattle.whole.specs.Plain.{_+_, _%_, arith}
 use borrow.Author.Needs.{needs}
 use Rattle.digits.specs.Puts.{puts-one, room-first, room-second, both-put, puts-length}
 use Rattle.digits.specs.Pairs.{pair-ones, small-parts}

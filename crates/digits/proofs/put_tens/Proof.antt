@@ -1,9 +1,6 @@
 -- `digits::put_tens` meets its contract. Assumes nothing.
-use Prim.Native.Nat.{_+_, _/_}
-use mathlib.Core.Path.{sym, ap}
-use native.Mathlib.Omega.{arith}
+use Rattle.whole.specs.Plain.{_+_, _/_, sym, ap, length, arith}
 use borrow.Author.Needs.{needs}
-use lib.ListN.{length}
 use Rattle.digits.specs.Puts.{puts-none, puts-one, puts-as}
 use Rattle.digits.specs.Pairs.{pair-tens, no-tens, some-tens}
 use Rattle.digits.proofs.put_tens.Statement.{statement}

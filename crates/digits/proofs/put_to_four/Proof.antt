@@ -1,9 +1,6 @@
 -- `digits::put_to_four` meets its contract. Assumes nothing.
-use Prim.Native.Nat.{ℕ, _≤_, _<_}
-use mathlib.Core.Path.{_≡_, refl, sym, ap}
-use native.Mathlib.Omega.{arith}
+use Rattle.whole.specs.Plain.{ℕ, _≤_, _<_, _≡_, refl, sym, ap, length, arith}
 use borrow.Author.Needs.{needs}
-use lib.ListN.{length}
 use Rattle.paper.specs.Listing.{shownNat}
 use Rattle.digits.specs.Puts.{puts-as}
 use Rattle.digits.specs.Decimal.{fixed, length-fixed, shown-exact}

@@ -1,8 +1,5 @@
 -- Assumes nothing.
-use Prim.Native.Nat.{ℕ, _+_, _/_}
-use mathlib.Core.Path.{sym, subst, ap, _∙_}
-use native.Mathlib.Omega.{arith}
-use lib.Dec.{T, lit≤}
+use Rattle.whole.specs.Plain.{ℕ, _+_, _/_, sym, subst, ap, _∙_, T, lit≤, arith}
 use lib.Ieee.{add, binary64}
 use lib.Ieee.Positive.{num, den, den-pos}
 use Rattle.paper.specs.Limits.{voltageEnd}

@@ -1,6 +1,5 @@
 -- Assumes nothing.
-use mathlib.Core.Path.{_≡_}
-use mathlib.Core.Bool.{true}
+use Rattle.whole.specs.Plain.{_≡_, true}
 use lib.Ieee.{inFloat}
 use Rattle.whole.specs.Int.{read64}
 use Rattle.paper.specs.Doubles.{inRange, nearestOf}

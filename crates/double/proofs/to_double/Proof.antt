@@ -1,10 +1,6 @@
 -- Assumes nothing.
-use Prim.Native.Nat.{_/_, _^_}
-use mathlib.Core.Path.{_≡_, ap, _∙_}
-use native.Mathlib.Omega.{arith}
+use Rattle.whole.specs.Plain.{_/_, _^_, _≡_, ap, _∙_, T, lt→ltb, le→leb, ℤ, pos, negsuc, arith}
 use borrow.Author.Needs.{needs}
-use lib.Dec.{T, lt→ltb, le→leb}
-use lib.IntN.{ℤ, pos, negsuc}
 use lib.Ieee.{binary64, inFloat, ofBits}
 use mir.Syntax.{w64}
 use mir.Val.{SFits, toZ, ofZ}

@@ -1,9 +1,6 @@
 -- Assumes nothing.
-use Prim.Native.Nat.{ℕ, zero, suc, _≤_}
-use mathlib.Core.Path.{_≡_, sym, ap, _∙_}
-use native.Mathlib.Omega.{arith}
+use Rattle.whole.specs.Plain.{ℕ, zero, suc, _≤_, _≡_, sym, ap, _∙_, ℤ, pos, negℤ, _-ℤ_, +ℤ-idl, arith}
 use borrow.Author.Needs.{needs}
-use lib.IntN.{ℤ, pos, negℤ, _-ℤ_, +ℤ-idl}
 use lib.Ieee.{ofBits}
 use mir.Syntax.{w64}
 use mir.Val.{SFits, toZ}

@@ -1,5 +1,5 @@
 -- `emt::emt_advance` meets its contract: the number of what `advance` answers, and the count or the place. Assumes nothing.
-use mathlib.Core.Path.{_≡_, ap, _∙_}
+use Rattle.whole.specs.Plain.{ap, _∙_}
 use borrow.Author.Needs.{needs}
 use Rattle.paper.specs.Answers.{advanceNumber}
 use Rattle.answers.specs.Places.{placeOrCount}

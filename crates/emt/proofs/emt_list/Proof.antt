@@ -1,5 +1,5 @@
 -- `emt::emt_list` meets its contract: the number of what `list` answers, and the bytes listed. Assumes nothing.
-use mathlib.Core.Path.{_≡_, ap, _∙_}
+use Rattle.whole.specs.Plain.{ap, _∙_}
 use borrow.Author.Needs.{needs}
 use Rattle.paper.specs.Pieces.{listingNumber}
 use Rattle.emt.proofs.emt_list.Statement.{statement}

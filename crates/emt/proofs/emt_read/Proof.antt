@@ -1,5 +1,5 @@
 -- `emt::emt_read` meets its contract: the number and the line of what `read` answers. Assumes nothing.
-use mathlib.Core.Path.{_≡_, ap, _∙_}
+use Rattle.whole.specs.Plain.{ap, _∙_}
 use borrow.Author.Needs.{needs}
 use Rattle.paper.specs.Answers.{readingNumber, readingLine}
 use Rattle.emt.proofs.emt_read.Statement.{statement}

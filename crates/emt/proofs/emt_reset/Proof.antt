@@ -1,5 +1,5 @@
 -- `emt::emt_reset` meets its contract: the number of what `reset` answers. Assumes nothing.
-use mathlib.Core.Path.{_≡_, ap, _∙_}
+use Rattle.whole.specs.Plain.{ap, _∙_}
 use borrow.Author.Needs.{needs}
 use Rattle.paper.specs.Answers.{resettingNumber}
 use Rattle.emt.proofs.emt_reset.Statement.{statement}

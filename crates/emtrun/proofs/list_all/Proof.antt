@@ -1,9 +1,6 @@
 -- `emtrun::list_all` ends, and lends nothing shorter back. Assumes nothing.
-use Prim.Native.Nat.{_-_, _≤_}
-use mathlib.Core.Path.{_≡_, refl, _∙_}
-use native.Mathlib.Omega.{arith}
+use Rattle.whole.specs.Plain.{_-_, _≤_, _≡_, refl, _∙_, length, arith}
 use borrow.Author.Needs.{needs}
-use lib.ListN.{length}
 use Rattle.emtrun.proofs.list_all.Statement.{statement}
 use Rattle.emtrun.proofs.list_all.Tie as tie
 

@@ -1,10 +1,6 @@
 -- `emtrun::list_piece` meets its contract: what is listed fits the buffer, and it goes on only where there is more. Assumes nothing.
-use Prim.Native.Nat.{_≤_}
-use mathlib.Core.Path.{_≡_, refl, sym, ap, _∙_}
-use mathlib.Core.Bool.{true≢false}
+use Rattle.whole.specs.Plain.{_≤_, sym, _∙_, true≢false, length, length-take-le}
 use borrow.Author.Needs.{needs}
-use lib.ListN.{length}
-use lib.Seq.{length-take-le}
 use Rattle.emtrun.specs.Pieces.{listed-fits}
 use Rattle.emtrun.proofs.list_piece.Statement.{statement}
 use Rattle.emtrun.proofs.list_piece.Tie as tie

@@ -1,6 +1,5 @@
 -- `emtrun::put_refusal` meets its contract. Assumes nothing.
-use mathlib.Core.Path.{_≡_}
-use native.Mathlib.Omega.{arith}
+use Rattle.whole.specs.Plain.{arith}
 use borrow.Author.Needs.{needs}
 use Rattle.digits.specs.Puts.{puts-as}
 use Rattle.emtrun.specs.Pieces.{bad-short}

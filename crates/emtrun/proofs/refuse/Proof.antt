@@ -1,10 +1,6 @@
 -- `emtrun::refuse` meets its contract: the line fits. Assumes nothing.
-use Prim.Native.Nat.{_≤_}
-use mathlib.Core.Path.{_≡_, sym}
-use native.Mathlib.Omega.{arith}
+use Rattle.whole.specs.Plain.{_≤_, sym, length, length-take-le, arith}
 use borrow.Author.Needs.{needs}
-use lib.ListN.{length}
-use lib.Seq.{length-take-le}
 use Rattle.paper.specs.Answers.{readingNumber, readingLine}
 use Rattle.digits.specs.Puts.{puts-length}
 use Rattle.emtrun.specs.Pieces.{bad-short}

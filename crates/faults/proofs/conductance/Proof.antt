@@ -1,6 +1,4 @@
-use borrow.Author.Tests.{eq-eqb, ne-eqb}
-use native.Mathlib.Omega.{arith}
-use mathlib.Core.Path.{_∙_}
+use Rattle.whole.specs.Plain.{_∙_, eq-eqb, ne-eqb, arith}
 use Rattle.faults.specs.Seen.{conductanceOf}
 use borrow.Author.Needs.{needs}
 use Rattle.faults.proofs.conductance.Statement.{statement}

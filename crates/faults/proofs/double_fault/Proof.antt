@@ -1,5 +1,4 @@
 use borrow.Author.Needs.{needs}
-use native.Mathlib.Omega.{arith}
 use Rattle.faults.specs.Seen.{seenDouble}
 use Rattle.faults.proofs.double_fault.Statement.{statement}
 use Rattle.faults.proofs.double_fault.Tie as tie
@@ -15,7 +14,7 @@ fixed-at-requires c κs = search needs
 
 returns : tie.Need-returns
 unfolding seenDouble
-returns c = rw (c .before .before .kind-of .ensures, c .fixed-at .ensures, c .before .field .ensures)
+returns c = rw (c .before .before .is-fixing .ensures, c .before .before .before .kind-of .ensures, c .fixed-at .ensures, c .before .field .ensures)
 
 pub double-fault-spec : {M : Type 1} → statement M
-double-fault-spec = tie.close (tie.spec kind-of-requires field-requires fixed-at-requires returns)
+double-fault-spec = tie.close (tie.spec kind-of-requires (λ c κs. search needs) field-requires fixed-at-requires returns)

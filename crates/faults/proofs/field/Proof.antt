@@ -1,6 +1,4 @@
-use mathlib.Core.Path.{_∙_, ap}
-use lib.IntN.{ℤ, pos, natAbs}
-use lib.ListN.{getD}
+use Rattle.whole.specs.Plain.{_∙_, ap, ℤ, pos, natAbs, getD}
 use Rattle.whole.specs.Int.{read64}
 use borrow.Author.Needs.{needs}
 use Rattle.faults.proofs.field.Statement.{statement}

@@ -1,7 +1,4 @@
-use mathlib.Core.Path.{sym}
-use mathlib.Core.Bool.{false}
-use lib.ListN.{List·getD-eq-default}
-use native.Mathlib.Omega.{arith}
+use Rattle.whole.specs.Plain.{sym, false, List·getD-eq-default, arith}
 use borrow.Author.Needs.{needs}
 use Rattle.faults.proofs.fixed_at.Statement.{statement}
 use Rattle.faults.proofs.fixed_at.Tie as tie

@@ -1,6 +1,5 @@
 use borrow.Author.Needs.{needs}
-use native.Mathlib.Omega.{arith}
-use mathlib.Core.Path.{sym, _∙_}
+use Rattle.whole.specs.Plain.{arith}
 use Rattle.faults.specs.Laws.{full-is, slots-small}
 use Rattle.faults.proofs.full_fault.Statement.{statement}
 use Rattle.faults.proofs.full_fault.Tie as tie

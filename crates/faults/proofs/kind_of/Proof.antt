@@ -1,7 +1,5 @@
 use borrow.Author.Needs.{needs}
-use native.Mathlib.Omega.{arith}
-use lib.IntN.{ℤ, pos}
-use lib.ListN.{getD}
+use Rattle.whole.specs.Plain.{ℤ, pos, getD, arith}
 use Rattle.whole.specs.Int.{read64}
 use Rattle.faults.specs.Laws.{kind-sign, kind-size}
 use Rattle.faults.proofs.kind_of.Statement.{statement}

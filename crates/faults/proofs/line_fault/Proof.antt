@@ -1,9 +1,7 @@
 use borrow.Author.Needs.{needs}
-use native.Mathlib.Omega.{arith}
-use mathlib.Core.Path.{_≡_, sym, _∙_}
-use mathlib.Core.Bool.{true, false}
+use Rattle.whole.specs.Plain.{_≡_, sym, _∙_, false}
 use Rattle.paper.specs.Faults.{nodeFault, valueFault, travelFault}
-use Rattle.faults.specs.Seen.{headOf, seenFault, seenDouble, seenFull}
+use Rattle.faults.specs.Seen.{headOf, seenFault, seenDouble}
 use Rattle.faults.proofs.line_fault.Statement.{statement}
 use Rattle.faults.proofs.line_fault.Tie as tie
 

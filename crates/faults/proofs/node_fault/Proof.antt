@@ -1,5 +1,5 @@
 use borrow.Author.Needs.{needs}
-use native.Mathlib.Omega.{arith}
+use Rattle.whole.specs.Plain.{arith}
 use Rattle.faults.specs.Laws.{names-fit, node-is}
 use Rattle.faults.proofs.node_fault.Statement.{statement}
 use Rattle.faults.proofs.node_fault.Tie as tie

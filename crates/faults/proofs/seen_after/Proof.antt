@@ -1,5 +1,5 @@
 use borrow.Author.Needs.{needs}
-use native.Mathlib.Omega.{arith}
+use Rattle.whole.specs.Plain.{arith}
 use Rattle.faults.specs.Laws.{faultless, one-most, slots-small, after-is}
 use Rattle.faults.proofs.seen_after.Statement.{statement}
 use Rattle.faults.proofs.seen_after.Tie as tie

@@ -1,8 +1,5 @@
 use borrow.Author.Needs.{needs}
-use native.Mathlib.Omega.{arith}
-use mathlib.Core.Path.{sym, _∙_}
-use native.Mathlib.Nat.{div-le-self, lt-of-le-of-lt}
-use borrow.Author.Tests.{eq-eqb, ne-eqb}
+use Rattle.whole.specs.Plain.{sym, _∙_, eq-eqb, ne-eqb, div-le-self, arith}
 use Rattle.paper.specs.Faults.{slots}
 use Rattle.faults.specs.Laws.{line-travel}
 use Rattle.faults.proofs.slots_of.Statement.{statement}

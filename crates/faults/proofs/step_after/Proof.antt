@@ -1,7 +1,5 @@
 use borrow.Author.Needs.{needs}
-use native.Mathlib.Omega.{arith}
-use mathlib.Core.Path.{sym, _∙_}
-use borrow.Author.Tests.{eq-eqb, ne-eqb}
+use Rattle.whole.specs.Plain.{sym, _∙_, eq-eqb, ne-eqb}
 use Rattle.faults.proofs.step_after.Statement.{statement}
 use Rattle.faults.proofs.step_after.Tie as tie
 

@@ -1,5 +1,4 @@
 use borrow.Author.Needs.{needs}
-use native.Mathlib.Omega.{arith}
 use Rattle.paper.specs.Faults.{travelFault}
 use Rattle.faults.proofs.travel_fault.Statement.{statement}
 use Rattle.faults.proofs.travel_fault.Tie as tie

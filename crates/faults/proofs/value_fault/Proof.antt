@@ -1,7 +1,5 @@
 use borrow.Author.Needs.{needs}
-use native.Mathlib.Omega.{arith}
-use mathlib.Core.Path.{_∙_, sym}
-use borrow.Author.Tests.{not-true, not-false}
+use Rattle.whole.specs.Plain.{_∙_, sym, not-true, not-false, arith}
 use Rattle.faults.specs.Laws.{fields-fit, values-are, value-out, value-none, value-is, sized}
 use Rattle.faults.proofs.value_fault.Statement.{statement}
 use Rattle.faults.proofs.value_fault.Tie as tie

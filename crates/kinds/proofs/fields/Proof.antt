@@ -1,9 +1,5 @@
-use Prim.Native.Nat.{ℕ}
-use mathlib.Core.Path.{_≡_, refl}
-use lib.ListN.{length}
-use Rattle.whole.specs.Lists.{count}
+use Rattle.whole.specs.Plain.{ℕ, _≡_, refl, length}
 use Rattle.paper.specs.Rows.{bytes, kinds, fieldsOf}
-use Rattle.kinds.specs.Table.{namesOf}
 use Rattle.kinds.specs.Fields.{each}
 use Rattle.kinds.proofs.fields.Statement.{statement}
 use Rattle.kinds.proofs.fields.Tie as tie

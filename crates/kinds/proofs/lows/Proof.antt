@@ -1,7 +1,4 @@
-use Prim.Native.Nat.{ℕ}
-use mathlib.Core.Path.{_≡_, refl}
-use lib.IntN.{ℤ, pos, negsuc}
-use mathlib.Core.List.{List, [], _∷_}
+use Rattle.whole.specs.Plain.{ℕ, _≡_, refl, List, [], _∷_, ℤ, pos, negsuc}
 use Rattle.whole.specs.Tables.{table, entries}
 use Rattle.paper.specs.Rows.{bytes, kinds, fieldsOf}
 use Rattle.kinds.specs.Table.{lowsOf, low}

@@ -1,7 +1,4 @@
-use Prim.Native.Nat.{ℕ}
-use mathlib.Core.Path.{_≡_, refl}
-use lib.ListN.{length}
-use Rattle.whole.specs.Lists.{count}
+use Rattle.whole.specs.Plain.{ℕ, _≡_, refl, count}
 use Rattle.paper.specs.Rows.{bytes, kinds, fieldsOf}
 use Rattle.kinds.specs.Table.{namesOf}
 use Rattle.kinds.specs.Fields.{each}

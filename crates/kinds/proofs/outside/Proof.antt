@@ -1,11 +1,5 @@
-use mathlib.Core.Path.{_≡_, refl, _∙_, sym, ap}
-use Prim.Native.Nat.{ℕ, _≤_, _<_, _-_, _+_}
-use native.Mathlib.Omega.{arith}
-use borrow.Author.Tests.{not-true, not-false}
-use lib.IntN.{ℤ, pos}
-use lib.ListN.{getD}
+use Rattle.whole.specs.Plain.{_<_, _-_, _+_, _≡_, refl, _∙_, sym, ap, ℤ, pos, getD, not-true, not-false, arith, between}
 use Rattle.whole.specs.Int.{read64}
-use Rattle.whole.specs.Lists.{between}
 use Rattle.kinds.specs.Table.{low, high, low-at, high-at, outsideFrom, outside-here, outside-next, outside-done}
 use Rattle.kinds.proofs.outside.Statement.{statement}
 use Rattle.kinds.proofs.outside.Tie as tie

@@ -1,5 +1,4 @@
-use mathlib.Core.Path.{_≡_}
-use Rattle.whole.specs.Lists.{between}
+use Rattle.whole.specs.Plain.{between}
 use Rattle.whole.specs.Reads.{le-read}
 use Rattle.kinds.proofs.within.Statement.{statement}
 use Rattle.kinds.proofs.within.Tie as tie

@@ -1,5 +1,5 @@
 -- `lent::fits` meets its contract. Assumes nothing.
-use mathlib.Core.Path.{refl}
+use Rattle.whole.specs.Plain.{refl}
 use Rattle.paper.specs.Advance.{fits}
 use Rattle.lent.proofs.fits.Statement.{statement}
 use Rattle.lent.proofs.fits.Tie as tie

@@ -1,7 +1,4 @@
-use mathlib.Core.Path.{_≡_, refl, sym, _∙_}
-use Prim.Native.Nat.{_≤_, _-_, _+_}
-use native.Mathlib.Omega.{arith}
-use lib.ListN.{length, drop, getD, length-drop}
+use Rattle.whole.specs.Plain.{_≤_, _-_, _+_, _≡_, refl, sym, _∙_, length, drop, length-drop, arith}
 use Rattle.line.specs.Parts.{ends, fieldOf, before-here, before-next, before-length}
 use Rattle.line.proofs.end_of.Statement.{statement}
 use Rattle.line.proofs.end_of.Tie as tie

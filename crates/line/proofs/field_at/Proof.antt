@@ -1,15 +1,9 @@
 use borrow.Author.Needs.{needs}
-use mathlib.Core.Path.{_≡_, refl, sym, _∙_, ap}
-use Prim.Native.Nat.{ℕ, _+_, _<_}
-use mathlib.Core.Bool.{Bool}
-use mathlib.Core.List.{List}
-use lib.IntN.{ℤ, pos}
-use lib.ListN.{getD, length, set}
+use Rattle.whole.specs.Plain.{ℕ, _+_, _<_, _≡_, _∙_, ap, Bool, List, ℤ, pos, getD, length, set, arith}
 use mir.Facts.{toZ-ofZ}
 use Rattle.whole.specs.Int.{read64}
 use Rattle.kinds.specs.Table.{low, low-at}
 use Rattle.line.specs.declared.Walk.{Walk}
-use native.Mathlib.Omega.{arith}
 use Rattle.line.specs.Walks.{field-none, field-read, tab-in, word-in}
 use Rattle.line.proofs.field_at.Statement.{statement}
 use Rattle.line.proofs.field_at.Tie as tie

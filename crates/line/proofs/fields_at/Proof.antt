@@ -1,7 +1,4 @@
-use mathlib.Core.Path.{_≡_, refl, sym, _∙_}
-use Prim.Native.Nat.{_≤_, _-_, _+_}
-use native.Mathlib.Omega.{arith}
-use lib.ListN.{length}
+use Rattle.whole.specs.Plain.{_≤_, _-_, _≡_, refl, length, arith}
 use Rattle.whole.specs.Turns.{turns, turns-next, turns-end}
 use Rattle.paper.specs.Rows.{fieldsOf}
 use Rattle.kinds.specs.Fields.{fields-few}

@@ -1,4 +1,4 @@
-use mathlib.Core.Path.{refl}
+use Rattle.whole.specs.Plain.{refl}
 use Rattle.line.specs.Parts.{ends}
 use Rattle.line.proofs.is_end.Statement.{statement}
 use Rattle.line.proofs.is_end.Tie as tie

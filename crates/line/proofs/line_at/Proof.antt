@@ -1,10 +1,6 @@
 use borrow.Author.Needs.{needs}
-use mathlib.Core.Path.{_≡_, refl, sym, _∙_, ap}
-use mathlib.Core.Bool.{true}
-use lib.IntN.{ℤ, pos}
-use lib.ListN.{set, replicate}
+use Rattle.whole.specs.Plain.{_∙_, ap, true, ℤ, pos, set, replicate, arith}
 use Rattle.whole.specs.Reads.{read-small}
-use native.Mathlib.Omega.{arith}
 use Rattle.line.specs.Walks.{fieldsAt, word-in, line-none, line-some}
 use Rattle.line.proofs.line_at.Statement.{statement}
 use Rattle.line.proofs.line_at.Tie as tie

@@ -1,8 +1,6 @@
 -- `list_line::head_of` meets its contract. Assumes nothing.
-use mathlib.Core.Path.{refl}
-use native.Mathlib.Omega.{arith}
+use Rattle.whole.specs.Plain.{refl, length-set, arith}
 use borrow.Author.Needs.{needs}
-use lib.ListN.{length-set}
 use Rattle.list_line.specs.Heads.{headed, spelt-again}
 use Rattle.list_line.proofs.head_of.Statement.{statement}
 use Rattle.list_line.proofs.head_of.Tie as tie

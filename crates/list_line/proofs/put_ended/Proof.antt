@@ -1,8 +1,6 @@
 -- `list_line::put_ended` meets its contract. Assumes nothing.
-use Prim.Native.Nat.{_+_, _≤_}
-use native.Mathlib.Omega.{arith}
+use Rattle.whole.specs.Plain.{_+_, _≤_, length, arith}
 use borrow.Author.Needs.{needs}
-use lib.ListN.{length}
 use mir.Facts.{toZ-ofZ}
 use Rattle.digits.specs.Puts.{puts-one, puts-length, room-first, room-second, both-put}
 use Rattle.list_line.specs.Texts.{ended-parts}

@@ -1,11 +1,6 @@
 -- `list_line::put_head` meets its contract: the text is put, some of it twice. Assumes nothing.
-use Prim.Native.Nat.{_+_, _-_}
-use mathlib.Core.Path.{ap, _∙_}
-use mathlib.Core.List.{List}
-use Prim.Native.Nat.{ℕ}
-use native.Mathlib.Omega.{arith}
+use Rattle.whole.specs.Plain.{_+_, _-_, ℕ, ap, _∙_, List, sets, arith}
 use borrow.Author.Needs.{needs}
-use lib.Seq.{sets}
 use Rattle.list_line.specs.Quads.{quadBytes}
 use Rattle.list_line.specs.Heads.{head-put}
 use Rattle.list_line.proofs.put_head.Statement.{statement}

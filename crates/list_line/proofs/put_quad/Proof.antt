@@ -1,7 +1,6 @@
 -- `list_line::put_quad` meets its contract. Assumes nothing.
-use native.Mathlib.Omega.{arith}
+use Rattle.whole.specs.Plain.{length-set, arith}
 use borrow.Author.Needs.{needs}
-use lib.ListN.{length-set}
 use Rattle.list_line.specs.Quads.{quad-put}
 use Rattle.list_line.proofs.put_quad.Statement.{statement}
 use Rattle.list_line.proofs.put_quad.Tie as tie

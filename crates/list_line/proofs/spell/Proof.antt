@@ -1,9 +1,6 @@
 -- `list_line::spell` meets its contract. Assumes nothing.
-use Prim.Native.Nat.{_≤_}
-use mathlib.Core.Path.{_≡_, _∙_}
-use native.Mathlib.Omega.{arith}
+use Rattle.whole.specs.Plain.{_≤_, _≡_, _∙_, length, length-set, arith}
 use borrow.Author.Needs.{needs}
-use lib.ListN.{length, length-set}
 use Rattle.digits.specs.Puts.{puts-one, puts-then, puts-length}
 use Rattle.digits.specs.Decimal.{shown-length}
 use Rattle.list_line.specs.Heads.{spelt}

@@ -1,12 +1,7 @@
 -- `list_pieces::steps_on` meets its contract. The invariant: of every network that the tables are of, all areas have taken k steps, what is listed so far
 -- stands in the buffer, and the steps that are left lead to the piece. Assumes nothing.
-use Prim.Native.Nat.{_+_, _-_, _≤_, _<_}
-use mathlib.Core.Path.{_≡_, refl, ap, _∙_}
-use mathlib.Core.List.{[]}
-use native.Mathlib.Omega.{arith}
-use lib.ListN.{length, getD-replicate}
+use Rattle.whole.specs.Plain.{_+_, _-_, _≤_, _<_, _≡_, refl, ap, _∙_, [], length, getD-replicate, arith, Words}
 use denote.Enum.Declared.{tagOf}
-use Rattle.whole.specs.Lists.{Words}
 use Rattle.paper.specs.Advance.{memory}
 use Rattle.digits.specs.Puts.{puts-length}
 use Rattle.list_round.specs.Passed.{Lent}

@@ -1,10 +1,6 @@
 -- `list_round::all_areas` meets its contract. The invariant: of every network that the tables are of, the areas passed have taken the step, and the turns
 -- that are left lead to the same piece. Assumes nothing.
-use Prim.Native.Nat.{_+_, _-_, _≤_}
-use mathlib.Core.Path.{sym, _∙_}
-use native.Mathlib.Omega.{arith}
-use borrow.Author.Tests.{not-true, not-false}
-use Rattle.whole.specs.Lists.{Words}
+use Rattle.whole.specs.Plain.{_+_, _-_, _≤_, sym, _∙_, not-true, not-false, arith, Words}
 use Rattle.paper.specs.Advance.{memory}
 use Rattle.list_round.specs.Round.{Starts}
 use Rattle.list_round.specs.Passed.{Passed, Lent, passed-none, lent, few, all-passed, tabled, stepping, passed-on, refused}

@@ -1,11 +1,10 @@
 -- `list_step::put_current` meets its contract, by the kind of the row. Assumes nothing.
-use mathlib.Core.Path.{_≡_, sym, ap, _∙_}
-use native.Mathlib.Omega.{arith}
+use Rattle.whole.specs.Plain.{_≡_, sym, ap, _∙_, arith}
 use borrow.Author.Needs.{needs}
 use Rattle.whole.specs.Int.{read64}
 use Rattle.paper.specs.Rows.{bytes}
 use Rattle.plan_rows.specs.declared.Row.{Row}
-use Rattle.plan_rows.specs.ByKind.{branchKind}
+use Rattle.paper.specs.Rows.{branchKind}
 use Rattle.plan_rows.specs.Planned.{rowIn}
 use Rattle.digits.specs.Puts.{puts-none, puts-as}
 use Rattle.list_step.specs.ByPlan.{line-of-line, line-of-branch, line-of-source}

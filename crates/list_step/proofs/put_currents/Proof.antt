@@ -1,8 +1,5 @@
 -- `list_step::put_currents` meets its contract. The invariant: the lines of the rows passed are put. Assumes nothing.
-use Prim.Native.Nat.{ℕ, _+_, _-_, _≤_}
-use mathlib.Core.Path.{_≡_, ap}
-use native.Mathlib.Omega.{arith}
-use Rattle.whole.specs.Lists.{numbers}
+use Rattle.whole.specs.Plain.{ℕ, _+_, _-_, _≤_, _≡_, ap, arith, numbers}
 use Rattle.digits.specs.Puts.{Puts, puts-none, puts-as, puts-length}
 use Rattle.list_step.specs.Joined.{joined, line-room, line-put}
 use Rattle.list_step.specs.ByPlan.{currentLineBy}

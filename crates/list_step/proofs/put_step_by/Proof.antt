@@ -1,8 +1,6 @@
 -- `list_step::put_step_by` meets its contract: the nodes' lines, then the branches'. Assumes nothing.
-use Prim.Native.Nat.{_+_, _≤_}
-use native.Mathlib.Omega.{arith}
+use Rattle.whole.specs.Plain.{_+_, _≤_, length, arith}
 use borrow.Author.Needs.{needs}
-use lib.ListN.{length}
 use Rattle.paper.specs.Listing.{stepLines}
 use Rattle.digits.specs.Puts.{room-first, room-second, both-put}
 use Rattle.list_step.specs.ByPlan.{rows-are, nodes-are, numbered, step-parts}

@@ -1,10 +1,8 @@
 -- `list_step::put_volts` meets its contract. The invariant: the lines of the nodes passed are put. Assumes nothing.
-use Prim.Native.Nat.{ℕ, _-_, _≤_, _<_}
-use mathlib.Core.Path.{_≡_, ap}
-use native.Mathlib.Omega.{arith}
-use Rattle.whole.specs.Lists.{numbers}
+use Rattle.whole.specs.Plain.{ℕ, _-_, _≤_, _<_, _≡_, ap, arith, numbers}
 use Rattle.whole.specs.Int.{read64}
 use Rattle.paper.specs.Rows.{bytes}
+use borrow.Author.Needs.{needs}
 use Rattle.digits.specs.Puts.{Puts, puts-none, puts-as, puts-length}
 use Rattle.list_step.specs.Joined.{joined, voltLine, line-room, line-put}
 use Rattle.list_step.proofs.put_volts.Statement.{statement}
@@ -48,5 +46,5 @@ returns c =
 pub put-volts-spec : {M : Type 1} → statement M
 put-volts-spec =
     tie.close
-    (tie.spec Inv-loop μ-loop loop-holds (λ c. record { fits = omega (arith, few c) }) (λ c. record { fits = omega (arith, few c) }) (λ c. record { fits = omega (arith, few c) }) (λ c. omega (arith, few c, c .before .before .before .pre .1 .0 .1))
+    (tie.spec Inv-loop μ-loop loop-holds (λ c. record { fits = omega (arith, few c) }) (λ c. record { fits = omega (arith, few c) }) (λ c. search needs) (λ c. record { fits = omega (arith, few c) }) (λ c. omega (arith, few c, c .before .before .before .pre .1 .0 .1))
     put-row-requires (λ c. record { fits = omega (arith, few (c .before .before .before .before .before)) }) (λ c. omega (arith, c .before .before .before .before .before .loop-test .taken)) loop-again (λ c. puts-length (c .before .loop .inv .1)) returns)

@@ -1,7 +1,5 @@
 -- `list_turn::put_turn` meets its contract: the step's lines where all areas took it, the stop line where one did not. Assumes nothing.
-use Prim.Native.Nat.{ℕ, _+_, _≤_}
-use mathlib.Core.Path.{_≡_, refl}
-use native.Mathlib.Omega.{arith}
+use Rattle.whole.specs.Plain.{ℕ, _+_, _≤_, _≡_, refl, arith}
 use native.Mathlib.Numerals.{add-one}
 use borrow.Author.Needs.{needs}
 use denote.Enum.Declared.{tagOf}

@@ -1,10 +1,6 @@
 -- `network::blank` meets its contract. Assumes nothing.
-use Prim.Native.Nat.{_+_, _*_, _-_}
-use mathlib.Core.Path.{_≡_}
-use native.Mathlib.Omega.{arith}
+use Rattle.whole.specs.Plain.{_+_, _*_, _-_, _≡_, length, take, drop, length-drop, take-all, arith}
 use borrow.Author.Needs.{needs}
-use lib.ListN.{length, take, drop, length-drop}
-use lib.Seq.{take-all}
 use Rattle.network.specs.Judged.{blank}
 use Rattle.network.proofs.blank.Statement.{statement}
 use Rattle.network.proofs.blank.Tie as tie

@@ -1,11 +1,6 @@
 -- `network::good` meets its contract. Assumes nothing.
-use Prim.Native.Nat.{_<_}
-use mathlib.Core.Path.{_≡_, sym, _∙_}
-use mathlib.Core.Bool.{true}
-use native.Mathlib.Omega.{arith}
+use Rattle.whole.specs.Plain.{_<_, _≡_, sym, _∙_, true, leb, leb-true, not-true, not-false, arith}
 use borrow.Author.Needs.{needs}
-use borrow.Author.Tests.{leb-true, not-true, not-false}
-use lib.Dec.{leb}
 use Rattle.whole.specs.Folds.{and-right}
 use Rattle.paper.specs.Rows.{kind}
 use Rattle.network.specs.Judged.{knownRow, goodRow}

@@ -1,9 +1,6 @@
 -- `network::is_network` meets its contract. Assumes nothing.
-use mathlib.Core.Path.{_≡_, sym, _∙_}
+use Rattle.whole.specs.Plain.{_≡_, sym, _∙_, pos, not-true, not-false, word, nat}
 use borrow.Author.Needs.{needs}
-use borrow.Author.Tests.{not-true, not-false}
-use lib.IntN.{pos}
-use Rattle.whole.specs.Lists.{word, nat}
 use Rattle.whole.specs.Int.{read64}
 use Rattle.whole.specs.Index.{index}
 use Rattle.network.specs.Laws.{Sized}

@@ -1,5 +1,4 @@
 -- `network::known` meets its contract. Assumes nothing.
-use mathlib.Core.Path.{_≡_}
 use borrow.Author.Needs.{needs}
 use Rattle.whole.specs.Int.{read64}
 use Rattle.network.specs.Replayed.{known-word}

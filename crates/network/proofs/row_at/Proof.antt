@@ -1,6 +1,5 @@
 -- `network::row_at` meets its contract: eight words, one after another. Assumes nothing.
-use mathlib.Core.Path.{_≡_, _∙_}
-use native.Mathlib.Omega.{arith}
+use Rattle.whole.specs.Plain.{_∙_, arith}
 use Rattle.whole.specs.Int.{read64}
 use Rattle.network.specs.Replayed.{eight, words-are}
 use Rattle.network.proofs.row_at.Statement.{statement}

@@ -1,10 +1,5 @@
 -- `network::rows_pass` meets its contract: the rows passed are replayed; one that fails is refusal 8, and after the last there is none. Assumes nothing.
-use Prim.Native.Nat.{ℕ, _+_, _≤_, _<_, _-_}
-use mathlib.Core.Path.{_≡_, refl, sym, ap, _∙_}
-use mathlib.Core.Bool.{true, false}
-use native.Mathlib.Omega.{arith}
-use borrow.Author.Tests.{not-true, not-false}
-use Rattle.faults.specs.Seen.{seenAfter}
+use Rattle.whole.specs.Plain.{_≤_, _-_, _≡_, sym, ap, _∙_, true, not-true, not-false, arith}
 use Rattle.network.specs.Judged.{wordsOf, goodRow}
 use Rattle.network.specs.Laws.{Replayed, good-known, good-fault, replayed-next, judged-true}
 use Rattle.network.specs.Refused.{row-refused}

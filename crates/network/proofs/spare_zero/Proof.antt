@@ -1,10 +1,6 @@
 -- `network::spare_zero` meets its contract. Assumes nothing.
-use mathlib.Core.Path.{_≡_}
-use native.Mathlib.Omega.{arith}
+use Rattle.whole.specs.Plain.{_≡_, ℤ, pos, getD, length, arith, word}
 use borrow.Author.Needs.{needs}
-use lib.IntN.{ℤ, pos}
-use lib.ListN.{getD, length}
-use Rattle.whole.specs.Lists.{word}
 use Rattle.whole.specs.Int.{read64}
 use Rattle.paper.specs.Rows.{kind, fieldsOf}
 use Rattle.faults.specs.Laws.{kind-sign, kind-size}

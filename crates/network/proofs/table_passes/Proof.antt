@@ -1,6 +1,5 @@
 -- `network::table_passes` meets its contract: the study's row is the first. Assumes nothing.
-use mathlib.Core.Path.{_≡_, refl, sym, ap, _∙_}
-use native.Mathlib.Omega.{arith}
+use Rattle.whole.specs.Plain.{_≡_, sym, _∙_, arith}
 use borrow.Author.Needs.{needs}
 use Rattle.faults.specs.Seen.{seenFault, nothingSeen}
 use Rattle.faults.specs.Stands.{stands-none}

@@ -1,12 +1,7 @@
 -- Assumes nothing.
-use mathlib.Core.Path.{_≡_, refl, sym, ap}
-use native.Mathlib.Omega.{arith}
-use borrow.Author.Tests.{le-ltb}
+use Rattle.whole.specs.Plain.{_≡_, refl, sym, ap, not, ℤ, pos, negsuc, nonNeg, ltZ, le-ltb, arith}
 use mir.Syntax.{w64}
 use mir.Val.{toZ, ofZ}
-use mathlib.Core.Bool.{not}
-use lib.IntN.{ℤ, pos, negsuc}
-use lib.Signed.{nonNeg, ltZ}
 use mir.Facts.{toZ-ofZ}
 use Rattle.whole.specs.Int.{not-neg}
 use Rattle.numbers_c.specs.Outcomes.{wordsJudged}

@@ -1,6 +1,5 @@
 -- Assumes nothing.
-use mathlib.Core.Path.{sym, ap, _∙_}
-use mathlib.Core.Bool.{true}
+use Rattle.whole.specs.Plain.{sym, ap, _∙_, true}
 use borrow.Author.Needs.{needs}
 use Rattle.numbers_c.specs.Outcomes.{out, rounded}
 use Rattle.numbers_c.proofs.numbers_nearest.Statement.{statement}

@@ -1,6 +1,6 @@
 -- Assumes nothing.
 use borrow.Author.Needs.{needs}
-use borrow.Author.Tests.{eq-eqb, ne-eqb}
+use Rattle.whole.specs.Plain.{eq-eqb, ne-eqb}
 use Rattle.numbers_c.specs.Outcomes.{quotientOf}
 use Rattle.numbers_c.proofs.numbers_nearest_quotient.Statement.{statement}
 use Rattle.numbers_c.proofs.numbers_nearest_quotient.Tie as tie

@@ -1,6 +1,6 @@
 -- Assumes nothing.
 use borrow.Author.Needs.{needs}
-use borrow.Author.Tests.{le-leb, lt-leb}
+use Rattle.whole.specs.Plain.{le-leb, lt-leb}
 use Rattle.numbers_c.specs.Outcomes.{solution}
 use Rattle.numbers_c.proofs.numbers_solve.Statement.{statement}
 use Rattle.numbers_c.proofs.numbers_solve.Tie as tie

@@ -1,5 +1,5 @@
 -- Assumes nothing.
-use mathlib.Core.Path.{_∙_, ap}
+use Rattle.whole.specs.Plain.{_∙_, ap}
 use borrow.Author.Needs.{needs}
 use mir.Facts.{toZ-ofZ}
 use Rattle.paper.specs.Doubles.{double}

@@ -1,7 +1,5 @@
 -- `plan_own::lay_all` meets its contract: the areas passed are laid, with room for the rest. Assumes nothing.
-use Prim.Native.Nat.{suc, _+_, _-_, _≤_}
-use mathlib.Core.Path.{_≡_, sym, ap, _∙_}
-use native.Mathlib.Omega.{arith}
+use Rattle.whole.specs.Plain.{suc, _+_, _-_, _≤_, _≡_, sym, ap, _∙_, arith}
 use Rattle.paper.specs.Areas.{areaCount}
 use Rattle.facts.specs.Nets.{netIn, net-sound, area-count-most}
 use Rattle.plan_rows.specs.declared.Totals.{Totals}

@@ -1,20 +1,15 @@
 -- `plan_own::lay_area` meets its contract: each part is laid by its own function. Assumes nothing.
-use Prim.Native.Nat.{_<_}
-use mathlib.Core.Path.{_≡_, ap, _∙_}
-use mathlib.Core.Bool.{true, false}
-use mathlib.Core.List.{map}
-use native.Mathlib.Omega.{arith}
+use Rattle.whole.specs.Plain.{_<_, _≡_, ap, _∙_, true, false, map, length, length-map, arith}
 use borrow.Author.Needs.{needs}
-use lib.ListN.{length, length-map}
 use Rattle.paper.specs.Areas.{Net, freeOf}
 use Rattle.facts.specs.Nets.{NetSound, netIn, net-sound}
 use Rattle.plan_ends.specs.Own.{ownEnds, fixedOf, sourceLines}
 use Rattle.plan_rows.specs.declared.Totals.{Totals}
 use Rattle.plan_rows.specs.Decoded.{noded}
-use Rattle.plan_own.specs.Grown.{Grown}
-use Rattle.plan_own.specs.Ends.{legsBy, frameOf, legs-are}
-use Rattle.plan_own.specs.Nodes.{nodesBy, free-are, fixed-are}
-use Rattle.plan_own.specs.Sources.{sourcesBy, sources-are}
+use Rattle.plan_lay.specs.Grown.{Grown}
+use Rattle.plan_lay.specs.Ends.{legsBy, frameOf, legs-are}
+use Rattle.plan_lay.specs.Nodes.{nodesBy, free-are, fixed-are}
+use Rattle.plan_lay.specs.Sources.{sourcesBy, sources-are}
 use Rattle.plan_own.specs.Areas.{RoomHere, room-here, free-or-fixed, ours, behind}
 use Rattle.plan_own.proofs.lay_area.Statement.{statement}
 use Rattle.plan_own.proofs.lay_area.Tie as tie

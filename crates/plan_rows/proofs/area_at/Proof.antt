@@ -1,7 +1,6 @@
 -- `plan_rows::area_at` meets its contract. Assumes nothing.
-use mathlib.Core.Path.{sym, _∙_}
+use Rattle.whole.specs.Plain.{sym, _∙_, eq-eqb, ne-eqb, not-true, not-false}
 use borrow.Author.Needs.{needs}
-use borrow.Author.Tests.{eq-eqb, ne-eqb, not-true, not-false}
 use Rattle.plan_rows.specs.ByKind.{ownerBy}
 use Rattle.plan_rows.proofs.area_at.Statement.{statement}
 use Rattle.plan_rows.proofs.area_at.Tie as tie

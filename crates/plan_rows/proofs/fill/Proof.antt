@@ -1,10 +1,6 @@
 -- `plan_rows::fill` meets its contract: the rows passed are planned, their slots and branches counted. Assumes nothing.
-use Prim.Native.Nat.{_+_, _-_, _≤_, _<_}
-use mathlib.Core.Path.{_≡_, refl, sym, ap, _∙_}
-use native.Mathlib.Omega.{arith}
+use Rattle.whole.specs.Plain.{_+_, _-_, _≤_, _<_, _≡_, refl, sym, ap, _∙_, length, arith, count}
 use native.Mathlib.Numerals.{add-one}
-use lib.ListN.{length}
-use Rattle.whole.specs.Lists.{count}
 use Rattle.paper.specs.Areas.{branchNumber}
 use Rattle.paper.specs.Records.{offset}
 use Rattle.facts.specs.Nets.{netIn, net-sound}

@@ -1,6 +1,5 @@
 -- `plan_rows::make` meets its contract: each part is what its own function gives. Assumes nothing.
-use mathlib.Core.Path.{_∙_}
-use native.Mathlib.Omega.{arith}
+use Rattle.whole.specs.Plain.{_∙_, arith}
 use borrow.Author.Needs.{needs}
 use Rattle.whole.specs.Int.{read64}
 use Rattle.plan_rows.specs.Decoded.{study-word}

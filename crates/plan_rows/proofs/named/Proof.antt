@@ -1,5 +1,5 @@
 -- `plan_rows::named` meets its contract. Assumes nothing.
-use native.Mathlib.Omega.{arith}
+use Rattle.whole.specs.Plain.{arith}
 use borrow.Author.Needs.{needs}
 use Rattle.facts.specs.Nets.{net-sound}
 use Rattle.plan_rows.specs.Decoded.{from-in, named-is}

@@ -1,5 +1,5 @@
 -- `plan_rows::node` meets its contract. Assumes nothing.
-use borrow.Author.Tests.{eq-eqb, ne-eqb}
+use Rattle.whole.specs.Plain.{eq-eqb, ne-eqb}
 use Rattle.plan_rows.specs.Planned.{nodeIn}
 use Rattle.plan_rows.proofs.node.Statement.{statement}
 use Rattle.plan_rows.proofs.node.Tie as tie

@@ -1,10 +1,5 @@
 -- `plan_rows::node_count` meets its contract: the rows that are left lead to the node count. Assumes nothing.
-use Prim.Native.Nat.{_≤_, _-_, max}
-use mathlib.Core.Path.{_≡_}
-use mathlib.Core.List.{[]}
-use native.Mathlib.Omega.{arith}
-use lib.ListN.{drop}
-use Rattle.whole.specs.Lists.{fold}
+use Rattle.whole.specs.Plain.{_≤_, _-_, max, _≡_, [], drop, arith, fold}
 use Rattle.whole.specs.Folds.{fold-next, fold-end}
 use Rattle.paper.specs.Areas.{named}
 use Rattle.facts.specs.Nets.{netIn, rowAt}

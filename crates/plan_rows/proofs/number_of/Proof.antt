@@ -1,6 +1,5 @@
 -- `plan_rows::number_of` meets its contract. Assumes nothing.
-use mathlib.Core.Path.{sym, _∙_}
-use native.Mathlib.Omega.{arith}
+use Rattle.whole.specs.Plain.{sym, _∙_, arith}
 use borrow.Author.Needs.{needs}
 use Rattle.plan_rows.proofs.number_of.Statement.{statement}
 use Rattle.plan_rows.proofs.number_of.Tie as tie

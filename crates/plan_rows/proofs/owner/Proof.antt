@@ -1,5 +1,5 @@
 -- `plan_rows::owner` meets its contract. Assumes nothing.
-use borrow.Author.Tests.{eq-eqb, ne-eqb}
+use Rattle.whole.specs.Plain.{eq-eqb, ne-eqb}
 use Rattle.plan_rows.specs.Planned.{ownerIn}
 use Rattle.plan_rows.proofs.owner.Statement.{statement}
 use Rattle.plan_rows.proofs.owner.Tie as tie

@@ -1,7 +1,5 @@
 -- `plan_rows::planned` meets its contract: each word is what its own function gives. Assumes nothing.
-use Prim.Native.Nat.{_/_, _≤_}
-use mathlib.Core.Path.{_≡_, sym, _∙_}
-use native.Mathlib.Omega.{arith}
+use Rattle.whole.specs.Plain.{_/_, _≤_, _≡_, sym, _∙_, arith}
 use borrow.Author.Needs.{needs}
 use Rattle.paper.specs.Limits as Limits
 use Rattle.paper.specs.Faults as Faults

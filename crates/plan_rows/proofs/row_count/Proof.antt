@@ -1,7 +1,5 @@
 -- `plan_rows::row_count` meets its contract. Assumes nothing.
-use mathlib.Core.Path.{ap, _∙_}
-use native.Mathlib.Omega.{arith}
-use Rattle.whole.specs.Lists.{nat}
+use Rattle.whole.specs.Plain.{ap, _∙_, arith, nat}
 use Rattle.whole.specs.Int.{read64}
 use Rattle.whole.specs.Index.{index}
 use Rattle.facts.specs.Nets.{network-length, row-count-word}

@@ -1,8 +1,5 @@
 -- `plan_rows::slots_of` meets its contract. Assumes nothing.
-use Prim.Native.Nat.{_*_}
-use mathlib.Core.Path.{_≡_}
-use native.Mathlib.Omega.{arith}
-use borrow.Author.Tests.{eq-eqb, ne-eqb}
+use Rattle.whole.specs.Plain.{_*_, _≡_, eq-eqb, ne-eqb, arith}
 use Rattle.plan_rows.specs.ByKind.{slotsBy}
 use Rattle.plan_rows.proofs.slots_of.Statement.{statement}
 use Rattle.plan_rows.proofs.slots_of.Tie as tie

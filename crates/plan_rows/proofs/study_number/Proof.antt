@@ -1,7 +1,6 @@
 -- `plan_rows::study_number` meets its contract. Assumes nothing.
-use mathlib.Core.Path.{ap, _∙_}
+use Rattle.whole.specs.Plain.{ap, _∙_, natAbs}
 use borrow.Author.Needs.{needs}
-use lib.IntN.{natAbs}
 use Rattle.whole.specs.Int.{read64}
 use Rattle.whole.specs.Index.{index}
 use Rattle.plan_rows.specs.Decoded.{study-word}

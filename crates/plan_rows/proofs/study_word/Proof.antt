@@ -1,6 +1,5 @@
 -- `plan_rows::study_word` meets its contract. Assumes nothing.
-use mathlib.Core.Path.{sym, _∙_}
-use native.Mathlib.Omega.{arith}
+use Rattle.whole.specs.Plain.{sym, _∙_, arith}
 use borrow.Author.Needs.{needs}
 use Rattle.whole.specs.Int.{read64}
 use Rattle.facts.specs.Nets.{network-length, head-word}

@@ -1,12 +1,5 @@
-use borrow.Author.Needs.{needs}
-use mathlib.Core.Path.{_≡_, refl, sym, _∙_, ap}
-use Prim.Native.Nat.{ℕ, _≤_, _-_, _+_}
-use native.Mathlib.Omega.{arith}
-use lib.IntN.{ℤ, pos}
-use lib.ListN.{length, getD, set, length-append, length-drop}
-use lib.Seq.{length-take-le}
+use Rattle.whole.specs.Plain.{_≤_, _-_, _≡_, refl, _∙_, ap, ℤ, pos, length, getD, set, arith, Words}
 use Rattle.whole.specs.Int.{read64}
-use Rattle.whole.specs.Lists.{Words}
 use Rattle.reading.specs.Ways.{copied, copied-length, copy-more, copy-end}
 use Rattle.reading.proofs.copy.Statement.{statement}
 use Rattle.reading.proofs.copy.Tie as tie

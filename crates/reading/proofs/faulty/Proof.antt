@@ -1,5 +1,4 @@
-use mathlib.Core.Path.{_≡_}
-use borrow.Author.Tests.{ne-eqb}
+use Rattle.whole.specs.Plain.{_≡_, ne-eqb}
 use Rattle.paper.specs.Reading.{faulty}
 use Rattle.reading.proofs.faulty.Statement.{statement}
 use Rattle.reading.proofs.faulty.Tie as tie

@@ -1,5 +1,4 @@
-use mathlib.Core.Path.{sym, subst}
-use Rattle.whole.specs.Lists.{Words}
+use Rattle.whole.specs.Plain.{sym, subst, Words}
 use Rattle.paper.specs.declared.Reading.{Reading}
 use Rattle.paper.specs.declared.Reading.the-variants.{Read}
 use Rattle.paper.specs.One.{Reads}

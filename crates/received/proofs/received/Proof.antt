@@ -1,11 +1,8 @@
 -- `received::received` meets its contract: the part is read as the store is. Assumes nothing.
-use mathlib.Core.Path.{_≡_, _∙_, ap, sym}
-use native.Mathlib.Omega.{arith}
+use Rattle.whole.specs.Plain.{_≡_, _∙_, ap, length, arith}
 use borrow.Author.Needs.{needs}
-use lib.ListN.{length}
 use Rattle.whole.specs.Int.{read64}
-use Rattle.whole.specs.Lists.{Words}
-use Rattle.received.specs.Received.{heardFrom, part-length, part-heard}
+use Rattle.received.specs.Received.{part-length, part-heard}
 use Rattle.received.proofs.received.Statement.{statement}
 use Rattle.received.proofs.received.Tie as tie
 

@@ -1,12 +1,7 @@
 -- `received::sent` meets its contract. Assumes nothing.
-use Prim.Native.Nat.{_+_, _-_, _%_, _<_}
-use mathlib.Core.Path.{_≡_, _∙_, ap}
-use native.Mathlib.Omega.{arith}
-use native.Mathlib.Nat.{mod-lt}
+use Rattle.whole.specs.Plain.{_+_, _-_, _%_, _<_, _≡_, _∙_, ap, length, mod-lt, arith, word}
 use borrow.Author.Needs.{needs}
-use lib.ListN.{length}
 use Rattle.whole.specs.Int.{read64}
-use Rattle.whole.specs.Lists.{word}
 use Rattle.received.specs.Received.{heard-before, heard-after}
 use Rattle.received.proofs.sent.Statement.{statement}
 use Rattle.received.proofs.sent.Tie as tie

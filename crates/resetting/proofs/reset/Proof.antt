@@ -1,8 +1,6 @@
 -- `resetting::reset` meets its contract: 9, 8, or all zeros. Assumes nothing.
-use mathlib.Core.Path.{_≡_, sym, _∙_}
-use mathlib.Core.Bool.{true, false}
+use Rattle.whole.specs.Plain.{_≡_, sym, _∙_, true, not-true, not-false}
 use borrow.Author.Needs.{needs}
-use borrow.Author.Tests.{not-true, not-false}
 use Rattle.paper.specs.Advance.{memory, fits}
 use Rattle.lent.specs.Lengths.{lengths}
 use Rattle.resetting.specs.Cases.{wrong-length, no-network, cleared}

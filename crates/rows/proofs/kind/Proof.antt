@@ -1,7 +1,5 @@
 -- `rows::kind` meets its contract. Assumes nothing.
-use mathlib.Core.Path.{_≡_, refl, ap, _∙_}
-use native.Mathlib.Omega.{arith}
-use Rattle.whole.specs.Lists.{nat}
+use Rattle.whole.specs.Plain.{refl, ap, _∙_, arith, nat}
 use Rattle.facts.specs.Nets.{net-sound}
 use Rattle.rows.proofs.kind.Statement.{statement}
 use Rattle.rows.proofs.kind.Tie as tie

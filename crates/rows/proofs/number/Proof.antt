@@ -1,7 +1,6 @@
 -- `rows::number` meets its contract: the word is no negative number. Assumes nothing.
-use mathlib.Core.Path.{_≡_, ap, _∙_}
+use Rattle.whole.specs.Plain.{ap, _∙_, natAbs}
 use borrow.Author.Needs.{needs}
-use lib.IntN.{natAbs}
 use Rattle.whole.specs.Int.{read64}
 use Rattle.whole.specs.Index.{index}
 use Rattle.rows.proofs.number.Statement.{statement}

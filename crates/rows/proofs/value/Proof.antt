@@ -1,6 +1,5 @@
 -- `rows::value` meets its contract: the row's word is the record's. Assumes nothing.
-use mathlib.Core.Path.{_≡_, sym, _∙_}
-use native.Mathlib.Omega.{arith}
+use Rattle.whole.specs.Plain.{sym, _∙_, arith}
 use Rattle.whole.specs.Int.{read64}
 use Rattle.facts.specs.Nets.{net-sound, network-length, row-word}
 use Rattle.rows.proofs.value.Statement.{statement}

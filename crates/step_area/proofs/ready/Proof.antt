@@ -1,12 +1,8 @@
 -- `step_area::ready` meets its contract: 14, or the step from what is kept for it. Assumes nothing.
-use Prim.Native.Nat.{ℕ, _≤_}
-use mathlib.Core.Path.{_≡_}
-use native.Mathlib.Omega.{arith}
+use Rattle.whole.specs.Plain.{arith}
 use borrow.Author.Needs.{needs}
-use Rattle.paper.specs.Areas.{Net}
-use Rattle.paper.specs.Advance.{memory}
-use Rattle.step_area.specs.Tabled.{Tables, Renewing, area-few}
-use Rattle.step_area.specs.Stepping.{Stepping, floating-step}
+use Rattle.step_area.specs.Tabled.{area-few}
+use Rattle.step_area.specs.Stepping.{floating-step}
 use Rattle.step_area.proofs.ready.Statement.{statement}
 use Rattle.step_area.proofs.ready.Tie as tie
 

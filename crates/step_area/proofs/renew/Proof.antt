@@ -1,8 +1,6 @@
 -- `step_area::renew` meets its contract. Assumes nothing.
-use mathlib.Core.Path.{_≡_, sym}
-use native.Mathlib.Omega.{arith}
+use Rattle.whole.specs.Plain.{arith}
 use borrow.Author.Needs.{needs}
-use Rattle.whole.specs.Lists.{Words}
 use Rattle.plan_own.specs.Owns.{Ours}
 use Rattle.step_area.specs.Tabled.{area-few, ours-read, stands-read, renews-none, renews-stop, renews-on}
 use Rattle.step_area.proofs.renew.Statement.{statement}

@@ -1,12 +1,7 @@
 -- `step_area::stepped` meets its contract: a try that fails writes nothing, and one that passes is written as the definition says. Assumes nothing.
-use Prim.Native.Nat.{ℕ, _≤_}
-use mathlib.Core.Path.{_≡_, refl, sym, ap, _∙_}
-use mathlib.Core.Bool.{true, false}
-use native.Mathlib.Omega.{arith}
+use Rattle.whole.specs.Plain.{_≡_, sym, _∙_, true, not-true, not-false, arith}
 use borrow.Author.Needs.{needs}
-use borrow.Author.Tests.{not-true, not-false}
 use Rattle.paper.specs.Answers.{accepted}
-use Rattle.paper.specs.Advance.{memory}
 use Rattle.plan_own.specs.Owns.{Ours}
 use Rattle.step_area.specs.Stepping.{own-there, tries-at, tried-at, tables-after, not-taken, asked, moved}
 use Rattle.step_area.proofs.stepped.Statement.{statement}

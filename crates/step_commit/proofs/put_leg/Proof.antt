@@ -1,9 +1,7 @@
 -- `step_commit::put_leg` meets its contract. Assumes nothing.
-use native.Mathlib.Omega.{arith}
-use lib.ListN.{length-set}
+use Rattle.whole.specs.Plain.{length-set, eq-eqb, ne-eqb, arith}
 use mir.Facts.{toZ-ofZ}
 use borrow.Author.Needs.{needs}
-use borrow.Author.Tests.{eq-eqb, ne-eqb}
 use Rattle.paper.specs.Advance.{putIf}
 use Rattle.step_commit.specs.Records.{legPut}
 use Rattle.step_commit.proofs.put_leg.Statement.{statement}

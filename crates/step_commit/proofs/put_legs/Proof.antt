@@ -1,11 +1,6 @@
 -- `step_commit::put_legs` meets its contract: the legs that are left lead to the answer. Assumes nothing.
-use Prim.Native.Nat.{_-_, _≤_}
-use mathlib.Core.Path.{_≡_, refl, _∙_}
-use mathlib.Core.List.{[]}
-use native.Mathlib.Omega.{arith}
+use Rattle.whole.specs.Plain.{_-_, _≤_, _≡_, refl, _∙_, [], length, getD, drop, arith, fold}
 use borrow.Author.Needs.{needs}
-use lib.ListN.{length, getD, drop}
-use Rattle.whole.specs.Lists.{fold}
 use Rattle.whole.specs.Folds.{fold-next, fold-end}
 use Rattle.whole.specs.Int.{read64}
 use Rattle.step_legs.specs.Wires.{currentIn, passedIn}

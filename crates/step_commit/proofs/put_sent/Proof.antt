@@ -1,9 +1,5 @@
 -- `step_commit::put_sent` meets its contract: of the whole store only the one slot changes. Assumes nothing.
-use Prim.Native.Nat.{_+_, _-_, _%_}
-use mathlib.Core.Path.{_≡_, _∙_, ap}
-use native.Mathlib.Nat.{mod-lt}
-use native.Mathlib.Omega.{arith}
-use lib.ListN.{set, length, length-take, length-drop}
+use Rattle.whole.specs.Plain.{_+_, _-_, _%_, _≡_, _∙_, ap, set, length, length-take, length-drop, mod-lt, arith}
 use borrow.Rule.Slice.PartMut.{putMid, midOf, set-mid-at}
 use borrow.Author.Needs.{needs}
 use mir.Facts.{toZ-ofZ}

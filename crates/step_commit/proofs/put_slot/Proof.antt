@@ -1,8 +1,5 @@
 -- `step_commit::put_slot` meets its contract. Assumes nothing.
-use Prim.Native.Nat.{_%_, _<_}
-use native.Mathlib.Nat.{mod-lt}
-use native.Mathlib.Omega.{arith}
-use lib.ListN.{length}
+use Rattle.whole.specs.Plain.{_%_, _<_, length, mod-lt, arith}
 use borrow.Author.Needs.{needs}
 use Rattle.step_commit.proofs.put_slot.Statement.{statement}
 use Rattle.step_commit.proofs.put_slot.Tie as tie

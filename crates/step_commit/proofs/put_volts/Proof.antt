@@ -1,28 +1,24 @@
 -- `step_commit::put_volts` meets its contract: the nodes that are left lead to the answer. Assumes nothing.
-use Prim.Native.Nat.{ℕ, _-_, _≤_}
-use mathlib.Core.Path.{_≡_, refl}
-use native.Mathlib.Omega.{arith}
-use lib.ListN.{length, getD, drop, set, length-set}
-use Rattle.whole.specs.Lists.{Words, word, fold}
+use Rattle.whole.specs.Plain.{ℕ, _+_, _-_, _≤_, _≡_, refl, length, getD, drop, set, length-set, arith, Words, word}
+use Rattle.whole.specs.Plain.{fold}
 use Rattle.whole.specs.Folds.{fold-next, fold-end}
 use Rattle.whole.specs.Int.{read64}
-use Rattle.paper.specs.Records.{voltAt}
-use Rattle.paper.specs.Advance.{putVolts}
+use Rattle.step_commit.specs.Records.{voltsPut}
 use Rattle.step_commit.proofs.put_volts.Statement.{statement}
 use Rattle.step_commit.proofs.put_volts.Tie as tie
 
 abbrev volt : Words → Words → ℕ → Words
-volt v r n = set r (voltAt n) (word v n)
+volt v r n = set r (32 + n - 1) (word v n)
 
 abbrev Inv-loop : tie.InvT-loop
 Inv-loop nodes v records₀ i₀ records i =
-    (i ≤ length nodes) × (length records ≡ length records₀) × (fold (volt v) records (drop i nodes) ≡ putVolts v nodes records₀)
+    (i ≤ length nodes) × (length records ≡ length records₀) × (fold (volt v) records (drop i nodes) ≡ voltsPut v nodes records₀)
 
 abbrev μ-loop : tie.MeasureT-loop
 μ-loop nodes v records₀ i₀ records i = length nodes - i
 
 loop-holds : tie.Need-loop-holds Inv-loop μ-loop
-unfolding putVolts
+unfolding voltsPut
 loop-holds c = (omega arith, refl, refl)
 
 node : (c : tie.In-loop Inv-loop μ-loop) → let t = c .before in getD (t .before .args .nodes .now) (t .loop .i) 0 ≤ 32
@@ -52,6 +48,7 @@ put-volts-spec =
     (λ c. omega arith)
     (λ c. omega (arith, node (c .before)))
     (λ c. omega (arith, node (c .before)))
+    (λ c. omega (arith, node (c .before .before)))
     (λ c. omega (arith, node (c .before .before)))
     (λ c. omega (arith, node (c .before .before)))
     (λ c. omega (arith, node (c .before .before)))

@@ -1,11 +1,6 @@
 -- `step_commit::send` meets its contract: the legs that are left lead to the answer, in both stores. Assumes nothing.
-use Prim.Native.Nat.{ℕ, _+_, _-_, _≤_, _<_}
-use mathlib.Core.Path.{_≡_, refl, _∙_}
-use mathlib.Core.Bool.{Bool}
-use mathlib.Core.List.{List, []}
-use native.Mathlib.Omega.{arith}
-use lib.ListN.{length, getD, drop}
-use Rattle.whole.specs.Lists.{Words, fold}
+use Rattle.whole.specs.Plain.{ℕ, _+_, _-_, _≤_, _<_, _≡_, refl, _∙_, Bool, List, [], length, getD, drop, arith, Words}
+use Rattle.whole.specs.Plain.{fold}
 use Rattle.whole.specs.Folds.{fold-next, fold-end}
 use Rattle.whole.specs.Int.{read64}
 use Rattle.step_legs.specs.declared.Wire.{Wire}

@@ -1,9 +1,6 @@
 -- `step_commit::send_leg` meets its contract: the row's slots are as the plan has them. Assumes nothing.
-use Prim.Native.Nat.{_+_, _≤_, _<_}
-use mathlib.Core.Path.{refl}
-use native.Mathlib.Omega.{arith}
+use Rattle.whole.specs.Plain.{_+_, _≤_, _<_, refl, eq-eqb, ne-eqb, arith}
 use borrow.Author.Needs.{needs}
-use borrow.Author.Tests.{eq-eqb, ne-eqb}
 use mir.Facts.{toZ-ofZ}
 use Rattle.paper.specs.Limits as Limits
 use Rattle.paper.specs.Advance.{putIf}

@@ -1,9 +1,5 @@
 -- `step_conduct::conduct` meets its contract: the first j lines. Assumes nothing.
-use Prim.Native.Nat.{_-_, _≤_, _<_}
-use mathlib.Core.Path.{_≡_, refl}
-use native.Mathlib.Omega.{arith}
-use borrow.Author.Needs.{needs}
-use lib.ListN.{length}
+use Rattle.whole.specs.Plain.{_-_, _≤_, _<_, _≡_, refl, length, arith}
 use Rattle.step_conduct.specs.Conducted.{Conducted, conducted-more}
 use Rattle.step_conduct.proofs.conduct.Statement.{statement}
 use Rattle.step_conduct.proofs.conduct.Tie as tie

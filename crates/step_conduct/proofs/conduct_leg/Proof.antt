@@ -1,13 +1,8 @@
 -- `step_conduct::conduct_leg` meets its contract. Assumes nothing.
-use Prim.Native.Nat.{_≤_}
-use mathlib.Core.Path.{_≡_, ap, _∙_}
-use mathlib.Core.List.{[]}
-use native.Mathlib.Omega.{arith}
+use Rattle.whole.specs.Plain.{_≤_, _≡_, ap, _∙_, [], ℤ, pos, getD, set, arith}
 use borrow.Author.Needs.{needs}
 use mir.Facts.{toZ-pos}
 use mir.Syntax.{w64}
-use lib.IntN.{ℤ, pos}
-use lib.ListN.{getD, set}
 use Rattle.whole.specs.Int.{read64}
 use Rattle.whole.specs.Index.{index}
 use Rattle.whole.specs.Size.{fits}

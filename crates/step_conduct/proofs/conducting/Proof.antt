@@ -1,5 +1,5 @@
 -- `step_conduct::conducting` meets its contract. Assumes nothing.
-use mathlib.Core.Path.{sym, _∙_}
+use Rattle.whole.specs.Plain.{sym, _∙_}
 use Rattle.step_conduct.specs.Conducted.{conductsOf}
 use Rattle.step_conduct.proofs.conducting.Statement.{statement}
 use Rattle.step_conduct.proofs.conducting.Tie as tie

@@ -1,5 +1,5 @@
 -- `step_conduct::next_change` meets its contract. Assumes nothing.
-use native.Mathlib.Omega.{arith}
+use Rattle.whole.specs.Plain.{arith}
 use borrow.Author.Needs.{needs}
 use Rattle.step_conduct.proofs.next_change.Statement.{statement}
 use Rattle.step_conduct.proofs.next_change.Tie as tie

@@ -1,8 +1,5 @@
 -- The invariant: the turns that are left lead to the answer; line p is as it was. Assumes nothing.
-use Prim.Native.Nat.{_+_, _-_, _<_}
-use mathlib.Core.Path.{_≡_, refl}
-use native.Mathlib.Omega.{arith}
-use lib.Seq.{getD-set-other}
+use Rattle.whole.specs.Plain.{_+_, _-_, _<_, _≡_, refl, getD-set-other, arith}
 use Rattle.whole.specs.Turns.{turns, turns-next, turns-end}
 use Rattle.paper.specs.Elimination.{line}
 use Rattle.step_factors.specs.Factored.{rowFactored, allFactored}

@@ -1,7 +1,5 @@
 -- The invariant: the turns that are left lead to the answer. Assumes nothing.
-use Prim.Native.Nat.{_-_}
-use mathlib.Core.Path.{_≡_, refl}
-use native.Mathlib.Omega.{arith}
+use Rattle.whole.specs.Plain.{_-_, _≡_, refl, arith}
 use Rattle.whole.specs.Turns.{turns, turns-next, turns-end}
 use Rattle.step_factors.specs.Factored.{rowForward, forward}
 use Rattle.step_factors.proofs.forward.Statement.{statement}

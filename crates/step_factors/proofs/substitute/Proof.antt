@@ -1,5 +1,5 @@
 -- `step_factors::substitute` meets its contract. Assumes nothing.
-use mathlib.Core.Path.{_∙_, ap}
+use Rattle.whole.specs.Plain.{_∙_, ap}
 use borrow.Author.Needs.{needs}
 use Rattle.step_factors.specs.Factored.{back, substituted}
 use Rattle.step_factors.proofs.substitute.Statement.{statement}

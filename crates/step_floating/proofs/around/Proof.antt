@@ -1,5 +1,5 @@
 -- `step_floating::around` meets its contract. Assumes nothing.
-use borrow.Author.Tests.{lt-ltb, le-ltb}
+use Rattle.whole.specs.Plain.{lt-ltb, le-ltb}
 use Rattle.step_floating.specs.Search.{around}
 use Rattle.step_floating.proofs.around.Statement.{statement}
 use Rattle.step_floating.proofs.around.Tie as tie

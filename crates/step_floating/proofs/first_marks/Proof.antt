@@ -1,12 +1,8 @@
 -- `step_floating::first_marks` meets its contract: what is left to number leads to the answer. Assumes nothing.
-use Prim.Native.Nat.{_-_, _≤_}
-use mathlib.Core.Path.{_≡_, refl}
-use native.Mathlib.Omega.{arith}
-use lib.ListN.{length, drop, getD}
-use Rattle.whole.specs.Lists.{fold}
+use Rattle.whole.specs.Plain.{_-_, _≤_, _≡_, refl, length, drop, getD, arith, fold}
 use Rattle.whole.specs.Folds.{fold-next, fold-end}
 use Rattle.step_floating.specs.Marks.{put, marks-free}
-use Rattle.step_floating.specs.Going.{start}
+use Rattle.step_floating.specs.Answer.{start}
 use Rattle.step_floating.proofs.first_marks.Statement.{statement}
 use Rattle.step_floating.proofs.first_marks.Tie as tie
 

@@ -1,17 +1,12 @@
 -- `step_floating::floating` meets its contract: the nodes before `place` are reached, so the answer is the first of the others that floats. Assumes
 -- nothing.
-use Prim.Native.Nat.{_-_, _≤_}
-use mathlib.Core.Path.{_≡_, refl, sym, _∙_}
-use native.Mathlib.Omega.{arith}
-use lib.ListN.{length, getD, drop}
-use Rattle.whole.specs.Lists.{first}
+use Rattle.whole.specs.Plain.{_-_, _≤_, _≡_, refl, sym, _∙_, length, getD, drop, arith, first}
 use Rattle.paper.specs.Limits as Limits
 use Rattle.paper.specs.Floating as Paper
 use Rattle.step_legs.specs.Wires.{legsIn}
 use Rattle.step_legs.specs.Free.{first-done}
 use Rattle.step_floating.specs.Search.{loose}
-use Rattle.step_floating.specs.Going.{State, state-start, state-next, left, left-less}
-use Rattle.step_floating.specs.Answer.{floats, search-on, search-found}
+use Rattle.step_floating.specs.Answer.{State, state-start, state-next, left, left-less, floats, search-on, search-found}
 use Rattle.step_floating.proofs.floating.Statement.{statement}
 use Rattle.step_floating.proofs.floating.Tie as tie
 

@@ -1,15 +1,8 @@
 -- `step_floating::reaches` meets its contract: `l.g == 0` is a test of bits. Assumes nothing.
-use Prim.Native.Nat.{suc}
-use mathlib.Core.Path.{_≡_, ap}
-use mathlib.Core.Bool.{false}
-use native.Mathlib.Omega.{arith}
+use Rattle.whole.specs.Plain.{suc, _≡_, ap, false, eqb, ℤ, pos, negsuc, eq-eqb, ne-eqb, arith, nat}
 use borrow.Author.Needs.{needs}
-use borrow.Author.Tests.{eq-eqb, ne-eqb}
-use lib.Dec.{eqb}
-use lib.IntN.{ℤ, pos, negsuc}
 use mir.Syntax.{w64}
 use mir.Val.{ofZ}
-use Rattle.whole.specs.Lists.{nat}
 use Rattle.whole.specs.Int.{is-lit}
 use Rattle.whole.specs.Size.{fits}
 use Rattle.step_floating.specs.Search.{reaches}

@@ -1,6 +1,5 @@
 -- `step_floating::spread_leg` meets its contract. Assumes nothing.
-use mathlib.Core.Path.{refl, sym, _∙_}
-use native.Mathlib.Omega.{arith}
+use Rattle.whole.specs.Plain.{refl, sym, _∙_, arith}
 use borrow.Author.Needs.{needs}
 use Rattle.step_legs.specs.Wires.{Wired}
 use Rattle.step_floating.specs.Search.{reaches, reach, calmer}

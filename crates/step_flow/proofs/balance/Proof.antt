@@ -1,13 +1,9 @@
 -- `step_flow::balance` meets its contract: the search from the i-th free node on. Assumes nothing.
-use Prim.Native.Nat.{_-_, _≤_}
-use mathlib.Core.Path.{_≡_, refl, sym, ap, _∙_}
-use mathlib.Core.Bool.{true, false, not}
-use native.Mathlib.Omega.{arith}
-use lib.ListN.{getD, length, drop}
+use Rattle.whole.specs.Plain.{_-_, _≤_, _≡_, refl, sym, ap, _∙_, true, false, not, getD, length, drop, arith, nat}
+use Rattle.whole.specs.Plain.{first}
 use mir.Syntax.{w64}
 use mir.Val.{toZ}
 use mir.Facts.{toZ-ofZ}
-use Rattle.whole.specs.Lists.{nat, first}
 use Rattle.paper.specs.Limits as Limits
 use Rattle.step_legs.specs.Free.{first-here, first-done}
 use Rattle.step_flow.specs.Past.{past, firstPast}

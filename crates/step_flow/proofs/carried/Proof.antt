@@ -1,18 +1,16 @@
 -- `step_flow::carried` meets its contract: current and echo share one product. Assumes nothing.
-use native.Mathlib.Omega.{arith}
+use Rattle.whole.specs.Plain.{_+ℤ_, arith, Words}
 use borrow.Author.Needs.{needs}
-use lib.IntN.{ℤ, _+ℤ_}
 use mir.Syntax.{w64}
 use mir.Val.{SFits}
 use mir.Facts.{toZ-ofZ}
-use Rattle.whole.specs.Lists.{Words}
 use Rattle.whole.specs.Int.{read64}
 use Rattle.whole.specs.Size.{fits}
 use Rattle.paper.specs.Legs.{through, current, echo}
 use Rattle.step_legs.specs.declared.Wire.{Wire}
 use Rattle.step_legs.specs.Wires.{legOf, Carries}
 use Rattle.step_legs.specs.Shares.{Volts, through-size, current-size, echo-size}
-use Rattle.step_flow.specs.Found.{foundOf}
+use Rattle.step_flow.specs.Flown.{foundOf}
 use Rattle.step_flow.proofs.carried.Statement.{statement}
 use Rattle.step_flow.proofs.carried.Tie as tie
 

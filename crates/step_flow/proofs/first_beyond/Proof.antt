@@ -1,12 +1,6 @@
 -- `step_flow::first_beyond` meets its contract. The invariant: the legs that are left lead to the answer. Assumes nothing.
-use Prim.Native.Nat.{_-_, _≤_}
-use mathlib.Core.Path.{_≡_, refl, sym, ap, _∙_}
-use mathlib.Core.Bool.{not}
-use mathlib.Core.List.{[]}
-use native.Mathlib.Omega.{arith}
+use Rattle.whole.specs.Plain.{_-_, _≤_, _≡_, refl, sym, ap, _∙_, not, [], getD, length, drop, arith, word}
 use borrow.Author.Needs.{needs}
-use lib.ListN.{getD, length, drop}
-use Rattle.whole.specs.Lists.{word}
 use Rattle.whole.specs.Int.{read64}
 use Rattle.whole.specs.Index.{index}
 use Rattle.step_flow.specs.Beyond.{beyondLine, firstRow, row-hit, row-pass, row-none}

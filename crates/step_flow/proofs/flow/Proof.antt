@@ -1,17 +1,11 @@
 -- `step_flow::flow` meets its contract: the first j lines with what is found, and the sums over the first j legs. Assumes nothing.
-use Prim.Native.Nat.{ℕ, _+_, _-_, _≤_, _<_}
-use mathlib.Core.Path.{_≡_, refl, ap, _∙_}
-use mathlib.Core.List.{List, []}
-use native.Mathlib.Omega.{arith}
+use Rattle.whole.specs.Plain.{ℕ, _+_, _-_, _≤_, _<_, _≡_, refl, ap, _∙_, List, [], _+ℤ_, set, take, length, getD}
+use Rattle.whole.specs.Plain.{take-all, arith, Words, word}
 use native.Mathlib.Numerals.{add-one}
 use borrow.Author.Needs.{needs}
-use lib.IntN.{_+ℤ_}
-use lib.ListN.{set, take, length, getD}
-use lib.Seq.{take-all}
 use mir.Syntax.{w64}
 use mir.Val.{SFits}
 use mir.Facts.{toZ-ofZ}
-use Rattle.whole.specs.Lists.{Words, word}
 use Rattle.whole.specs.Size.{fits}
 use Rattle.paper.specs.Legs.{current}
 use Rattle.step_legs.specs.Wires.{wireIn, wireAt, legAt, legsIn, Sized, carries}
@@ -19,13 +13,13 @@ use Rattle.step_legs.specs.Leaving.{legs-length}
 use Rattle.step_legs.specs.Shares.{Volts, current-size, current-sum}
 use Rattle.step_legs.specs.Sums.{Sums, sums-none, sums-more, sum-after}
 use Rattle.step_flow.specs.declared.Found.{Found}
-use Rattle.step_flow.specs.Found.{foundOf, keeping, flown-is}
-use Rattle.step_flow.specs.Pass.{flownTo, to-here, to-next, to-all, to-length, to-sized}
+use Rattle.step_legs.specs.Written.{writtenTo, to-here, to-next, to-all, to-length}
+use Rattle.step_flow.specs.Flown.{foundOf, keeping, flown, flown-is, to-sized}
 use Rattle.step_flow.proofs.flow.Statement.{statement}
 use Rattle.step_flow.proofs.flow.Tie as tie
 
 abbrev Inv-loop : tie.InvT-loop
-Inv-loop legs₀ v sums₀ j₀ legs sums j = (j ≤ length legs₀) × (legs ≡ flownTo v j legs₀) × Sums (current v) (take j (legsIn legs₀)) sums
+Inv-loop legs₀ v sums₀ j₀ legs sums j = (j ≤ length legs₀) × (legs ≡ writtenTo (flown v) j legs₀) × Sums (current v) (take j (legsIn legs₀)) sums
 
 abbrev μ-loop : tie.MeasureT-loop
 μ-loop legs₀ v sums₀ j₀ legs sums j = length legs₀ - j
@@ -44,12 +38,12 @@ module _ {legs : List Words} {v w : Words} (s : Sized legs) (u : Volts v) (j : �
   after e = rw e (sums-more (current v) legs j l a (s .wires .wired j l .near-end))
 
 -- the leg's line
-written : (legs : List Words) (v : Words) (j : ℕ) → j < length legs → {now after : List Words} {f : Found} → now ≡ flownTo v j legs → f ≡ foundOf v (wireAt legs j)
-    → after ≡ set now j (keeping f (getD now j [])) → after ≡ flownTo v (j + 1) legs
-written legs v j h i q e = e ∙ rw (i, q, to-here v j legs, ← flown-is v (getD legs j []), add-one j) (to-next v j legs h)
+written : (legs : List Words) (v : Words) (j : ℕ) → j < length legs → {now after : List Words} {f : Found} → now ≡ writtenTo (flown v) j legs → f ≡ foundOf v (wireAt legs j)
+    → after ≡ set now j (keeping f (getD now j [])) → after ≡ writtenTo (flown v) (j + 1) legs
+written legs v j h i q e = e ∙ rw (i, q, to-here (flown v) j legs, ← flown-is v (getD legs j []), add-one j) (to-next (flown v) j legs h)
 
 loop-holds : tie.Need-loop-holds Inv-loop μ-loop
-unfolding flownTo
+unfolding writtenTo
 loop-holds c = (omega arith, refl, sums-none (current (c .args .v .now)) (c .args .legs .now))
 
 -- the legs at entry, and the voltages
@@ -63,12 +57,12 @@ volts t = t .before .args .v .now
 there : (c : tie.In-loop Inv-loop μ-loop) → c .before .loop .j < length (legs₀ (c .before))
 there c =
     let t = c .before in
-    omega (arith, ap length (t .loop .inv .1), to-length (volts t) (t .loop .j) (legs₀ t))
+    omega (arith, ap length (t .loop .inv .1), to-length (flown (volts t)) (t .loop .j) (legs₀ t))
 
 read : (c : tie.After-leg-at Inv-loop μ-loop) → let t = c .before .before .before in c .leg-at .result ≡ wireAt (legs₀ t) (t .loop .j)
 read c =
     let t = c .before .before .before in
-    c .leg-at .ensures ∙ ap (λ (m : List Words). wireIn (getD m (t .loop .j) [])) (t .loop .inv .1) ∙ ap wireIn (to-here (volts t) (t .loop .j) (legs₀ t))
+    c .leg-at .ensures ∙ ap (λ (m : List Words). wireIn (getD m (t .loop .j) [])) (t .loop .inv .1) ∙ ap wireIn (to-here (flown (volts t)) (t .loop .j) (legs₀ t))
 
 found : (c : tie.After-carried Inv-loop μ-loop) → let t = c .before .before .before .before in c .carried .result ≡ foundOf (volts t) (wireAt (legs₀ t) (t .loop .j))
 found c = c .carried .ensures ∙ ap (foundOf _) (read (c .before))
@@ -76,7 +70,7 @@ found c = c .carried .ensures ∙ ap (foundOf _) (read (c .before))
 leg-at-requires : tie.Need-leg-at-requires Inv-loop μ-loop
 leg-at-requires c κs =
     let t = c .before .before in
-    rw (t .loop .inv .1) (to-sized (volts t) (t .loop .j) (legs₀ t) (t .before .pre .0) .wires, rw (to-length (volts t) (t .loop .j) (legs₀ t)) (there (c .before)))
+    rw (t .loop .inv .1) (to-sized (volts t) (legs₀ t) (t .loop .j) (t .before .pre .0) .wires, rw (to-length (flown (volts t)) (t .loop .j) (legs₀ t)) (there (c .before)))
 
 carried-requires : tie.Need-carried-requires Inv-loop μ-loop
 carried-requires c κs =
@@ -106,14 +100,14 @@ loop-again c =
     (omega (arith, l), written _ _ (t .loop .j) l (t .loop .inv .1) (found f) (c .before .keep .ensures), after (p .0) (p .1) (t .loop .j) l (t .loop .inv .2) e)
 
 same-length : tie.Need-same-length Inv-loop μ-loop
-same-length c = let t = c .before in ap length (t .loop .inv .1) ∙ to-length (volts t) (t .loop .j) (legs₀ t)
+same-length c = let t = c .before in ap length (t .loop .inv .1) ∙ to-length (flown (volts t)) (t .loop .j) (legs₀ t)
 
 returns : tie.Need-returns Inv-loop μ-loop
 returns c =
     let t = c .before in
-    let e : t .loop .j ≡ length (legs₀ t) = omega (arith, ap length (t .loop .inv .1), to-length (volts t) (t .loop .j) (legs₀ t)) in
+    let e : t .loop .j ≡ length (legs₀ t) = omega (arith, ap length (t .loop .inv .1), to-length (flown (volts t)) (t .loop .j) (legs₀ t)) in
     let n = take-all (length (legs₀ t)) (legsIn (legs₀ t)) (omega (arith, legs-length (legs₀ t))) in
-    (rw (e, n) at (t .loop .inv .2), t .loop .inv .1 ∙ rw e (to-all (volts t) (legs₀ t)))
+    (rw (e, n) at (t .loop .inv .2), t .loop .inv .1 ∙ rw e (to-all (flown (volts t)) (legs₀ t)))
 
 pub flow-spec : {M : Type 1} → statement M
 flow-spec =

@@ -1,14 +1,8 @@
 -- `step_flow::keep` meets its contract: two words of one line, one after the other. Assumes nothing.
-use Prim.Native.Nat.{ℕ, _<_}
-use mathlib.Core.Path.{_≡_, _∙_}
-use mathlib.Core.List.{List, []}
+use Rattle.whole.specs.Plain.{ℕ, _<_, _≡_, _∙_, List, [], ℤ, set, length, getD, getD-set-same, set-set, Words}
 use borrow.Author.Needs.{needs}
-use lib.IntN.{ℤ}
-use lib.ListN.{set, length, getD}
-use lib.Seq.{getD-set-same, set-set}
-use Rattle.whole.specs.Lists.{Words}
 use Rattle.whole.specs.Int.{read64}
-use Rattle.step_flow.specs.Found.{keeping}
+use Rattle.step_flow.specs.Flown.{keeping}
 use Rattle.step_flow.proofs.keep.Statement.{statement}
 use Rattle.step_flow.proofs.keep.Tie as tie
 

@@ -1,16 +1,10 @@
 -- `step_flow::passed_on` meets its contract. Assumes nothing.
-use mathlib.Core.Path.{_≡_, _∙_}
-use mathlib.Core.Bool.{true, _||_}
-use mathlib.Core.Logic.{⊎-elim}
-use native.Mathlib.Omega.{arith}
-use borrow.Author.Tests.{eq-eqb, ne-eqb}
-use lib.Dec.{eqb}
-use lib.IntN.{ℤ, pos, negℤ, _-ℤ_, +ℤ-idl}
+use Rattle.whole.specs.Plain.{_≡_, _∙_, ⊎-elim, true, _||_, eqb, ℤ, pos, negℤ, _-ℤ_, +ℤ-idl, eq-eqb, ne-eqb, arith}
 use mir.Syntax.{w64}
 use mir.Val.{SFits, toZ, ofZ}
 use mir.Facts.{toZ-ofZ}
 use Rattle.whole.specs.Int.{fits64, abs-neg}
-use Rattle.step_flow.specs.Found.{passedBy, Small}
+use Rattle.step_flow.specs.Flown.{passedBy, Small}
 use Rattle.step_flow.proofs.passed_on.Statement.{statement}
 use Rattle.step_flow.proofs.passed_on.Tie as tie
 

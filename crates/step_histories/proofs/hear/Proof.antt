@@ -1,29 +1,23 @@
 -- `step_histories::hear` meets its contract: before leg j the first j lines have their histories. Assumes nothing.
-use Prim.Native.Nat.{_-_, _≤_, _<_}
-use mathlib.Core.Path.{_≡_, refl, ap, _∙_}
-use mathlib.Core.List.{List, []}
-use native.Mathlib.Omega.{arith}
+use Rattle.whole.specs.Plain.{_-_, _≤_, _<_, _≡_, refl, ap, _∙_, List, [], length, getD, arith, Words}
 use native.Mathlib.Numerals.{add-one}
 use borrow.Author.Needs.{needs}
-use lib.IntN.{ℤ}
-use lib.ListN.{length, getD}
-use Rattle.whole.specs.Lists.{Words}
 use Rattle.whole.specs.Int.{read64}
 use Rattle.step_legs.specs.Wires.{wireIn, wireAt}
-use Rattle.step_histories.specs.Heard.{historyOf, heardLine}
-use Rattle.step_histories.specs.Lines.{writtenTo, to-length, to-here, to-next, to-all, to-wires}
+use Rattle.step_legs.specs.Written.{writtenTo, to-length, to-here, to-next, to-all, wires-same}
+use Rattle.step_histories.specs.Heard.{heardLine, to-heard}
 use Rattle.step_histories.proofs.hear.Statement.{statement}
 use Rattle.step_histories.proofs.hear.Tie as tie
 
 abbrev Inv-loop : tie.InvT-loop
-Inv-loop plan legs₀ records froms tos k j₀ legs j = (j ≤ length legs₀) × (legs ≡ writtenTo (λ l. historyOf plan records froms tos k (wireIn l)) j legs₀)
+Inv-loop plan legs₀ records froms tos k j₀ legs j = (j ≤ length legs₀) × (legs ≡ writtenTo (heardLine plan records froms tos k) j legs₀)
 
 abbrev μ-loop : tie.MeasureT-loop
 μ-loop plan legs₀ records froms tos k j₀ legs j = length legs₀ - j
 
--- a line's history
-abbrev h-of : tie.Start Inv-loop μ-loop → Words → ℤ
-h-of s l = historyOf (s .args .plan .now) (s .args .records .now) (s .args .froms .now) (s .args .tos .now) (s .args .k) (wireIn l)
+-- a line with its history
+abbrev h-of : tie.Start Inv-loop μ-loop → Words → Words
+h-of s = heardLine (s .args .plan .now) (s .args .records .now) (s .args .froms .now) (s .args .tos .now) (s .args .k)
 
 there : (c : tie.In-loop Inv-loop μ-loop) → c .before .loop .j < length (c .before .before .args .legs .now)
 there c = let t = c .before in omega (arith, ap length (t .loop .inv .1), to-length (h-of (t .before)) (t .loop .j) (t .before .args .legs .now))
@@ -42,7 +36,7 @@ leg-at-requires : tie.Need-leg-at-requires Inv-loop μ-loop
 leg-at-requires c κs =
     let t = c .before .before in
     let s = t .before in
-    rw (t .loop .inv .1) (to-wires (h-of s) (t .loop .j) (s .pre .wires), rw (to-length (h-of s) (t .loop .j) (s .args .legs .now)) (there (c .before)))
+    rw (t .loop .inv .1) (wires-same (to-heard _ _ _ _ _ (s .args .legs .now) (t .loop .j)) (s .pre .wires), rw (to-length (h-of s) (t .loop .j) (s .args .legs .now)) (there (c .before)))
 
 history-requires : tie.Need-history-requires Inv-loop μ-loop
 history-requires c κs =
@@ -55,6 +49,7 @@ put-word-requires : tie.Need-put-word-requires Inv-loop μ-loop
 put-word-requires c κs = search needs
 
 loop-again : tie.Need-loop-again Inv-loop μ-loop
+unfolding heardLine
 loop-again c =
     let f = c .before .before .before in
     let t = f .before .before .before .before in
@@ -67,7 +62,6 @@ same-length : tie.Need-same-length Inv-loop μ-loop
 same-length c = let t = c .before in ap length (t .loop .inv .1) ∙ to-length (h-of (t .before)) (t .loop .j) (t .before .args .legs .now)
 
 returns : tie.Need-returns Inv-loop μ-loop
-unfolding heardLine
 returns c =
     let t = c .before in
     let legs = t .before .args .legs .now in

@@ -1,13 +1,9 @@
 -- `step_histories::held` meets its contract. Assumes nothing.
-use mathlib.Core.Path.{_≡_}
-use native.Mathlib.Omega.{arith}
+use Rattle.whole.specs.Plain.{_≡_, ℤ, negℤ, _-ℤ_, +ℤ-idl, eq-eqb, ne-eqb, arith, z, word}
 use borrow.Author.Needs.{needs}
-use borrow.Author.Tests.{eq-eqb, ne-eqb}
 use mir.Syntax.{w64}
 use mir.Val.{SFits}
 use mir.Facts.{toZ-ofZ}
-use lib.IntN.{ℤ, negℤ, _-ℤ_, +ℤ-idl}
-use Rattle.whole.specs.Lists.{z, word}
 use Rattle.whole.specs.Int.{abs-neg, fits64}
 use Rattle.paper.specs.Records as Records
 use Rattle.step_own.specs.Ends.{facing}

@@ -1,7 +1,6 @@
 -- `step_histories::history` meets its contract. Assumes nothing.
-use mathlib.Core.Path.{ap, _∙_}
+use Rattle.whole.specs.Plain.{ap, _∙_, eq-eqb, ne-eqb}
 use borrow.Author.Needs.{needs}
-use borrow.Author.Tests.{eq-eqb, ne-eqb}
 use Rattle.whole.specs.Int.{read64}
 use Rattle.plan_rows.specs.declared.Row.{Row}
 use Rattle.step_histories.specs.Heard.{sentBy, historyOf}

@@ -1,5 +1,5 @@
 -- `step_histories::side` meets its contract. Assumes nothing.
-use borrow.Author.Tests.{eq-eqb, ne-eqb}
+use Rattle.whole.specs.Plain.{eq-eqb, ne-eqb}
 use Rattle.step_histories.specs.Heard.{sideOf}
 use Rattle.step_histories.proofs.side.Statement.{statement}
 use Rattle.step_histories.proofs.side.Tie as tie

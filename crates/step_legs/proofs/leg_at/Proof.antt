@@ -1,5 +1,5 @@
 -- `step_legs::leg_at` meets its contract: the first five words are numbers. Assumes nothing.
-use native.Mathlib.Omega.{arith}
+use Rattle.whole.specs.Plain.{arith}
 use borrow.Author.Needs.{needs}
 use Rattle.whole.specs.Index.{index}
 use Rattle.step_legs.proofs.leg_at.Statement.{statement}

@@ -1,7 +1,5 @@
 -- `step_matrix::clear` meets its contract: the first p lines of the block are zeros. Assumes nothing.
-use Prim.Native.Nat.{_-_, _≤_}
-use mathlib.Core.Path.{_≡_}
-use native.Mathlib.Omega.{arith}
+use Rattle.whole.specs.Plain.{_-_, _≤_, _≡_, arith}
 use lib.Ieee.{ofBits}
 use Rattle.step_matrix.specs.Cleared.{Cleared, cleared-none, cleared-more}
 use Rattle.step_matrix.proofs.clear.Statement.{statement}

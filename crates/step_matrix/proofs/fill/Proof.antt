@@ -1,8 +1,6 @@
 -- `step_matrix::fill` meets its contract: the block of the first j legs. Assumes nothing.
-use Prim.Native.Nat.{_-_, _≤_}
-use native.Mathlib.Omega.{arith}
+use Rattle.whole.specs.Plain.{_-_, _≤_, length, take, arith}
 use borrow.Author.Needs.{needs}
-use lib.ListN.{length, take}
 use mir.Syntax.{w64}
 use mir.Val.{SFits}
 use mir.Facts.{toZ-ofZ}

@@ -1,6 +1,6 @@
 -- `step_matrix::join` meets its contract. Assumes nothing.
 use borrow.Author.Needs.{needs}
-use borrow.Author.Tests.{lt-ltb, le-ltb}
+use Rattle.whole.specs.Plain.{lt-ltb, le-ltb}
 use Rattle.step_matrix.specs.Joined.{joined}
 use Rattle.step_matrix.proofs.join.Statement.{statement}
 use Rattle.step_matrix.proofs.join.Tie as tie

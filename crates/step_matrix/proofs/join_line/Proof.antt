@@ -1,7 +1,6 @@
 -- `step_matrix::join_line` meets its contract. Assumes nothing.
-use mathlib.Core.Logic.{⊎-elim}
+use Rattle.whole.specs.Plain.{⊎-elim, lt-ltb, le-ltb}
 use borrow.Author.Needs.{needs}
-use borrow.Author.Tests.{lt-ltb, le-ltb}
 use Rattle.step_matrix.specs.Joined.{fallen, lineJoined}
 use Rattle.step_matrix.proofs.join_line.Statement.{statement}
 use Rattle.step_matrix.proofs.join_line.Tie as tie

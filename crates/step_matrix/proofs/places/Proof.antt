@@ -1,8 +1,5 @@
 -- `step_matrix::places` meets its contract: the first i free nodes have their places. Assumes nothing.
-use Prim.Native.Nat.{_-_, _≤_, _<_}
-use mathlib.Core.Path.{_≡_}
-use native.Mathlib.Omega.{arith}
-use lib.ListN.{length, getD}
+use Rattle.whole.specs.Plain.{_-_, _≤_, _<_, _≡_, length, getD, arith}
 use Rattle.step_matrix.specs.Placed.{Placed, placed-none, placed-more}
 use Rattle.step_matrix.proofs.places.Statement.{statement}
 use Rattle.step_matrix.proofs.places.Tie as tie

@@ -1,5 +1,4 @@
 -- `step_prepare::prepare` meets its contract: each part gives what the next asks. Assumes nothing.
-use native.Mathlib.Omega.{arith}
 use borrow.Author.Needs.{needs}
 use Rattle.step_conduct.specs.Paper.{rated}
 use Rattle.step_factors.specs.Blocks.{renewed-none}

@@ -1,16 +1,9 @@
 -- `step_solve::draws` meets its contract: the sums over the first j legs. Assumes nothing.
-use Prim.Native.Nat.{ℕ, _+_, _-_, _≤_, _<_}
-use mathlib.Core.Path.{_≡_}
-use mathlib.Core.List.{List}
-use native.Mathlib.Omega.{arith}
-use borrow.Author.Needs.{needs}
+use Rattle.whole.specs.Plain.{ℕ, _+_, _-_, _≤_, _<_, _≡_, List, _+ℤ_, set, length, take, take-length, arith, Words}
+use Rattle.whole.specs.Plain.{word}
 use mir.Facts.{toZ-ofZ}
-use lib.IntN.{_+ℤ_}
-use lib.ListN.{set, length, take}
-use lib.Seq.{take-length}
 use mir.Syntax.{w64}
 use mir.Val.{SFits}
-use Rattle.whole.specs.Lists.{Words, word}
 use Rattle.whole.specs.Size.{fits}
 use Rattle.step_legs.specs.Wires.{wireAt, legAt, legsIn, Sized, carries}
 use Rattle.step_legs.specs.Leaving.{legs-length}

@@ -1,10 +1,5 @@
 -- `step_solve::put_all` meets its contract: the first i are within the range. Assumes nothing.
-use Prim.Native.Nat.{_-_, _≤_}
-use mathlib.Core.Path.{_≡_, sym, _∙_}
-use native.Mathlib.Omega.{arith}
-use borrow.Author.Needs.{needs}
-use borrow.Author.Tests.{not-true, not-false}
-use lib.ListN.{length}
+use Rattle.whole.specs.Plain.{_-_, _≤_, _≡_, sym, _∙_, length, not-true, not-false, arith}
 use Rattle.step_solve.specs.Settling.{SettledTo, settled-none, settled-more, settled-out, settled-all}
 use Rattle.step_solve.proofs.put_all.Statement.{statement}
 use Rattle.step_solve.proofs.put_all.Tie as tie

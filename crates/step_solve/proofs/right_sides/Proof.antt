@@ -1,8 +1,5 @@
 -- `step_solve::right_sides` meets its contract: the first i. Assumes nothing.
-use Prim.Native.Nat.{_-_, _≤_, _<_}
-use mathlib.Core.Path.{_≡_, refl}
-use native.Mathlib.Omega.{arith}
-use lib.ListN.{getD, length}
+use Rattle.whole.specs.Plain.{_-_, _≤_, _<_, _≡_, refl, getD, length, arith}
 use mir.Facts.{toZ-ofZ}
 use Rattle.step_solve.specs.Rights.{Rights, rights-more}
 use Rattle.step_solve.proofs.right_sides.Statement.{statement}

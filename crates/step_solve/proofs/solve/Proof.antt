@@ -1,10 +1,6 @@
 -- `step_solve::solve` meets its contract: the factors serve these right sides. Assumes nothing.
-use Prim.Native.Nat.{_≤_}
-use mathlib.Core.Path.{_≡_, refl, ap, _∙_}
-use native.Mathlib.Omega.{arith}
+use Rattle.whole.specs.Plain.{_≤_, refl, ap, _∙_, length, arith, word}
 use borrow.Author.Needs.{needs}
-use lib.ListN.{length}
-use Rattle.whole.specs.Lists.{word}
 use Rattle.step_legs.specs.Wires.{legsIn}
 use Rattle.step_factors.specs.Proposed.{kept-proposed}
 use Rattle.step_solve.specs.Rights.{near, right-at, substituted-length}

@@ -1,14 +1,8 @@
 -- `step_sources::drive` meets its contract: the sources that are left lead to the answer, and those passed have left room. Assumes nothing.
-use Prim.Native.Nat.{ℕ, _+_, _-_, _≤_, _<_}
-use mathlib.Core.Path.{_≡_}
-use mathlib.Core.Bool.{Bool}
-use mathlib.Core.List.{List, []}
-use native.Mathlib.Omega.{arith}
-use native.Mathlib.Nat.{le-trans}
-use lib.ListN.{length, getD, drop}
-use Rattle.whole.specs.Lists.{Words, fold}
+use Rattle.whole.specs.Plain.{ℕ, _+_, _-_, _≤_, _<_, _≡_, Bool, List, [], length, getD, drop, le-trans, arith, Words}
+use Rattle.whole.specs.Plain.{fold}
 use Rattle.whole.specs.Folds.{fold-next, fold-end}
-use Rattle.paper.specs.Rows.{Row, isVS, isIS}
+use Rattle.paper.specs.Rows.{Row, isFixing, isIS}
 use Rattle.laws_volts.specs.Sources.{ramp-size}
 use Rattle.step_sources.specs.Table.{Sources, Room, give, given}
 use Rattle.step_sources.specs.Given.{none-room, room-next}
@@ -21,7 +15,7 @@ pub record After (p : Row → Bool) (k : ℕ) (sources : List Row) (j : ℕ) (w 
   pub room : Room j w
 
 abbrev Inv-loop : tie.InvT-loop
-Inv-loop sources k v₀ inject₀ j₀ v inject j = (j ≤ length sources) × After isVS k sources j v × After isIS k sources j inject
+Inv-loop sources k v₀ inject₀ j₀ v inject j = (j ≤ length sources) × After isFixing k sources j v × After isIS k sources j inject
 
 abbrev μ-loop : tie.MeasureT-loop
 μ-loop sources k v₀ inject₀ j₀ v inject j = length sources - j
@@ -46,13 +40,13 @@ loop-again c =
     let t = c .before .before .before .before in
     let s = t .before in
     let l : t .loop .j < length (s .args .sources .now) = omega arith in
-    (omega arith, more isVS _ _ (s .pre .0) _ l (t .loop .inv .1) (c .drive-one .ensures .0), more isIS _ _ (s .pre .0) _ l (t .loop .inv .2) (c .drive-one .ensures .1))
+    (omega arith, more isFixing _ _ (s .pre .0) _ l (t .loop .inv .1) (c .drive-one .ensures .0), more isIS _ _ (s .pre .0) _ l (t .loop .inv .2) (c .drive-one .ensures .1))
 
 returns : tie.Need-returns Inv-loop μ-loop
 returns c =
     let t = c .before in
     let l : length (t .before .args .sources .now) ≤ t .loop .j = omega arith in (
-      fold-end (give isVS _) _ _ _ _ l (t .loop .inv .1 .left),
+      fold-end (give isFixing _) _ _ _ _ l (t .loop .inv .1 .left),
       (fold-end (give isIS _) _ _ _ _ l (t .loop .inv .2 .left), record { end = λ n. omega (arith, t .loop .inv .2 .room .end n, t .before .pre .0 .few) }),
     )
 

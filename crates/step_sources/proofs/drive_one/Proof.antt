@@ -1,22 +1,14 @@
 -- `step_sources::drive_one` meets its contract: one answer for each kind of source. Assumes nothing.
-use Prim.Native.Nat.{ℕ, _≤_, _<_}
-use mathlib.Core.Path.{_≡_, sym, ap, _∙_}
-use mathlib.Core.Bool.{Bool, true}
-use mathlib.Core.List.{[]}
-use native.Mathlib.Omega.{arith}
-use native.Mathlib.Nat.{le-trans}
+use Rattle.whole.specs.Plain.{ℕ, _≤_, _<_, _≡_, sym, ap, _∙_, Bool, true, [], eqb, ℤ, natAbs, _+ℤ_, getD, set, ne-eqb}
+use Rattle.whole.specs.Plain.{le-trans, arith, Words, word, nat}
 use borrow.Author.Needs.{needs}
-use borrow.Author.Tests.{ne-eqb}
-use lib.Dec.{eqb}
-use lib.ListN.{getD, set}
-use lib.IntN.{ℤ, natAbs, _+ℤ_}
 use mir.Syntax.{w64}
 use mir.Val.{SFits, toZ, ofZ}
 use mir.Facts.{toZ-ofZ}
-use Rattle.whole.specs.Lists.{Words, word, nat}
 use Rattle.whole.specs.Int.{read64, fits64}
 use Rattle.paper.specs.Limits as Limits
-use Rattle.paper.specs.Rows.{Row, kind, isVS, isIS, at, peak}
+use Rattle.paper.specs.Rows.{Row, kind, isFixing, isIS, at, peak}
+use Rattle.paper.specs.Classes.{fixing-kinds}
 use Rattle.paper.specs.Sources.{ramp}
 use Rattle.facts.specs.Sound.{SourceSound}
 use Rattle.laws_volts.specs.Sources.{ramp-size}
@@ -80,18 +72,18 @@ returns : tie.Need-returns
 returns c =
     let t = c .before .before .before in
     let e = has t 6 (c .before .before .match .keys1) in
-    (c .add .ensures ∙ gave t isVS _ (e 6), give-not isIS _ _ _ (e 7))
+    (c .add .ensures ∙ gave t isFixing _ (sym (fixing-kinds _) ∙ e 6), give-not isIS _ _ _ (e 7))
 
 returns-2 : tie.Need-returns-2
 returns-2 c =
     let t = c .before .before .before in
     let e = has t 7 (c .before .before .match .keys2) in
-    (give-not isVS _ _ _ (e 6), c .add2 .ensures ∙ gave t isIS _ (e 7))
+    (give-not isFixing _ _ _ (sym (fixing-kinds _) ∙ e 6), c .add2 .ensures ∙ gave t isIS _ (e 7))
 
 returns-3 : tie.Need-returns-3
 returns-3 c =
     let t = c .before in
-    (give-not isVS _ _ _ (ne-eqb _ 6 (λ e. c .match .rest .0 .1 (kind-is t ∙ e))), give-not isIS _ _ _ (ne-eqb _ 7 (λ e. c .match .rest .1 (kind-is t ∙ e))))
+    (give-not isFixing _ _ _ (sym (fixing-kinds _) ∙ ne-eqb _ 6 (λ e. c .match .rest .0 .1 (kind-is t ∙ e))), give-not isIS _ _ _ (ne-eqb _ 7 (λ e. c .match .rest .1 (kind-is t ∙ e))))
 
 add-requires : tie.Need-add-requires
 add-requires c κs = fit (c .before .before) (c .before .before .before .before .before .pre .1 .0)

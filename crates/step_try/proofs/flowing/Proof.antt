@@ -1,10 +1,7 @@
 -- `step_try::flowing` meets its contract. Assumes nothing.
-use Prim.Native.Nat.{ℕ, _≤_}
-use mathlib.Core.Path.{_≡_, sym, ap, _∙_}
-use native.Mathlib.Omega.{arith}
+use Rattle.whole.specs.Plain.{_≡_, sym, ap, _∙_, arith, word, nat}
 use borrow.Author.Needs.{needs}
 use mir.Facts.{toZ-ofZ}
-use Rattle.whole.specs.Lists.{word, nat}
 use Rattle.whole.specs.Size.{fits}
 use Rattle.paper.specs.Solve.{unbalanced}
 use Rattle.step_legs.specs.Wires.{legsIn, wiresIn}

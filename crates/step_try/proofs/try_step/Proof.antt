@@ -1,16 +1,14 @@
 -- `step_try::try_step` meets its contract: each part gives what the next asks, and the whole is the paper's step. Assumes nothing.
-use Prim.Native.Nat.{ℕ}
-use mathlib.Core.Path.{_≡_, refl}
-use native.Mathlib.Omega.{arith}
+use Rattle.whole.specs.Plain.{ℕ, _≡_, refl, List, arith, Words}
 use borrow.Author.Needs.{needs}
-use Rattle.paper.specs.declared.Advance.{Advance}
 use Rattle.paper.specs.declared.Advance.the-variants.{Took, Range}
-use mathlib.Core.List.{List}
-use Rattle.whole.specs.Lists.{Words}
 use Rattle.paper.specs.Areas.{Net}
 use Rattle.step_own.specs.Laid.{Laid}
+use Rattle.step_legs.specs.Written.{same-then}
+use Rattle.step_histories.specs.Heard.{all-heard}
 use Rattle.step_histories.specs.Laws.{hears}
-use Rattle.step_try.specs.Trying.{Trying, all-sized, all-long, all-free, tries-range, tries-flow, same-then, heard-from, still-from, inject-from, drives, volts-from, serves-from, heard-same, flown-same, found-volts}
+use Rattle.step_flow.specs.Flown.{flown-same}
+use Rattle.step_try.specs.Trying.{Trying, all-sized, all-long, all-free, tries-range, tries-flow, heard-from, still-from, inject-from, drives, volts-from, serves-from, found-volts}
 use Rattle.step_try.proofs.try_step.Statement.{statement}
 use Rattle.step_try.proofs.try_step.Tie as tie
 
@@ -60,7 +58,7 @@ returns c =
     let s = c .before in
     let d = driven s in (
       λ N a t. record { tried = tries-range t (laid (heard d) t) (d .drive .last .1 .1 .1 .0) (inject-from t (d .drive .ensures .1 .0)) (still-from t (d .drive .ensures .0)) (s .solve .ensures) (c .if1 .taken); flowing = λ e. absurd (not-took e) },
-      heard-same _ _ _ _ _ _ (heard d .hear .ensures),
+      all-heard _ _ _ _ _ _ (heard d .hear .ensures),
     )
 
 -- ---- what flows
@@ -92,7 +90,7 @@ returns-2 c =
         tried = tries-flow t (laid (heard d) t) (d .drive .last .1 .1 .1 .0) (inject-from t (d .drive .ensures .1 .0)) (still-from t (d .drive .ensures .0)) (s .solve .ensures) (e .if1 .left) (f .flowing .ensures .0);
         flowing = λ o. record { legs = after (heard d); laid = laid (heard d) t; flows = f .flowing .ensures .1 };
       },
-      same-then (heard-same _ _ _ _ _ _ (heard d .hear .ensures)) (flown-same _ _ (f .flowing .ensures .1)),
+      same-then (all-heard _ _ _ _ _ _ (heard d .hear .ensures)) (flown-same _ _ (f .flowing .ensures .1)),
     )
 
 pub try-step-spec : {M : Type 1} → statement M

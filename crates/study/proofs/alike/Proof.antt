@@ -1,5 +1,4 @@
-use mathlib.Core.Path.{_≡_, refl}
-use mathlib.Core.Bool.{Bool, true, false, not, _&&_, _||_, Bool·beq}
+use Rattle.whole.specs.Plain.{_≡_, refl, Bool, true, false, not, _&&_, _||_, Bool·beq}
 use Rattle.study.proofs.alike.Statement.{statement}
 use Rattle.study.proofs.alike.Tie as tie
 

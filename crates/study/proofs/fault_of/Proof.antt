@@ -1,7 +1,4 @@
-use mathlib.Core.Path.{_≡_, sym, _∙_}
-use mathlib.Core.Bool.{true, false, Bool·beq}
-use borrow.Author.Tests.{not-true, not-false}
-use Rattle.paper.specs.Rows.{isStudy}
+use Rattle.whole.specs.Plain.{_≡_, sym, _∙_, true, false, not-true, not-false}
 use Rattle.study.specs.States.{faultSeen}
 use Rattle.study.proofs.fault_of.Statement.{statement}
 use Rattle.study.proofs.fault_of.Tie as tie

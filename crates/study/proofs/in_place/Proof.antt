@@ -1,8 +1,5 @@
 use borrow.Author.Needs.{needs}
-use mathlib.Core.Path.{_∙_, ap}
-use mathlib.Core.Bool.{Bool·beq}
-use Prim.Native.Nat.{ℕ}
-use lib.Dec.{eqb}
+use Rattle.whole.specs.Plain.{ℕ, _∙_, ap, Bool·beq, eqb}
 use Rattle.study.proofs.in_place.Statement.{statement}
 use Rattle.study.proofs.in_place.Tie as tie
 

@@ -1,9 +1,5 @@
-use mathlib.Core.Path.{_≡_, refl, sym, _∙_, ap}
-use Prim.Native.Nat.{ℕ, _≤_, _-_, _+_}
-use native.Mathlib.Omega.{arith}
-use lib.IntN.{ℤ, pos}
-use lib.ListN.{length, take, getD, set}
-use lib.Seq.{sets, length-sets, take-all}
+use Rattle.whole.specs.Plain.{ℕ, _≤_, _-_, _+_, _≡_, refl, sym, _∙_, ap, ℤ, pos, length, take, getD, set, sets}
+use Rattle.whole.specs.Plain.{length-sets, take-all, arith}
 use Rattle.whole.specs.Int.{read64}
 use Rattle.study.specs.Laid.{sets-more}
 use Rattle.study.proofs.lay.Statement.{statement}

@@ -1,11 +1,6 @@
 use borrow.Author.Needs.{needs}
-use Rattle.whole.specs.Lists.{Words}
+use Rattle.whole.specs.Plain.{_+_, _<_, refl, sym, _∙_, subst, eqb, length, arith, Words}
 use Rattle.faults.specs.declared.Seen.{Seen}
-use mathlib.Core.Path.{_≡_, refl, sym, _∙_, ap, subst}
-use Prim.Native.Nat.{ℕ, _+_, _≤_, _<_}
-use native.Mathlib.Omega.{arith}
-use lib.ListN.{length}
-use lib.Dec.{eqb}
 use Rattle.faults.specs.Seen.{seenAfter}
 use Rattle.study.specs.States.{State}
 use Rattle.study.specs.Steps.{Right, no-fault, known, halted, has-room, line-in, line-on, advanced, stopped-next, further-next}

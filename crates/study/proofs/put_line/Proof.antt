@@ -1,7 +1,5 @@
 use borrow.Author.Needs.{needs}
-use mathlib.Core.Path.{sym, _∙_}
-use native.Mathlib.Omega.{arith}
-use borrow.Author.Tests.{eq-eqb, ne-eqb}
+use Rattle.whole.specs.Plain.{sym, _∙_, eq-eqb, ne-eqb}
 use Rattle.study.specs.Laid.{putLine}
 use Rattle.study.proofs.put_line.Statement.{statement}
 use Rattle.study.proofs.put_line.Tie as tie

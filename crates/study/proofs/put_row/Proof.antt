@@ -1,11 +1,6 @@
 use borrow.Author.Needs.{needs}
-use mathlib.Core.Path.{_≡_, sym, _∙_, ap}
-use Prim.Native.Nat.{_+_}
-use native.Mathlib.Omega.{arith}
+use Rattle.whole.specs.Plain.{_+_, _∙_, ap, ℤ, pos, set, arith}
 use Rattle.whole.specs.Reads.{read-small}
-use lib.IntN.{ℤ, pos}
-use lib.ListN.{set, length-set}
-use lib.Seq.{sets, length-sets}
 use Rattle.study.specs.Laid.{putRow}
 use Rattle.study.proofs.put_row.Statement.{statement}
 use Rattle.study.proofs.put_row.Tie as tie

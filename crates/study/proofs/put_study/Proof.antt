@@ -1,5 +1,4 @@
-use lib.IntN.{pos}
-use lib.ListN.{getD}
+use Rattle.whole.specs.Plain.{pos, getD}
 use Rattle.whole.specs.Int.{read64}
 use Rattle.study.specs.Laid.{putStudy}
 use borrow.Author.Needs.{needs}

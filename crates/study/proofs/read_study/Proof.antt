@@ -1,10 +1,5 @@
-use mathlib.Core.Path.{_≡_, refl, sym, _∙_, ap, subst}
-use mathlib.Core.Bool.{true, false, _&&_}
-use Prim.Native.Nat.{ℕ, _<_}
-use borrow.Author.Tests.{eqb-true, ltb-true}
-use lib.Dec.{eqb, ltb}
-use lib.IntN.{pos}
-use lib.ListN.{length, length-replicate}
+use Rattle.whole.specs.Plain.{_≡_, sym, _∙_, ap, subst, true, _&&_, eqb, ltb, pos, length, length-replicate, eqb-true}
+use Rattle.whole.specs.Plain.{ltb-true}
 use Rattle.whole.specs.Folds.{and-left, and-right}
 use Rattle.paper.specs.Reading.{linesOf}
 use Rattle.faults.specs.declared.Seen.{Seen}

@@ -1,16 +1,9 @@
 -- The invariant: the sign gathered so far, and the words that are left, say together what all words say.
-use Prim.Native.Nat.{ℕ, _≤_, _-_, _+_, _^_}
-use mathlib.Core.Path.{_≡_, refl, sym, ap, _∙_}
-use mathlib.Core.Bool.{Bool, _&&_, and-assoc, and-true}
-use native.Mathlib.Omega.{arith}
-use lib.Dec.{ltb}
-use lib.ListN.{length, getD, drop}
-use lib.IntN.{ℤ, pos, natAbs}
-use lib.Signed.{leZ}
+use Rattle.whole.specs.Plain.{ℕ, _≤_, _-_, _+_, _^_, _≡_, refl, sym, ap, _∙_, Bool, _&&_, and-assoc, and-true}
+use Rattle.whole.specs.Plain.{ltb, ℤ, pos, natAbs, leZ, length, getD, drop, arith, every, upTo}
 use mir.Syntax.{w64}
 use mir.Val.{toZ, ofZ}
 use mir.Facts.{toZ-ofZ}
-use Rattle.whole.specs.Lists.{every, upTo}
 use Rattle.whole.specs.Int.{read64}
 use Rattle.whole.specs.Ranges.{room-sign, sign-bit, or-sign}
 use Rattle.whole.specs.Folds.{every-more, every-done}

@@ -1,14 +1,8 @@
 -- The invariant: the bits gathered so far, and the words that are left, say together what all words say.
-use Prim.Native.Nat.{ℕ, _≤_, _-_, _+_}
-use mathlib.Core.Path.{_≡_, refl, sym, ap, _∙_}
-use mathlib.Core.Bool.{Bool, _&&_, and-assoc, and-true}
-use native.Mathlib.Omega.{arith}
-use lib.Dec.{eqb}
-use lib.ListN.{length, getD, drop}
-use lib.IntN.{pos}
+use Rattle.whole.specs.Plain.{_≤_, _-_, _+_, _≡_, refl, sym, ap, _∙_, Bool, _&&_, and-assoc, and-true, eqb, pos}
+use Rattle.whole.specs.Plain.{length, getD, drop, arith, every, upTo}
 use mir.Syntax.{w64}
 use mir.Val.{ofZ}
-use Rattle.whole.specs.Lists.{every, upTo}
 use Rattle.whole.specs.Ranges.{no-bit, or-zero}
 use Rattle.whole.specs.Folds.{every-more, every-done}
 use Rattle.whole.proofs.all_zero.Statement.{statement}

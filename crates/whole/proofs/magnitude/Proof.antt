@@ -1,10 +1,6 @@
 -- `whole::magnitude` meets its contract. Assumes nothing.
-use mathlib.Core.Path.{_≡_, subst}
-use mathlib.Core.Bool.{true, false}
+use Rattle.whole.specs.Plain.{_≡_, subst, true, false, ℤ, pos, ltZ, arith}
 use native.Mathlib.Numerals.{add-one}
-use native.Mathlib.Omega.{arith}
-use lib.IntN.{ℤ, pos}
-use lib.Signed.{ltZ}
 use mir.Facts.{toZ-ofZ}
 use Rattle.whole.proofs.Negated.{plus-fits, minus-fits, read, from-zero, below-zero}
 use borrow.Author.Needs.{needs}

@@ -1,5 +1,4 @@
-use native.Mathlib.Nat.{mod-lt}
-use native.Mathlib.Omega.{arith}
+use Rattle.whole.specs.Plain.{mod-lt, arith}
 use borrow.Author.Needs.{needs}
 use Rattle.whole.specs.Rounding.{nearest-down, nearest-up, quotient-half}
 use Rattle.whole.proofs.nearest_quotient.Statement.{statement}

@@ -1,5 +1,4 @@
-use mathlib.Core.Path.{_≡_, sym, subst}
-use lib.IntN.{_+ℤ_, _-ℤ_}
+use Rattle.whole.specs.Plain.{_≡_, sym, subst, _+ℤ_, _-ℤ_}
 use mir.Syntax.{w64}
 use mir.Val.{SFits}
 use mir.Facts.{toZ-ofZ}

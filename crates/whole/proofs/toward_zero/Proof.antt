@@ -1,4 +1,4 @@
-use lib.Signed.{quotZ}
+use Rattle.whole.specs.Plain.{quotZ}
 use mir.Syntax.{w64}
 use mir.Val.{SFits}
 use mir.Facts.{toZ-ofZ}

@@ -1,7 +1,5 @@
-use mathlib.Core.Path.{_∙_, ap}
+use Rattle.whole.specs.Plain.{_∙_, ap, pos, leZ}
 use borrow.Author.Needs.{needs}
-use lib.IntN.{pos}
-use lib.Signed.{leZ}
 use mir.Facts.{toZ-ofZ}
 use Rattle.whole.specs.Int.{read64}
 use Rattle.whole.specs.Ranges.{room-sign}

@@ -1,10 +1,5 @@
-use mathlib.Core.Path.{_≡_, refl, sym, _∙_, ap}
-use mathlib.Core.Bool.{Bool, true, false, _&&_}
-use Prim.Native.Nat.{_≤_, _-_, _+_}
-use native.Mathlib.Omega.{arith}
-use lib.ListN.{length, drop, getD}
-use borrow.Author.Tests.{not-true, not-false}
-use Rattle.whole.specs.Lists.{every, fold}
+use Rattle.whole.specs.Plain.{_≤_, _-_, _+_, _≡_, refl, sym, _∙_, ap, Bool, true, false, _&&_, length, drop, getD}
+use Rattle.whole.specs.Plain.{not-true, not-false, arith, every, fold}
 use Rattle.whole.specs.Folds.{every-more, every-done, fold-next, fold-end}
 use Rattle.paper.specs.Text.{digit}
 use Rattle.words.specs.Numbers.{heldEnd, held, cap-most, digits-bad, digits-good}

@@ -1,6 +1,4 @@
-use native.Mathlib.Omega.{arith}
-use Prim.Native.Nat.{ℕ}
-use mathlib.Core.Path.{_≡_, sym}
+use Rattle.whole.specs.Plain.{_≡_, sym, arith}
 use Rattle.words.specs.Words.{Other, only-R, only-L, only-LINE, only-C, only-SW, only-VS, only-IS, only-study, only-none}
 use Rattle.words.proofs.candidate.Statement.{statement}
 use Rattle.words.proofs.candidate.Tie as tie

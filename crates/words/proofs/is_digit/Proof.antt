@@ -1,4 +1,4 @@
-use mathlib.Core.Path.{refl}
+use Rattle.whole.specs.Plain.{refl}
 use Rattle.paper.specs.Text.{digit}
 use Rattle.words.proofs.is_digit.Statement.{statement}
 use Rattle.words.proofs.is_digit.Tie as tie

@@ -1,9 +1,4 @@
-use mathlib.Core.Path.{_≡_, refl, sym, _∙_, ap}
-use mathlib.Core.List.{List}
-use Prim.Native.Nat.{ℕ, _≤_, _<_, _-_, _+_}
-use native.Mathlib.Omega.{arith}
-use lib.ListN.{length, drop, getD}
-use Rattle.whole.specs.Lists.{sameBytes}
+use Rattle.whole.specs.Plain.{ℕ, _<_, _-_, _≡_, refl, sym, _∙_, ap, List, length, drop, getD, arith, sameBytes}
 use Rattle.words.specs.Words.{spelling, spelling-short, letter-at, same-other, same-here, same-next, same-done}
 use Rattle.words.proofs.is_word.Statement.{statement}
 use Rattle.words.proofs.is_word.Tie as tie

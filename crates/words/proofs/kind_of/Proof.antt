@@ -1,9 +1,6 @@
 use borrow.Author.Needs.{needs}
-use mathlib.Core.Path.{_≡_, sym, _∙_}
-use mathlib.Core.Bool.{true, false}
-use lib.ListN.{getD, length}
-use native.Mathlib.Omega.{arith}
-use Rattle.words.specs.Words.{spelling, kind-none, kind-past, kind-same, Only}
+use Rattle.whole.specs.Plain.{sym, _∙_, true, false}
+use Rattle.words.specs.Words.{kind-none, kind-past, kind-same}
 use Rattle.words.proofs.kind_of.Statement.{statement}
 use Rattle.words.proofs.kind_of.Tie as tie
 

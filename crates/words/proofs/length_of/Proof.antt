@@ -1,6 +1,4 @@
-use Prim.Native.Nat.{ℕ}
-use mathlib.Core.Path.{_≡_, refl}
-use lib.ListN.{length}
+use Rattle.whole.specs.Plain.{ℕ, _≡_, refl, length}
 use Rattle.paper.specs.Rows.{bytes, kinds}
 use Rattle.kinds.specs.Fields.{each}
 use Rattle.words.specs.Words.{spelling}

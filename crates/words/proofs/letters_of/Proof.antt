@@ -1,6 +1,4 @@
-use Prim.Native.Nat.{ℕ}
-use mathlib.Core.Path.{_≡_, refl}
-use mathlib.Core.List.{List, [], _∷_}
+use Rattle.whole.specs.Plain.{ℕ, _≡_, refl, List, [], _∷_}
 use Rattle.whole.specs.Tables.{table, entries}
 use Rattle.paper.specs.Rows.{bytes, kinds}
 use Rattle.kinds.specs.Fields.{the-last}

@@ -1,5 +1,5 @@
 use borrow.Author.Needs.{needs}
-use mathlib.Core.Path.{_∙_}
+use Rattle.whole.specs.Plain.{_∙_}
 use Rattle.words.specs.Numbers.{plain-none, plain-zero, plain-more}
 use Rattle.words.proofs.plain.Statement.{statement}
 use Rattle.words.proofs.plain.Tie as tie

@@ -1,9 +1,6 @@
 use borrow.Author.Needs.{needs}
-use mathlib.Core.Path.{sym}
-use lib.Dec.{leb}
-use native.Mathlib.Omega.{arith}
-use borrow.Author.Tests.{leb-true, lt-ltb, le-ltb}
-use Rattle.whole.specs.Folds.{and-left, and-right}
+use Rattle.whole.specs.Plain.{leb, leb-true, lt-ltb, le-ltb}
+use Rattle.whole.specs.Folds.{and-left}
 use Rattle.paper.specs.Text.{digit}
 use Rattle.words.specs.Numbers.{held, cap}
 use Rattle.words.proofs.push.Statement.{statement}

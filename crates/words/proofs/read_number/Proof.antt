@@ -1,14 +1,8 @@
 use borrow.Author.Needs.{needs}
-use Prim.Native.Nat.{ℕ, _≤_}
-use mathlib.Core.Path.{_≡_, sym, _∙_, ap}
-use mathlib.Core.Bool.{Bool, true, false, _&&_}
-use lib.Dec.{eqb}
-use lib.IntN.{ℤ}
-use lib.ListN.{getD}
+use Rattle.whole.specs.Plain.{_≤_, _≡_, sym, _∙_, ap, Bool, _&&_, eqb, ℤ, getD}
 use Rattle.whole.specs.Folds.{and-right}
-use Rattle.words.specs.declared.Digits.{Digits}
 use Rattle.words.specs.declared.Number.{Number}
-use Rattle.words.specs.Numbers.{heldEnd, plainOf, plain-most, asNumber, asNegative, with-minus, without-minus}
+use Rattle.words.specs.Numbers.{heldEnd, plain-most, asNumber, asNegative, with-minus, without-minus}
 use Rattle.words.proofs.Signs.{small, small-fits, negated-fits, negated-is, some-first}
 use Rattle.words.proofs.read_number.Statement.{statement}
 use Rattle.words.proofs.read_number.Tie as tie

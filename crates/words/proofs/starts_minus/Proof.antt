@@ -1,9 +1,5 @@
 use borrow.Author.Needs.{needs}
-use native.Mathlib.Omega.{arith}
-use lib.ListN.{getD, List·getD-eq-default}
-use lib.Dec.{eqb}
-use mathlib.Core.Path.{sym, ap, _∙_}
-use Prim.Native.Nat.{ℕ}
+use Rattle.whole.specs.Plain.{ℕ, sym, ap, eqb, List·getD-eq-default, arith}
 use Rattle.words.proofs.starts_minus.Statement.{statement}
 use Rattle.words.proofs.starts_minus.Tie as tie
 

@@ -1,5 +1,5 @@
 -- Each constant computes to the definitions' number. Assumes nothing.
-use mathlib.Core.Path.{refl}
+use Rattle.whole.specs.Plain.{refl}
 use Rattle.paper.proofs.limits.fields_agree.Statement.{statement}
 use Rattle.paper.proofs.limits.fields_agree.Tie as tie
 

@@ -1,0 +1,40 @@
+-- An area's sources as lines, by the places of their rows. Assumes nothing.
+use Rattle.whole.specs.Plain.{ℕ, _+_, _≡_, sym, ap, _∙_, Bool, true, List, [], _∷_, map, map-map, length, getD}
+use Rattle.whole.specs.Plain.{length-map, ext-getD, arith, Words, word, numbers, keep}
+use Rattle.whole.specs.Folds.{keep-map, getD-map, getD-numbers, length-numbers}
+use Rattle.paper.specs.Rows.{Row, isSource}
+use Rattle.paper.specs.Areas.{Net}
+use Rattle.facts.specs.Sound.{RowSound}
+use Rattle.facts.specs.Nets.{rowAt}
+use Rattle.plan_ends.specs.Own.{ownSource, ownSources, sourceLine, sourceLines}
+use Rattle.plan_lay.specs.Listed.{listed}
+
+abbrev pub sourceBy : Net → ℕ → ℕ → Bool
+sourceBy N a i = ownSource N a (rowAt N i)
+
+abbrev pub lineBy : Net → ℕ → Words
+lineBy N i = sourceLine (rowAt N i)
+
+abbrev pub sourcesBy : Net → ℕ → ℕ → List Words
+sourcesBy N a rows = listed (sourceBy N a) (lineBy N) 0 rows
+
+places : {A : Type 0} (l : List A) (d : A) → l ≡ map (λ i. getD l i d) (numbers 0 (length l))
+places l d =
+    ext-getD d l (map (λ i. getD l i d) (numbers 0 (length l))) (sym (length-map (numbers 0 (length l)) (λ i. getD l i d) ∙ length-numbers 0 (length l)))
+    (λ i h.
+    let e : 0 + i ≡ i = omega arith in
+    sym (getD-map (λ i. getD l i d) (numbers 0 (length l)) i 0 d (omega (arith, length-numbers 0 (length l))) ∙ ap (λ (j : ℕ). getD l j d) (getD-numbers 0 (length l) i 0 h ∙ e)))
+
+pub sources-are : (N : Net) (a : ℕ) → sourcesBy N a (length (N .rows)) ≡ sourceLines N a
+unfolding listed ownSources
+sources-are N a =
+    sym (ap (λ (l : List Row). map sourceLine (keep (ownSource N a) l)) (places (N .rows) [])
+    ∙ ap (map sourceLine) (keep-map (ownSource N a) (rowAt N) (numbers 0 (length (N .rows))))
+    ∙ map-map sourceLine (rowAt N) (keep (λ i. ownSource N a (rowAt N i)) (numbers 0 (length (N .rows)))))
+
+-- a source's first five words are its line
+pub source-line : {head : Row} {nodes : ℕ} (r : Row) → RowSound head nodes r → isSource r ≡ true → word r 0 ∷ word r 1 ∷ word r 2 ∷ word r 3 ∷ word r 4 ∷ [] ≡ sourceLine r
+unfolding sourceLine
+source-line r s e =
+    let p = s .source e in
+    rw (← s .kindIs, ← p .atIn .isNat, ← p .startIn .isNat, ← p .riseIn .isNat)
