@@ -1,16 +1,16 @@
 #!/usr/bin/env bash
 # Instructions per call of the compiled numbers layer, beside the same loops in C (bench/loops.c): the difference between a run that has a hundred calls of one function and
 # one that has none. C by clang, and on x86-64 by gcc too. A measurement and no test: no gate depends on it.
-#   LIBNUMBERS=PATH    this archive in place of target/staticlib/libnumbers_c.a, which is proved and built first
+#   LIBNUMBERS=PATH    this archive in place of target/staticlib/libnum_c.a, which is proved and built first
 set -eu
 cd "$(dirname "$0")/.."
 work=$(mktemp -d)
 trap 'rm -rf "$work"' EXIT
 . bench/count.sh
 
-archive=${LIBNUMBERS:-target/staticlib/libnumbers_c.a}
+archive=${LIBNUMBERS:-target/staticlib/libnum_c.a}
 if [ -z "${LIBNUMBERS:-}" ]; then
-    rt staticlib numbers_c >"$work/rt" 2>&1 || { tail -n 5 "$work/rt"; exit 1; }
+    rt staticlib num_c >"$work/rt" 2>&1 || { tail -n 5 "$work/rt"; exit 1; }
 fi
 compilers=clang
 [ "$(uname -m)" != x86_64 ] || compilers="clang gcc"

@@ -9,7 +9,7 @@ use Rattle.paper.specs.Areas.{Net, areaCount, branchNumber}
 use Rattle.paper.specs.Records.{countOf, wellFormed}
 use Rattle.paper.specs.Advance.{Memory, memory, Advanced, advanced, waitsFor, firstLate, ready, onNext, onNet, fits, advanceOf}
 use Rattle.paper.specs.One.{Advances}
-use Rattle.facts.specs.Nets.{netIn}
+use Rattle.laws_facts.specs.Nets.{netIn}
 
 -- ---- 13
 

@@ -7,8 +7,8 @@ use Rattle.paper.specs.Network.{isNetwork}
 use Rattle.paper.specs.Areas.{Net, areaCount, branchNumber}
 use Rattle.paper.specs.Records.{wellFormed}
 use Rattle.paper.specs.Advance.{Memory, memory}
-use Rattle.facts.specs.Nets.{netIn, area-count-most}
-use Rattle.rows.specs.Mapped.{Mapped}
+use Rattle.laws_facts.specs.Nets.{netIn, area-count-most}
+use Rattle.plan_record.specs.Mapped.{Mapped}
 use Rattle.plan_rows.specs.declared.Row.{Row}
 use Rattle.plan_rows.specs.declared.Totals.{Totals}
 use Rattle.plan_rows.specs.Planned.{rowIn, rowOf, Planned, totalsOf}

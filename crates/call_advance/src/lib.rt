@@ -6,7 +6,7 @@ ghost use Rattle.paper.specs.Advance as Paper;
 ghost use Rattle.paper.specs.Advance.{memory, advanced, onNext, onNet};
 ghost use Rattle.paper.specs.One.{Advances};
 ghost use Rattle.paper.specs.Lent.{lent, before, after};
-ghost use Rattle.facts.specs.Nets.{netIn};
+ghost use Rattle.laws_facts.specs.Nets.{netIn};
 ghost use Rattle.call_counts.specs.Counts.{Counted};
 ghost use Rattle.call_state.specs.Judged.{Long};
 ghost use Rattle.step_area.specs.Stepping.{Stepping};
@@ -141,10 +141,10 @@ pub fn advance(
 ) -> Advance
     ensures { λ r. ⌜ Advances (was network) area (before records froms tos) r (after records froms tos) ⌝ }
 {
-    if !lent::fits(network, records, froms, tos) {
+    if !call_lent::fits(network, records, froms, tos) {
         return Advance::Store;
     }
-    if !network::is_network(network) {
+    if !call_network::is_network(network) {
         return Advance::Network;
     }
     on_network(network, records, froms, tos, area)

@@ -8,8 +8,8 @@ use Rattle.paper.specs.Rows.{isLine, travel}
 use Rattle.paper.specs.Areas.{Net, areaOf, areaCount, step}
 use Rattle.paper.specs.Records.{near}
 use Rattle.paper.specs.Advance.{waitsFor, firstLate}
-use Rattle.facts.specs.Sound.{BranchSound, LineSound}
-use Rattle.facts.specs.Nets.{NetSound, rowAt, area-of}
+use Rattle.laws_facts.specs.Sound.{BranchSound, LineSound}
+use Rattle.laws_facts.specs.Nets.{NetSound, rowAt, area-of}
 use Rattle.plan_ends.specs.Own.{ownerOf}
 use Rattle.plan_rows.specs.declared.Row.{Row}
 use Rattle.plan_rows.specs.declared.Totals.{Totals}

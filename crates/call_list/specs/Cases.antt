@@ -9,8 +9,8 @@ use Rattle.paper.specs.Areas.{Net}
 use Rattle.paper.specs.Records.{wellFormed}
 use Rattle.paper.specs.Advance.{Memory, fits}
 use Rattle.paper.specs.Pieces.{Listed, listed, level, pieceOf, onLevel, listOf, Lists}
-use Rattle.facts.specs.Nets.{netIn}
-use Rattle.digits.specs.Puts.{puts-none, puts-first}
+use Rattle.laws_facts.specs.Nets.{netIn}
+use Rattle.list_digits.specs.Puts.{puts-none, puts-first}
 use Rattle.list_pieces.specs.Sofar.{Gives}
 
 -- a refused call writes nothing

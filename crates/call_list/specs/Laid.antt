@@ -7,7 +7,7 @@ use Rattle.paper.specs.Areas.{areaCount}
 use Rattle.paper.specs.Records.{wellFormed}
 use Rattle.paper.specs.Advance.{Memory}
 use Rattle.paper.specs.Pieces.{stepsTaken, level}
-use Rattle.facts.specs.Nets.{netIn}
+use Rattle.laws_facts.specs.Nets.{netIn}
 use Rattle.plan_rows.specs.declared.Totals.{Totals}
 use Rattle.plan_net.specs.Of.{Of}
 use Rattle.plan_own.specs.Owns.{Laid, Unprepared}

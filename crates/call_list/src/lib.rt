@@ -7,8 +7,8 @@ ghost use Rattle.paper.specs.Network.{isNetwork};
 ghost use Rattle.paper.specs.Records.{wellFormed};
 ghost use Rattle.paper.specs.Pieces.{stepsTaken, level, pieceOf, onLevel, Lists};
 ghost use Rattle.paper.specs.Lent.{lent, before, after};
-ghost use Rattle.facts.specs.Nets.{netIn};
-ghost use Rattle.rows.specs.Mapped.{Mapped};
+ghost use Rattle.laws_facts.specs.Nets.{netIn};
+ghost use Rattle.plan_record.specs.Mapped.{Mapped};
 ghost use Rattle.plan_net.specs.Of.{Of, OfSome};
 ghost use Rattle.call_state.specs.Judged.{Long};
 ghost use Rattle.list_round.specs.Round.{InStep};
@@ -115,7 +115,7 @@ pub fn list(
     ensures { λ r. ⌜ Lists (was network) (before records froms tos) (was out) (r .answer) (r .count) (is out)
         (after records froms tos) ⌝ }
 {
-    if !lent::fits(network, records, froms, tos) {
+    if !call_lent::fits(network, records, froms, tos) {
         return Piece {
             answer: Listing::Store,
             count: 0,
@@ -127,7 +127,7 @@ pub fn list(
             count: 0,
         };
     }
-    if !network::is_network(network) {
+    if !call_network::is_network(network) {
         return Piece {
             answer: Listing::Network,
             count: 0,

@@ -9,7 +9,7 @@ use Rattle.paper.specs.Rows.{isBranch, isLine, isL, isC, steps}
 use Rattle.paper.specs.Areas.{Net, areaCount}
 use Rattle.paper.specs.Records.{slotCount, Section, sections, sectionsEnd, endOf, ends, near, storeFormed, wellFormed}
 use Rattle.paper.specs.Apart.{counts-in, voltages-in, currents-in, toCurrents-in, histories-in, end-of, end-past, ends-at}
-use Rattle.facts.specs.Nets.{NetSound, rowAt, area-count-most}
+use Rattle.laws_facts.specs.Nets.{NetSound, rowAt, area-count-most}
 use Rattle.plan_rows.specs.declared.Totals.{Totals}
 use Rattle.plan_rows.specs.Planned.{Planned, rowIn}
 use Rattle.plan_net.specs.Of.{Of}

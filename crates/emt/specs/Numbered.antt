@@ -5,7 +5,7 @@ use Rattle.paper.specs.Reading.{readOf}
 use Rattle.paper.specs.Advance.{Memory, advanceOf}
 use Rattle.paper.specs.Resetting.{resetOf}
 use Rattle.paper.specs.Pieces.{listingNumber, listOf}
-use Rattle.answers.specs.Places.{placeOrCount}
+use Rattle.call_answers.specs.Places.{placeOrCount}
 
 pub record ReadsBy (text : List ℕ) (net : Words) (number line : ℕ) (after : Words) : Type 0 where
   pub answer : number ≡ readingNumber (readOf text net .answer)

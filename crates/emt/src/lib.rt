@@ -14,7 +14,7 @@ use paper::Resetting;
 pub fn read(text: &[u8], network: &mut [i64]) -> Reading
     ensures { λ r. ⌜ Reads (was text) (was network) r (is network) ⌝ }
 {
-    reading::read(text, network)
+    call_read::read(text, network)
 }
 
 // "the answer carries the line number (0 for 7 and 9)": it is written whatever the answer is.
@@ -22,16 +22,16 @@ pub fn read(text: &[u8], network: &mut [i64]) -> Reading
 pub extern "C" fn emt_read(text: &[u8], network: &mut [i64], line: &mut u64) -> u64
     ensures { λ r. ⌜ ReadsBy (was text) (was network) r (is line) (is network) ⌝ }
 {
-    let answer = reading::read(text, network);
-    *line = answers::reading_line(answer);
-    answers::reading_number(answer)
+    let answer = call_read::read(text, network);
+    *line = call_answers::reading_line(answer);
+    call_answers::reading_number(answer)
 }
 
 // "Resetting gives 9 or 8, or writes the records and both line stores all zero and answers 0."
 pub fn reset(network: &[i64], records: &mut [i64], froms: &mut [i64], tos: &mut [i64]) -> Resetting
     ensures { λ r. ⌜ Resets (was network) (before records froms tos) r (after records froms tos) ⌝ }
 {
-    resetting::reset(network, records, froms, tos)
+    call_reset::reset(network, records, froms, tos)
 }
 
 #[no_mangle]
@@ -43,7 +43,7 @@ pub extern "C" fn emt_reset(
 ) -> u64
     ensures { λ r. ⌜ ResetsBy (was network) (before records froms tos) r (after records froms tos) ⌝ }
 {
-    answers::resetting_number(resetting::reset(network, records, froms, tos))
+    call_answers::resetting_number(call_reset::reset(network, records, froms, tos))
 }
 
 // "Advancing: 9, 8, then 10 to 17"; "an accepted advance answers the area's new count". An area number of any size is answered.
@@ -72,8 +72,8 @@ pub extern "C" fn emt_advance(
     ensures { λ r. ⌜ AdvancesBy (was network) area (before records froms tos) r (is place) (after records froms tos) ⌝ }
 {
     let answer = call_advance::advance(network, records, froms, tos, area);
-    *place = answers::place_or_count(answer);
-    answers::advance_number(answer)
+    *place = call_answers::place_or_count(answer);
+    call_answers::advance_number(answer)
 }
 
 // Advances all areas in rising order, full step after full step, and lists each, until the next might not fit into the buffer, an area is refused or all
@@ -107,5 +107,5 @@ pub extern "C" fn emt_list(
     let piece = call_list::list(network, records, froms, tos, out);
     let answer = piece.answer;
     *written = piece.count as u64;
-    answers::listing_number(answer)
+    call_answers::listing_number(answer)
 }

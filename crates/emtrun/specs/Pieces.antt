@@ -9,7 +9,7 @@ use Rattle.paper.specs.Answers.{readingNumber, readingLine}
 use Rattle.paper.specs.Advance.{Memory}
 use Rattle.paper.specs.Listing.{shown, shownAll, lineOf}
 use Rattle.paper.specs.Pieces.{listOf, Lists}
-use Rattle.digits.specs.Decimal.{shown-most}
+use Rattle.list_digits.specs.Decimal.{shown-most}
 
 -- "a refused text gives `bad`, line, number"
 abbrev pub badLine : Reading → List ℕ

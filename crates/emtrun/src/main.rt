@@ -2,7 +2,7 @@
 ghost use Rattle.whole.specs.Plain.{_≤_, _≡_, length};
 ghost use Rattle.whole.specs.Loans.{was, is};
 ghost use Rattle.paper.specs.Lent.{before, after};
-ghost use Rattle.digits.specs.Puts.{Puts};
+ghost use Rattle.list_digits.specs.Puts.{Puts};
 ghost use Rattle.emtrun.specs.Pieces.{badLine, Goes};
 use libc::STDIN_FILENO;
 use libc::STDOUT_FILENO;
@@ -57,11 +57,11 @@ fn put_refusal(answer: Reading, out: &mut [u8]) -> usize
     requires { ⌜ 46 ≤ length (now out) ⌝ }
     ensures { λ r. ⌜ Puts (was out) 0 (badLine answer) r (is out) ⌝ }
 {
-    lines::put_bad(
+    list_ends::put_bad(
         out,
         0,
-        answers::reading_line(answer),
-        answers::reading_number(answer),
+        call_answers::reading_line(answer),
+        call_answers::reading_number(answer),
     )
 }
 

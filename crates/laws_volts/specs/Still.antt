@@ -13,7 +13,7 @@ use Rattle.paper.specs.Areas.{Net, areaOf, fixed, nodesOf}
 use Rattle.paper.specs.Sources.{source, held}
 use Rattle.paper.specs.Kept.{either}
 use Rattle.paper.specs.Solve.{stillOf}
-use Rattle.facts.specs.Nets.{NetSound, rowAt, held-is}
+use Rattle.laws_facts.specs.Nets.{NetSound, rowAt, held-is}
 use Rattle.laws_volts.specs.Range.{set-end}
 use Rattle.laws_volts.specs.Sources.{source-size}
 

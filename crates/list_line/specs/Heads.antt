@@ -5,8 +5,8 @@ use Rattle.whole.specs.Plain.{arith}
 use Rattle.paper.specs.Limits as Limits
 use Rattle.paper.specs.Text.{TAB}
 use Rattle.paper.specs.Listing.{shownNat}
-use Rattle.digits.specs.Puts.{Puts, puts-length}
-use Rattle.digits.specs.Decimal.{shown-least, shown-length}
+use Rattle.list_digits.specs.Puts.{Puts, puts-length}
+use Rattle.list_digits.specs.Decimal.{shown-least, shown-length}
 use Rattle.list_line.specs.declared.Head.{Head}
 use Rattle.list_line.specs.Quads.{quadBytes, fourOf, four-of, four-of-take, set-sets, sets-over}
 

@@ -2,7 +2,7 @@
 use Rattle.whole.specs.Plain.{ℕ, suc, _+_, _*_, _-_, _/_, _%_, _≤_, _<_, _≡_, refl, sym, ap, _∙_, List, [], _∷_, length}
 use Rattle.whole.specs.Plain.{getD, set, take, drop, length-take, sets, set-set, set-comm, drop-cons, take-add}
 use Rattle.whole.specs.Plain.{length-take-le, getD-take, div-div-eq-div-mul, arith}
-use Rattle.digits.specs.Puts.{sets-append}
+use Rattle.list_digits.specs.Puts.{sets-append}
 
 -- the first byte counts least
 unfoldable pub quadBytes : ℕ → List ℕ

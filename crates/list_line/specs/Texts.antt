@@ -2,7 +2,7 @@
 use Rattle.whole.specs.Plain.{ℕ, refl, List, [], _∷_, _++_, append-assoc, ℤ, pos}
 use Rattle.paper.specs.Text.{LF, TAB}
 use Rattle.paper.specs.Listing.{shownNat, shown, shownAll, lineOf}
-use Rattle.digits.specs.Puts.{Parts}
+use Rattle.list_digits.specs.Puts.{Parts}
 use Rattle.list_line.specs.declared.Head.{Head}
 use Rattle.list_line.specs.Heads.{textOf}
 

@@ -3,12 +3,12 @@
 ghost use Rattle.whole.specs.Plain.{_+_, _^_, _≤_, _<_, _≡_, [], _∷_, length, sets};
 ghost use Rattle.whole.specs.Loans.{was, is};
 ghost use Rattle.paper.specs.Limits as Limits;
-ghost use Rattle.digits.specs.Puts.{Puts};
-ghost use Rattle.digits.specs.Pairs.{allPairs};
+ghost use Rattle.list_digits.specs.Puts.{Puts};
+ghost use Rattle.list_digits.specs.Pairs.{allPairs};
 ghost use Rattle.list_line.specs.Quads.{quadBytes, fourOf};
 ghost use Rattle.list_line.specs.Heads.{textOf, Headed, Spelt};
 ghost use Rattle.list_line.specs.Texts.{endedText, startText, rowText, lineText};
-use digits::Pairs;
+use list_digits::Pairs;
 
 // ---- what all lines of a step begin with: their letter and the step, a tab behind each
 
@@ -53,7 +53,7 @@ pub fn spell(pairs: &Pairs, step: u64, text: &mut [u8]) -> usize
     ensures { λ r. ⌜ Spelt (is text) step r ⌝ }
 {
     text[1] = b'\t';
-    let next = numerals::put_natural_by(pairs, text, 2, step);
+    let next = list_numerals::put_natural_by(pairs, text, 2, step);
     text[next] = b'\t';
     next + 1
 }
@@ -94,7 +94,7 @@ fn put_start(pairs: &Pairs, head: Head, number: u64, out: &mut [u8], at: usize) 
     ensures { λ r. ⌜ Puts (was out) at (startText head number) r (is out) ⌝ }
 {
     let next = put_head(head, out, at);
-    let last = digits::put_small(pairs, out, next, number);
+    let last = list_digits::put_small(pairs, out, next, number);
     out[last] = b'\t';
     last + 1
 }
@@ -104,7 +104,7 @@ fn put_ended(pairs: &Pairs, x: i64, end: u8, out: &mut [u8], at: usize) -> usize
     requires { ⌜ (now pairs ≡ allPairs) × (at + length (endedText x end) ≤ length (now out)) ⌝ }
     ensures { λ r. ⌜ Puts (was out) at (endedText x end) r (is out) ⌝ }
 {
-    let next = numerals::put_number_by(pairs, out, at, x);
+    let next = list_numerals::put_number_by(pairs, out, at, x);
     out[next] = end;
     next + 1
 }

@@ -7,7 +7,7 @@ use Rattle.paper.specs.Limits as Limits
 use Rattle.paper.specs.Rows.{steps}
 use Rattle.paper.specs.Advance.{Memory, memory}
 use Rattle.paper.specs.Pieces.{stepsTaken, pieceOf}
-use Rattle.facts.specs.Nets.{netIn}
+use Rattle.laws_facts.specs.Nets.{netIn}
 use Rattle.plan_rows.specs.declared.Totals.{Totals}
 use Rattle.plan_net.specs.Of.{Of}
 use Rattle.step_factors.specs.Factors.{Square}

@@ -12,9 +12,9 @@ use Rattle.paper.specs.Areas.{Net}
 use Rattle.paper.specs.Advance.{Memory}
 use Rattle.paper.specs.Listing.{lineOf}
 use Rattle.paper.specs.Pieces.{Listed, listed, Piece, writing, ended, stepPiece, ifRoom, turnPiece, closing, stepsTaken, pieceOf}
-use Rattle.facts.specs.Nets.{netIn}
-use Rattle.pieces.specs.Calls.{turns-ended}
-use Rattle.digits.specs.Puts.{Puts, puts-none, puts-then}
+use Rattle.laws_facts.specs.Nets.{netIn}
+use Rattle.laws_pieces.specs.Calls.{turns-ended}
+use Rattle.list_digits.specs.Puts.{Puts, puts-none, puts-then}
 use Rattle.list_turn.specs.declared.Turn.{Turn}
 use Rattle.list_turn.specs.declared.Turn.the-variants.{On, Over}
 use Rattle.list_step.specs.Bounds.{done-short}

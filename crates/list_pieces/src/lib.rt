@@ -66,7 +66,7 @@ pub fn steps_on(
     ensures { λ r. ⌜ Pieces (was plan) totals (was owns) (was legs) (was nodes) (was sources) (before records froms tos)
         (was out) (r .answer) (r .count) (is out) (after records froms tos) ⌝ }
 {
-    let pairs = digits::pairs();
+    let pairs = list_digits::pairs();
     let mut factors = [[0.0; 32]; 32];
     let mut at = 0;
     let mut k = call_counts::steps_taken(records, totals.areas, totals.steps);
@@ -95,6 +95,6 @@ pub fn steps_on(
         at = next;
         k += 1;
     }
-    let end = lines::put_done(out, at, totals.steps as u64);
+    let end = list_ends::put_done(out, at, totals.steps as u64);
     ended(Listing::Done, end)
 }

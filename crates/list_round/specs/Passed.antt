@@ -14,7 +14,7 @@ use Rattle.paper.specs.Pieces.{areaPiece, Piece, writing, ended, listed, wentOn
 use Rattle.paper.specs.Rows.{steps}
 use Rattle.paper.specs.Network.{isNetwork}
 use Rattle.paper.specs.Listing.{stopLine}
-use Rattle.facts.specs.Nets.{netIn, area-count-most}
+use Rattle.laws_facts.specs.Nets.{netIn, area-count-most}
 use Rattle.step_area.specs.declared.Turn.{Turn}
 use Rattle.step_area.specs.Tabled.{Tables}
 use Rattle.step_area.specs.Stepping.{Stepping, Moved, Steps}
@@ -22,8 +22,8 @@ use Rattle.call_state.specs.Kept.{kept}
 use Rattle.list_round.specs.declared.Step.{Step}
 use Rattle.list_round.specs.declared.Round.the-variants.{Full, Refused}
 use Rattle.list_round.specs.Round.{AllTables, turnOf, Starts, Ran, InStep}
-use Rattle.pieces.specs.Level.{Partway, level-start, level-end, is-ready, leads-on}
-use Rattle.pieces.specs.Steps.{run-ended}
+use Rattle.laws_pieces.specs.Level.{Partway, level-start, level-end, is-ready, leads-on}
+use Rattle.laws_pieces.specs.Steps.{run-ended}
 
 -- the areas before a have taken step k + 1
 pub record InPart (net : Words) (k a : ℕ) (m : Memory) : Type 0 where

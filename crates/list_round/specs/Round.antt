@@ -10,8 +10,8 @@ use Rattle.paper.specs.Areas.{areaCount}
 use Rattle.paper.specs.Advance.{Memory, memory}
 use Rattle.paper.specs.Listing.{stopLine}
 use Rattle.paper.specs.Pieces.{Piece, writing, ended, listed, areaPiece}
-use Rattle.facts.specs.Nets.{netIn}
-use Rattle.pieces.specs.Level.{Level}
+use Rattle.laws_facts.specs.Nets.{netIn}
+use Rattle.laws_pieces.specs.Level.{Level}
 use Rattle.step_area.specs.declared.Turn.{Turn}
 use Rattle.step_area.specs.Tabled.{Tables}
 use Rattle.list_round.specs.declared.Step.{Step}

@@ -11,8 +11,8 @@ use Rattle.paper.specs.Areas.{Net, branchNumber}
 use Rattle.paper.specs.Records.{voltages, currentAt, toCurrentAt}
 use Rattle.paper.specs.Listing.{shown, shownAll, lineOf, voltLines, currentLine, currentLines, stepLines, stopLine}
 use Rattle.paper.specs.Answers.{advanceNumber, advancePlace}
-use Rattle.facts.specs.Nets.{NetSound, rowAt, branch-number-most}
-use Rattle.digits.specs.Decimal.{shown-most, shown-length, whole-length}
+use Rattle.laws_facts.specs.Nets.{NetSound, rowAt, branch-number-most}
+use Rattle.list_digits.specs.Decimal.{shown-most, shown-length, whole-length}
 use Rattle.plan_rows.specs.Laws.{number-next}
 use Rattle.list_step.specs.Joined.{joined, joined-next, voltLine, voltsText, volts-joined, currents-joined}
 

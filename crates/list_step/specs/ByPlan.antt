@@ -5,8 +5,8 @@ use Rattle.paper.specs.Rows.{bytes}
 use Rattle.paper.specs.Areas.{Net}
 use Rattle.paper.specs.Records.{currentAt, toCurrentAt}
 use Rattle.paper.specs.Listing.{lineOf, currentLine, stepLines}
-use Rattle.facts.specs.Nets.{branch-number-most}
-use Rattle.digits.specs.Puts.{Parts}
+use Rattle.laws_facts.specs.Nets.{branch-number-most}
+use Rattle.list_digits.specs.Puts.{Parts}
 use Rattle.plan_rows.specs.declared.Row.{Row}
 use Rattle.plan_rows.specs.declared.Totals.{Totals}
 use Rattle.paper.specs.Rows.{branchKind}

@@ -7,7 +7,7 @@ use Rattle.paper.specs.Rows.{bytes}
 use Rattle.paper.specs.Areas.{Net}
 use Rattle.paper.specs.Records.{voltages}
 use Rattle.paper.specs.Listing.{lineOf, voltLines, currentLine, currentLines}
-use Rattle.digits.specs.Puts.{Puts, puts-then, puts-as, puts-room}
+use Rattle.list_digits.specs.Puts.{Puts, puts-then, puts-as, puts-room}
 
 unfoldable pub joined : (ℕ → List ℕ) → List ℕ → List ℕ
 joined f [] = []

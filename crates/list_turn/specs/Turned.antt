@@ -10,8 +10,8 @@ use Rattle.paper.specs.Apart.{voltages-in, currents-in, toCurrents-in, end-most
 use Rattle.paper.specs.Advance.{Memory}
 use Rattle.paper.specs.Listing.{stepLines, stopLine}
 use Rattle.paper.specs.Pieces.{Piece, writing, ended, listed, fullStep, stepPiece}
-use Rattle.facts.specs.Nets.{NetSound, netIn, net-sound}
-use Rattle.digits.specs.Puts.{Puts}
+use Rattle.laws_facts.specs.Nets.{NetSound, netIn, net-sound}
+use Rattle.list_digits.specs.Puts.{Puts}
 use Rattle.plan_rows.specs.declared.Totals.{Totals}
 use Rattle.plan_net.specs.Of.{Of}
 use Rattle.list_step.specs.Bounds.{Small, stop-short, lines-short}

@@ -3,10 +3,10 @@ ghost use Rattle.whole.specs.Plain.{suc, _+_, _≤_, _≡_, length};
 ghost use Rattle.whole.specs.Loans.{was, is};
 ghost use Rattle.paper.specs.Limits as Limits;
 ghost use Rattle.paper.specs.Areas.{Net};
-ghost use Rattle.digits.specs.Pairs.{allPairs};
+ghost use Rattle.list_digits.specs.Pairs.{allPairs};
 ghost use Rattle.plan_net.specs.Of.{Of};
 ghost use Rattle.list_turn.specs.Turned.{Listable, PutTurn};
-use digits::Pairs;
+use list_digits::Pairs;
 use list_round::Round;
 use plan_rows::Table;
 use plan_rows::Totals;
@@ -40,9 +40,9 @@ pub fn put_turn(
             Turn::On(next)
         }
         Round::Refused(area, answer) => {
-            let number = answers::advance_number(answer);
-            let place = answers::advance_place(answer);
-            let next = lines::put_stop(out, at, step, area, number, place);
+            let number = call_answers::advance_number(answer);
+            let place = call_answers::advance_place(answer);
+            let next = list_ends::put_stop(out, at, step, area, number, place);
             Turn::Over(next)
         }
     }

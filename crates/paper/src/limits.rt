@@ -2,15 +2,15 @@
 // are held to these constants once, by the functions at the end: that is all they promise.
 ghost use Rattle.whole.specs.Plain.{_≡_, pos};
 ghost use Rattle.paper.specs.Limits as Limits;
-use quantity::Balance;
-use quantity::Conductance;
-use quantity::Current;
-use quantity::History;
-use quantity::Injection;
-use quantity::Node;
-use quantity::StepLength;
-use quantity::Steps;
-use quantity::Voltage;
+use num_quantity::Balance;
+use num_quantity::Conductance;
+use num_quantity::Current;
+use num_quantity::History;
+use num_quantity::Injection;
+use num_quantity::Node;
+use num_quantity::StepLength;
+use num_quantity::Steps;
+use num_quantity::Voltage;
 
 // mΩ, of R, LINE and SW
 pub struct Ohms {

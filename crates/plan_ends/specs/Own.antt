@@ -5,7 +5,7 @@ use Rattle.whole.specs.Plain.{List, [], _∷_, _++_, map, eqb, pos, getD, lengt
 use Rattle.paper.specs.Rows.{Row, kind, isLine, isBranch, isSource, at, peak, start, rise}
 use Rattle.paper.specs.Areas.{Net, areaOf, rowArea, fixed, nodesOf, freeOf}
 use Rattle.paper.specs.Classes.{line-branch}
-use Rattle.facts.specs.Nets.{rowAt}
+use Rattle.laws_facts.specs.Nets.{rowAt}
 
 -- the area at one end of a row: a line's ends are each their own node's, a source has none
 unfoldable pub ownerOf : Net → Row → ℕ → ℕ

@@ -5,7 +5,7 @@ use Rattle.whole.specs.Folds.{getD-map}
 use Rattle.paper.specs.Limits as Limits
 use Rattle.paper.specs.Rows.{kind, isLine, isBranch}
 use Rattle.paper.specs.Areas.{Net}
-use Rattle.facts.specs.Nets.{rowAt}
+use Rattle.laws_facts.specs.Nets.{rowAt}
 use Rattle.plan_ends.specs.Own.{of-sides, own-branch, rowOfEnd, sideOfEnd, ownEnd, ownEnds, nearOf, farOf, Framed}
 use Rattle.plan_rows.specs.declared.Row.{Row}
 use Rattle.plan_rows.specs.ByKind.{lineKind}

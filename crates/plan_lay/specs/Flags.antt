@@ -10,7 +10,7 @@ use Rattle.paper.specs.Limits as Limits
 use Rattle.paper.specs.Rows.{isFixing, at}
 use Rattle.paper.specs.Faults.{fixes}
 use Rattle.paper.specs.Areas.{Net, fixed}
-use Rattle.facts.specs.Nets.{rowAt}
+use Rattle.laws_facts.specs.Nets.{rowAt}
 
 pub record FlaggedTo (N : Net) (i : ℕ) (flags : List Bool) : Type 0 where
   pub long : length flags ≡ suc Limits.nodeEnd

@@ -4,8 +4,8 @@ use Rattle.whole.specs.Plain.{map, eqb, getD, arith, keep, numbers}
 use Rattle.whole.specs.Written.{keep-keep}
 use Rattle.paper.specs.Limits as Limits
 use Rattle.paper.specs.Areas.{Net, areaOf, fixed, nodesOf, freeOf}
-use Rattle.facts.specs.Nets.{NetSound}
-use Rattle.rows.specs.Mapped.{Mapped}
+use Rattle.laws_facts.specs.Nets.{NetSound}
+use Rattle.plan_record.specs.Mapped.{Mapped}
 use Rattle.plan_ends.specs.Own.{fixedOf}
 use Rattle.plan_lay.specs.Listed.{listed, listed-same}
 use Rattle.plan_lay.specs.Flags.{Flagged}

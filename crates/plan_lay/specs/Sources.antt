@@ -4,8 +4,8 @@ use Rattle.whole.specs.Plain.{length-map, ext-getD, arith, Words, word, numbers
 use Rattle.whole.specs.Folds.{keep-map, getD-map, getD-numbers, length-numbers}
 use Rattle.paper.specs.Rows.{Row, isSource}
 use Rattle.paper.specs.Areas.{Net}
-use Rattle.facts.specs.Sound.{RowSound}
-use Rattle.facts.specs.Nets.{rowAt}
+use Rattle.laws_facts.specs.Sound.{RowSound}
+use Rattle.laws_facts.specs.Nets.{rowAt}
 use Rattle.plan_ends.specs.Own.{ownSource, ownSources, sourceLine, sourceLines}
 use Rattle.plan_lay.specs.Listed.{listed}
 

@@ -3,8 +3,8 @@ ghost use Rattle.whole.specs.Plain.{ℕ, _+_, _≤_, _<_, _≡_, true, eqb, len
 ghost use Rattle.whole.specs.Loans.{was, is};
 ghost use Rattle.paper.specs.Limits as Limits;
 ghost use Rattle.paper.specs.Network.{isNetwork};
-ghost use Rattle.facts.specs.Nets.{netIn};
-ghost use Rattle.rows.specs.Mapped.{Mapped};
+ghost use Rattle.laws_facts.specs.Nets.{netIn};
+ghost use Rattle.plan_record.specs.Mapped.{Mapped};
 ghost use Rattle.plan_rows.specs.Planned.{rowIn, ownerIn, Noded};
 ghost use Rattle.plan_lay.specs.Grown.{Grown, Put};
 ghost use Rattle.plan_lay.specs.Ends.{farIn, frameIn, legsBy};
@@ -82,8 +82,8 @@ fn flag_row(net: &[i64], i: usize, flags: &mut [bool; 33])
     requires { ⌜ (isNetwork (now net) ≡ true) × (i < length (netIn (now net) .rows)) ⌝ }
     ensures { λ _. ⌜ is flags ≡ flagRow (netIn (was net)) i (was flags) ⌝ }
 {
-    if kinds::is_fixing(rows::kind(net, i)) {
-        let node = rows::number(net, i, 1);
+    if kinds::is_fixing(plan_record::kind(net, i)) {
+        let node = plan_record::number(net, i, 1);
         flags[node] = true;
     }
 }
@@ -166,18 +166,18 @@ fn lay_source(
     ensures { λ t. ⌜ Put (sourceBy (netIn (was net)) a i) (lineBy (netIn (was net)) i) m (was sources) t
         (is sources) ⌝ }
 {
-    if !kinds::is_source(rows::kind(net, i)) {
+    if !kinds::is_source(plan_record::kind(net, i)) {
         return m;
     }
-    if area[rows::number(net, i, 1)] != a {
+    if area[plan_record::number(net, i, 1)] != a {
         return m;
     }
     let line = [
-        rows::value(net, i, 0),
-        rows::value(net, i, 1),
-        rows::value(net, i, 2),
-        rows::value(net, i, 3),
-        rows::value(net, i, 4),
+        plan_record::value(net, i, 0),
+        plan_record::value(net, i, 1),
+        plan_record::value(net, i, 2),
+        plan_record::value(net, i, 3),
+        plan_record::value(net, i, 4),
     ];
     sources[m] = line;
     m + 1

@@ -3,7 +3,7 @@
 use Rattle.whole.specs.Plain.{ℕ, _≡_, true, List, Words}
 use Rattle.paper.specs.Network.{isNetwork}
 use Rattle.paper.specs.Areas.{Net}
-use Rattle.facts.specs.Nets.{NetSound, netIn, net-sound}
+use Rattle.laws_facts.specs.Nets.{NetSound, netIn, net-sound}
 use Rattle.plan_rows.specs.declared.Totals.{Totals}
 use Rattle.plan_rows.specs.Planned.{Planned, totalsOf}
 

@@ -6,7 +6,7 @@ use Rattle.whole.specs.Folds.{length-keep, count-le, length-numbers}
 use Rattle.whole.specs.Prefix.{count-parts}
 use Rattle.paper.specs.Rows.{isSource, at}
 use Rattle.paper.specs.Areas.{Net, areaOf, fixed, nodesOf, freeOf}
-use Rattle.facts.specs.Nets.{NetSound}
+use Rattle.laws_facts.specs.Nets.{NetSound}
 use Rattle.plan_ends.specs.Own.{ownerOf, rowOfEnd, sideOfEnd, ownEnd, ownEnds, fixedOf, ownSource, ownSources, sourceLine, sourceLines}
 use Rattle.plan_own.specs.declared.Own.{Own}
 use Rattle.plan_lay.specs.Grown.{Grown, grown-before, grown-part, grown-then, grown-still}

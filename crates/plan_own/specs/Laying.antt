@@ -2,7 +2,7 @@
 use Rattle.whole.specs.Plain.{ℕ, _+_, _≤_, _<_, _≡_, _∙_, List, [], length, set, length-set, getD-set-same}
 use Rattle.whole.specs.Plain.{getD-set-other, ℕ-discrete, arith, Words}
 use Rattle.paper.specs.Areas.{Net}
-use Rattle.facts.specs.Nets.{NetSound}
+use Rattle.laws_facts.specs.Nets.{NetSound}
 use Rattle.plan_own.specs.declared.Own.{Own}
 use Rattle.plan_lay.specs.Grown.{part, part-kept}
 use Rattle.plan_own.specs.Owns.{wordsOf, ownIn, nothing, Tables, Room, Ours, Behind, Apart, LaidBelow, UnpreparedBelow}

@@ -4,8 +4,8 @@ use Rattle.whole.specs.Plain.{Words, numbers}
 use Rattle.paper.specs.Rows.{isSource, at}
 use Rattle.paper.specs.Network.{isNetwork}
 use Rattle.paper.specs.Areas.{Net, areaOf, areaCount, freeOf}
-use Rattle.facts.specs.Nets.{netIn}
-use Rattle.rows.specs.Mapped.{Mapped}
+use Rattle.laws_facts.specs.Nets.{netIn}
+use Rattle.plan_record.specs.Mapped.{Mapped}
 use Rattle.plan_ends.specs.Own.{ownerOf, rowOfEnd, sideOfEnd, Framed, ownNodes, sourceLines}
 use Rattle.plan_rows.specs.declared.Totals.{Totals}
 use Rattle.plan_rows.specs.Planned.{Planned, totalsOf}

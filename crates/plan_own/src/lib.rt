@@ -2,7 +2,7 @@
 // area's own stands.
 ghost use Rattle.whole.specs.Plain.{_≤_, _<_, _≡_, length, set};
 ghost use Rattle.whole.specs.Loans.{was, is};
-ghost use Rattle.facts.specs.Nets.{netIn};
+ghost use Rattle.laws_facts.specs.Nets.{netIn};
 ghost use Rattle.plan_own.specs.Owns.{wordsOf, ownIn, nothing, untilPut, Given, Tables, Room, Ours, Behind, Laid};
 ghost use Rattle.plan_own.specs.Owns.{Unprepared};
 use plan_lay::SourceLine;

@@ -4,7 +4,7 @@ use Rattle.whole.specs.Plain.{arith}
 use Rattle.paper.specs.Rows.{Row, kind, branchKind, isBranch, isSource, isLine, stepLength}
 use Rattle.paper.specs.Faults.{delay, slots}
 use Rattle.paper.specs.Classes.{one-sort}
-use Rattle.facts.specs.Sound.{RowSound}
+use Rattle.laws_facts.specs.Sound.{RowSound}
 
 abbrev pub lineKind : ℕ → Bool
 lineKind k = isLine (pos k ∷ [])

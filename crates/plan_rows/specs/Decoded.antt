@@ -10,12 +10,12 @@ use Rattle.paper.specs.Faults.{slots}
 use Rattle.paper.specs.Network.{isNetwork}
 use Rattle.paper.specs.Areas.{Net, step, named, areaOf}
 use Rattle.paper.specs.Records.{offset}
-use Rattle.facts.specs.Fields.{Within}
-use Rattle.facts.specs.Sound.{RowSound, named-branch, named-source}
-use Rattle.facts.specs.Nets.{NetSound, netIn, rowAt, net-sound, slots-within, row-beyond}
-use Rattle.rows.specs.Mapped.{Mapped}
+use Rattle.laws_facts.specs.Fields.{Within}
+use Rattle.laws_facts.specs.Sound.{RowSound, named-branch, named-source}
+use Rattle.laws_facts.specs.Nets.{NetSound, netIn, rowAt, net-sound, slots-within, row-beyond}
+use Rattle.plan_record.specs.Mapped.{Mapped}
 use Rattle.plan_ends.specs.Own.{ownerOf}
-use Rattle.faults.specs.Seen.{Sized, conductanceOf}
+use Rattle.text_faults.specs.Seen.{Sized, conductanceOf}
 use Rattle.plan_rows.specs.declared.Row.{Row}
 use Rattle.plan_rows.specs.ByKind.{ownerBy, source-else}
 use Rattle.plan_rows.specs.Planned.{conductanceAt, toAt, rowOf, Noded}

@@ -9,10 +9,10 @@ use Rattle.paper.specs.Rows.{isBranch}
 use Rattle.paper.specs.Faults.{slots}
 use Rattle.paper.specs.Areas.{Net, netOf, netOn, nodeCount, named, branchNumber}
 use Rattle.paper.specs.Records.{offset, slotCount}
-use Rattle.facts.specs.Nets.{netIn, rowAt}
-use Rattle.rows.specs.Mapped.{Mapped}
+use Rattle.laws_facts.specs.Nets.{netIn, rowAt}
+use Rattle.plan_record.specs.Mapped.{Mapped}
 use Rattle.plan_ends.specs.Own.{ownerOf}
-use Rattle.areas.specs.Marks.{markWords}
+use Rattle.plan_areas.specs.Marks.{markWords}
 use Rattle.plan_rows.specs.Planned.{rowOf, rowIn, wordsOf, ownerIn, PlannedTo}
 
 -- the areas by node

@@ -7,7 +7,7 @@ use Rattle.paper.specs.Conductance.{conductance}
 use Rattle.paper.specs.Faults as Faults
 use Rattle.paper.specs.Areas.{Net, step, areaCount, branchNumber}
 use Rattle.paper.specs.Records as Records
-use Rattle.facts.specs.Nets.{rowAt}
+use Rattle.laws_facts.specs.Nets.{rowAt}
 use Rattle.plan_ends.specs.Own.{ownerOf}
 use Rattle.plan_rows.specs.declared.Row.{Row}
 use Rattle.plan_rows.specs.declared.Totals.{Totals}

@@ -7,8 +7,8 @@ ghost use Rattle.paper.specs.Network.{isNetwork};
 ghost use Rattle.paper.specs.Areas as Areas;
 ghost use Rattle.paper.specs.Areas.{branchNumber};
 ghost use Rattle.paper.specs.Records.{offset, slotCount};
-ghost use Rattle.facts.specs.Nets.{netIn, rowAt};
-ghost use Rattle.rows.specs.Mapped.{Mapped};
+ghost use Rattle.laws_facts.specs.Nets.{netIn, rowAt};
+ghost use Rattle.plan_record.specs.Mapped.{Mapped};
 ghost use Rattle.plan_rows.specs.Planned.{Planned, totalsOf, rowIn, rowOf, wordsOf, ownerIn, nodeIn};
 ghost use Rattle.plan_rows.specs.Planned.{conductanceAt, toAt};
 ghost use Rattle.plan_rows.specs.ByKind.{slotsBy, ownerBy};
@@ -135,8 +135,8 @@ fn named(net: &[i64], i: usize) -> usize
     requires { ⌜ (isNetwork (now net) ≡ true) × (i < length (netIn (now net) .rows)) ⌝ }
     ensures { λ r. ⌜ r ≡ Areas.named (rowAt (netIn (was net)) i) ⌝ }
 {
-    let kind = rows::kind(net, i);
-    larger(rows::number(net, i, 1), to_at(net, i, kind))
+    let kind = plan_record::kind(net, i);
+    larger(plan_record::number(net, i, 1), to_at(net, i, kind))
 }
 
 // "The node count is the largest node named."
@@ -164,7 +164,7 @@ fn to_at(net: &[i64], i: usize, kind: usize) -> usize
     if !kinds::is_branch(kind) {
         return 0;
     }
-    rows::number(net, i, 2)
+    plan_record::number(net, i, 2)
 }
 
 // "nS, of one branch"; a source has none
@@ -176,7 +176,7 @@ fn conductance_at(net: &[i64], i: usize, kind: usize, step: usize) -> usize
     if !kinds::is_branch(kind) {
         return 0;
     }
-    faults::conductance(step as u64, kind, rows::number(net, i, 3) as u64) as usize
+    text_faults::conductance(step as u64, kind, plan_record::number(net, i, 3) as u64) as usize
 }
 
 // "Each line end keeps its last 2d sent values"
@@ -227,10 +227,10 @@ fn planned(
     requires { ⌜ (place ≡ offset (netIn (now net)) i) × (before ≡ branchNumber (netIn (now net)) i) ⌝ }
     ensures { λ r. ⌜ r ≡ rowOf (netIn (was net)) i ⌝ }
 {
-    let kind = rows::kind(net, i);
-    let from = rows::number(net, i, 1);
+    let kind = plan_record::kind(net, i);
+    let from = plan_record::number(net, i, 1);
     let to = to_at(net, i, kind);
-    let fourth = rows::number(net, i, 4);
+    let fourth = plan_record::number(net, i, 4);
     let delay = fourth / step;
     Row {
         kind,
@@ -241,7 +241,7 @@ fn planned(
         slots: slots_of(kind, delay),
         place,
         closes: fourth,
-        opens: rows::number(net, i, 5),
+        opens: plan_record::number(net, i, 5),
         from_area: area_at(area, kind, from, to),
         to_area: area_at(area, kind, to, from),
         number: number_of(kind, before),
@@ -279,7 +279,7 @@ pub fn make(net: &[i64], area: &mut [usize; 33], plan: &mut Table) -> Totals
     let rows = row_count(net);
     let step = study_number(net, 0);
     let nodes = node_count(net, rows);
-    let areas = areas::areas(net, rows, nodes, area);
+    let areas = plan_areas::areas(net, rows, nodes, area);
     let slots = fill(net, rows, step, area, plan);
     Totals {
         rows,

@@ -12,7 +12,7 @@ use Rattle.paper.specs.Legs.{Leg, leg, Branch, bothLegs}
 use Rattle.paper.specs.Floating as Paper
 use Rattle.paper.specs.Solve.{Step, stop, move, passing, solve, settling, solvedStep, stillOf, andFloating}
 use Rattle.paper.specs.Advance.{Memory, memory, advanced, written, finish, takeStep, ready}
-use Rattle.local.specs.Outcome.{Solving, floats, leaves, tips, exceeds, solves, solving, voltsOf}
+use Rattle.laws_local.specs.Outcome.{Solving, floats, leaves, tips, exceeds, solves, solving, voltsOf}
 use Rattle.plan_ends.specs.Own.{ownEnds, Framed, ownNodes}
 use Rattle.plan_own.specs.declared.Own.{Own}
 use Rattle.plan_lay.specs.Grown.{part}

@@ -5,7 +5,7 @@ use borrow.Rule.Slice.PartMut.{mid-len}
 use lib.Ieee.{Float}
 use Rattle.paper.specs.Limits as Limits
 use Rattle.paper.specs.Areas.{Net, areaCount, freeOf}
-use Rattle.facts.specs.Nets.{NetSound, area-count-most}
+use Rattle.laws_facts.specs.Nets.{NetSound, area-count-most}
 use Rattle.plan_ends.specs.Own.{Framed}
 use Rattle.plan_rows.specs.Planned.{Planned}
 use Rattle.plan_own.specs.declared.Own.{Own}

@@ -6,7 +6,7 @@ use Rattle.paper.specs.Rows.{steps}
 use Rattle.paper.specs.Faults.{slots}
 use Rattle.paper.specs.Areas.{Net, areaCount, nodesOf, freeOf}
 use Rattle.paper.specs.Records.{offset}
-use Rattle.facts.specs.Nets.{NetSound, rowAt, slots-within, area-count-most}
+use Rattle.laws_facts.specs.Nets.{NetSound, rowAt, slots-within, area-count-most}
 use Rattle.plan_ends.specs.Own.{endAt, fixedOf, ownNodes}
 use Rattle.plan_rows.specs.declared.Row.{Row}
 use Rattle.plan_rows.specs.Planned.{rowIn, rowOf, Planned}

@@ -15,12 +15,12 @@ use Rattle.paper.specs.Records.{voltAt, currentAt, toCurrentAt, historyAt, Sect
 use Rattle.paper.specs.Apart.{owned}
 use Rattle.paper.specs.Legs.{Leg, End, Branch, branch, Heard, legsBy, legsOf, branchIn, heard, current, echo, passedOn}
 use Rattle.paper.specs.Advance.{memory, putIf, newRecords, putSent, newStore, written}
-use Rattle.facts.specs.Nets.{NetSound, rowAt}
-use Rattle.local.specs.Sound.{Sound, sound, row-there}
-use Rattle.local.specs.Own.{line-no, keeper}
-use Rattle.local.specs.Nodes.{NodeOf, node-of, of-node, free-of, of-free}
-use Rattle.local.specs.Puts.{put-length, put-other, put-same, put-with}
-use Rattle.local.specs.Written.{records-length, records-keep, count-put, volt-put, current-put, to-put, history-put}
+use Rattle.laws_facts.specs.Nets.{NetSound, rowAt}
+use Rattle.laws_local.specs.Sound.{Sound, sound, row-there}
+use Rattle.laws_local.specs.Own.{line-no, keeper}
+use Rattle.laws_local.specs.Nodes.{NodeOf, node-of, of-node, free-of, of-free}
+use Rattle.laws_local.specs.Puts.{put-length, put-other, put-same, put-with}
+use Rattle.laws_local.specs.Written.{records-length, records-keep, count-put, volt-put, current-put, to-put, history-put}
 use Rattle.plan_ends.specs.Own.{ownerOf, rowOfEnd, sideOfEnd, ownEnd, ownEnds, fixedOf, ownNodes}
 use Rattle.plan_rows.specs.Planned.{Planned}
 use Rattle.step_legs.specs.declared.Wire.{Wire}

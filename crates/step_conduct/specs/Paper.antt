@@ -7,7 +7,7 @@ use Rattle.paper.specs.Rows.{isBranch, isSwitch}
 use Rattle.paper.specs.Conductance.{conductance}
 use Rattle.paper.specs.Areas.{Net, step}
 use Rattle.paper.specs.Legs.{isOpen, conducts}
-use Rattle.facts.specs.Nets.{NetSound, rowAt}
+use Rattle.laws_facts.specs.Nets.{NetSound, rowAt}
 use Rattle.plan_ends.specs.Own.{rowOfEnd, ownEnd, endAt, FrameOf, Framed}
 use Rattle.plan_rows.specs.declared.Row.{Row}
 use Rattle.plan_rows.specs.Planned.{rowIn, rowOf, conductanceAt, Planned}

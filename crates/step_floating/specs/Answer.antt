@@ -10,10 +10,10 @@ use Rattle.paper.specs.Legs.{Leg}
 use Rattle.paper.specs.Spread.{Join, mark}
 use Rattle.paper.specs.Floating.{conducting, reached, legJoin, marks}
 use Rattle.paper.specs.Limits as Limits
-use Rattle.paths.specs.Paths.{In, Beside, Path, stay, hop, spread-sound, Linked, set-cases}
-use Rattle.paths.specs.Meaning.{legJoins}
-use Rattle.paths.specs.Rounds.{Inside}
-use Rattle.paths.specs.Reached.{spread-complete}
+use Rattle.laws_paths.specs.Paths.{In, Beside, Path, stay, hop, spread-sound, Linked, set-cases}
+use Rattle.laws_paths.specs.Meaning.{legJoins}
+use Rattle.laws_paths.specs.Rounds.{Inside}
+use Rattle.laws_paths.specs.Reached.{spread-complete}
 use Rattle.step_legs.specs.Wires.{legAt, legsIn, Wires}
 use Rattle.step_legs.specs.Leaving.{legs-length, leg-is}
 use Rattle.step_legs.specs.Free.{Free, first-here}

@@ -6,7 +6,7 @@ use Rattle.whole.specs.Members.{among-at, keep-among, numbers-among}
 use Rattle.whole.specs.Rising.{Rising, rising-numbers, rising-keep, rising-over}
 use Rattle.whole.specs.Written.{kept-in, kept-out, keep-keep}
 use Rattle.paper.specs.Areas.{Net, areaOf, fixed, nodesOf, freeOf}
-use Rattle.facts.specs.Nets.{NetSound}
+use Rattle.laws_facts.specs.Nets.{NetSound}
 use Rattle.step_legs.specs.Free as Legs
 use Rattle.step_floating.specs.Search.{loose}
 

@@ -4,8 +4,8 @@ use Rattle.whole.specs.Plain.{length, getD, arith, keep}
 use Rattle.paper.specs.Legs.{Leg, idle}
 use Rattle.paper.specs.Spread.{Join}
 use Rattle.paper.specs.Floating.{conducting, legJoin}
-use Rattle.paths.specs.Paths.{In, top, below}
-use Rattle.paths.specs.Meaning.{legJoins}
+use Rattle.laws_paths.specs.Paths.{In, top, below}
+use Rattle.laws_paths.specs.Meaning.{legJoins}
 
 in-some : {j : Join} {js : List Join} → In j js → 0 < length js
 in-some top = omega arith

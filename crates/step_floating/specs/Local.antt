@@ -7,10 +7,10 @@ use Rattle.paper.specs.Legs.{Leg, leg, idle}
 use Rattle.paper.specs.Areas.{Net, areaOf, fixed, freeOf}
 use Rattle.paper.specs.Spread.{Join, mark}
 use Rattle.paper.specs.Floating.{conducting, legJoin, reached, floating}
-use Rattle.paths.specs.Paths.{In, Path, stay, hop}
-use Rattle.paths.specs.Rounds.{Inside}
-use Rattle.paths.specs.Meaning.{legJoins, Grounded, reached-sound, reached-complete}
-use Rattle.facts.specs.Nets.{NetSound}
+use Rattle.laws_paths.specs.Paths.{In, Path, stay, hop}
+use Rattle.laws_paths.specs.Rounds.{Inside}
+use Rattle.laws_paths.specs.Meaning.{legJoins, Grounded, reached-sound, reached-complete}
+use Rattle.laws_facts.specs.Nets.{NetSound}
 use Rattle.step_legs.specs.Free.{first-cong}
 use Rattle.step_floating.specs.Search.{loose}
 use Rattle.step_floating.specs.Joins.{joins-all}

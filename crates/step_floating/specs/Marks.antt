@@ -6,7 +6,7 @@ use Rattle.whole.specs.Folds.{fold-keeps, getD-map, getD-numbers, length-number
 use Rattle.whole.specs.Written.{fold-set}
 use Rattle.paper.specs.Limits as Limits
 use Rattle.paper.specs.Floating.{marks}
-use Rattle.paths.specs.Paths.{set-cases}
+use Rattle.laws_paths.specs.Paths.{set-cases}
 use Rattle.step_floating.specs.Search.{loose}
 
 pub marks-length : (fix : ℕ → Bool) (nodes : ℕ) → length (marks fix nodes) ≡ suc nodes

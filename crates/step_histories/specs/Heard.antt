@@ -3,9 +3,9 @@ use Rattle.whole.specs.Plain.{ℕ, _+_, _≤_, _<_, _≡_, refl, Bool, true, fa
 use Rattle.whole.specs.Plain.{length-set, getD-set-other, arith, Words, z, word}
 use Rattle.paper.specs.Limits as Limits
 use Rattle.paper.specs.Records as Records
-use Rattle.received.specs.declared.Side.{Side}
-use Rattle.received.specs.declared.Side.the-variants.{From, To}
-use Rattle.received.specs.Received as Received
+use Rattle.step_received.specs.declared.Side.{Side}
+use Rattle.step_received.specs.declared.Side.the-variants.{From, To}
+use Rattle.step_received.specs.Received as Received
 use Rattle.plan_rows.specs.declared.Row.{Row}
 use Rattle.plan_rows.specs.Planned.{rowIn}
 use Rattle.step_legs.specs.declared.Wire.{Wire}

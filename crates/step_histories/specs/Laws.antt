@@ -7,8 +7,8 @@ use Rattle.paper.specs.Faults.{delay, slots}
 use Rattle.paper.specs.Areas.{Net, step}
 use Rattle.paper.specs.Records.{offset, historyAt}
 use Rattle.paper.specs.Legs.{sentTo}
-use Rattle.facts.specs.Nets.{NetSound, rowAt, slots-within}
-use Rattle.received.specs.Received.{heard-is}
+use Rattle.laws_facts.specs.Nets.{NetSound, rowAt, slots-within}
+use Rattle.step_received.specs.Received.{heard-is}
 use Rattle.plan_rows.specs.declared.Row.{Row}
 use Rattle.plan_rows.specs.Planned.{rowIn, rowOf, Planned}
 use Rattle.plan_ends.specs.Own.{rowOfEnd, sideOfEnd, endAt}

@@ -11,9 +11,9 @@ use paper::kinds;
 use paper::sections;
 use plan_rows::Row;
 use plan_rows::Table;
-use received::Side;
 use step_legs::Line;
 use step_legs::Wire;
+use step_received::Side;
 
 // The history in a leg's line.
 const HISTORY: usize = 6;
@@ -46,7 +46,7 @@ fn sent<'a>(r: Row, end: usize, froms: &'a [i64], tos: &'a [i64], k: usize, d: u
     requires { ⌜ (length (now froms) ≡ Limits.storeWords) × (length (now tos) ≡ Limits.storeWords) ⌝ }
     ensures { λ h. ⌜ h ≡ sentBy r end (was froms) (was tos) k d ⌝ }
 {
-    received::received(froms, tos, side(end), r.place, r.slots, k, d)
+    step_received::received(froms, tos, side(end), r.place, r.slots, k, d)
 }
 
 // One leg's history at step k. Of an R or a SW, which holds nothing, the records' 0 is read.

@@ -13,7 +13,7 @@ use Rattle.whole.specs.Size.{∣_∣≤_}
 use Rattle.whole.specs.Size as Size
 use Rattle.paper.specs.Doubles.{double}
 use Rattle.paper.specs.Solve.{nought}
-use Rattle.double.specs.Exact.{double-nearest}
+use Rattle.num_double.specs.Exact.{double-nearest}
 
 -- ---- a sum of two doubles that are whole numbers, by these alone
 over : (s : Bool) (a A D : ℕ) → 0 < D → a ≡ A * D → round binary64 s a D ≡ round binary64 s A 1

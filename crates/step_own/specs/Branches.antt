@@ -5,7 +5,7 @@ use Rattle.whole.specs.Folds.{getD-map, getD-numbers, length-numbers}
 use Rattle.paper.specs.Rows.{isLine, isBranch, from, to}
 use Rattle.paper.specs.Areas.{Net, areaOf, rowArea}
 use Rattle.paper.specs.Legs.{Branch, Heard, legsBy, legsOf, lineLegs, lineEnd, plainLegs, branchIn}
-use Rattle.facts.specs.Nets.{rowAt}
+use Rattle.laws_facts.specs.Nets.{rowAt}
 use Rattle.plan_ends.specs.Own.{ownerOf}
 
 pub branch-at : (N : Net) (a k : ℕ) (recs : Words) (ears : List Heard) (i : ℕ) → i < length (N .rows) → branchIn (legsOf N a k recs ears) i ≡ legsBy N a k recs ears i

@@ -7,7 +7,7 @@ use Rattle.paper.specs.Conductance.{conductance}
 use Rattle.paper.specs.Areas.{Net, rowArea, step}
 use Rattle.paper.specs.Records as Records
 use Rattle.paper.specs.Legs.{Leg, leg, idle, End, otherEnd, Branch, branch, Heard, lineEnd, lineLegs, plainLegs, legsBy, heard, heardBy, here, sentTo, conducts}
-use Rattle.facts.specs.Nets.{rowAt, conducts-same}
+use Rattle.laws_facts.specs.Nets.{rowAt, conducts-same}
 use Rattle.plan_ends.specs.Own.{ownerOf, ownEnd, nearOf, farOf}
 use Rattle.step_own.specs.Ends.{facing, farStore, hAt, endLeg, line-conducts}
 

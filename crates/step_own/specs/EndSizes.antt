@@ -11,9 +11,9 @@ use Rattle.paper.specs.Faults.{delay, slots}
 use Rattle.paper.specs.Areas.{Net, areaOf, rowArea, step}
 use Rattle.paper.specs.Records as Records
 use Rattle.paper.specs.Legs.{isOpen, conducts, sentTo, sentAt}
-use Rattle.facts.specs.Fields.{Within}
-use Rattle.facts.specs.Sound.{BranchSound}
-use Rattle.facts.specs.Nets.{NetSound, row-area-from, row-area-to}
+use Rattle.laws_facts.specs.Fields.{Within}
+use Rattle.laws_facts.specs.Sound.{BranchSound}
+use Rattle.laws_facts.specs.Nets.{NetSound, row-area-from, row-area-to}
 use Rattle.plan_ends.specs.Own as Own
 use Rattle.plan_ends.specs.Own.{of-sides, ownerOf, rowOfEnd, sideOfEnd, ownEnd, nearOf, farOf}
 use Rattle.step_own.specs.Ends.{facing, farStore, gAt, hAt, Kept}

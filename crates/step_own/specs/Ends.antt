@@ -7,7 +7,7 @@ use Rattle.paper.specs.Conductance.{conductance}
 use Rattle.paper.specs.Areas.{Net, step}
 use Rattle.paper.specs.Records as Records
 use Rattle.paper.specs.Legs.{Leg, leg, idle, isOpen, conducts, sentTo}
-use Rattle.facts.specs.Nets.{rowAt}
+use Rattle.laws_facts.specs.Nets.{rowAt}
 use Rattle.plan_ends.specs.Own.{rowOfEnd, sideOfEnd, ownEnd, nearOf, farOf}
 use Rattle.step_legs.specs.declared.Wire.{Wire}
 

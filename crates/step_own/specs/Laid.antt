@@ -13,7 +13,7 @@ use Rattle.paper.specs.Classes.{by-branch}
 use Rattle.paper.specs.Areas.{Net}
 use Rattle.paper.specs.Legs.{Leg, leg, idle}
 use Rattle.paper.specs.Solve.{leaves}
-use Rattle.facts.specs.Nets.{NetSound, rowAt}
+use Rattle.laws_facts.specs.Nets.{NetSound, rowAt}
 use Rattle.plan_ends.specs.Own.{rowOfEnd, ownEnd, ownEnds, endAt, nearOf, FrameOf, Framed}
 use Rattle.step_legs.specs.declared.Wire.{Wire}
 use Rattle.step_legs.specs.Wires.{legFrom, wireIn, wireAt, wiresIn, legsIn, Wired, Wires, Sized}

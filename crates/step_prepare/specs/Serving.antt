@@ -5,7 +5,7 @@ use Rattle.paper.specs.Limits as Limits
 use Rattle.paper.specs.Areas.{Net, fixed, freeOf}
 use Rattle.paper.specs.Legs.{Leg}
 use Rattle.paper.specs.Floating.{floating}
-use Rattle.facts.specs.Nets.{NetSound}
+use Rattle.laws_facts.specs.Nets.{NetSound}
 use Rattle.plan_ends.specs.Own.{ownEnds, Framed}
 use Rattle.plan_rows.specs.Planned.{Planned}
 use Rattle.step_legs.specs.Wires.{legsIn, Wires}

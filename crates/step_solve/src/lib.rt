@@ -42,7 +42,7 @@ fn right_sides(free: &[usize], inject: &[i64; 33], drawn: &[i64; 33]) -> [f64; 3
     let mut i = 0;
     while i < free.len() {
         let p = free[i];
-        let side = double::to_double(inject[p] - drawn[p]);
+        let side = num_double::to_double(inject[p] - drawn[p]);
         b[i] = side;
         i += 1;
     }
@@ -55,7 +55,7 @@ fn put(v: &mut [i64; 33], p: usize, x: f64) -> bool
     ensures { λ r. ⌜ r ≡ inRange x ⌝ }
     ensures { λ _. ⌜ is v ≡ settle (was v) p (nearestOf x) ⌝ }
 {
-    let near = double::nearest(x);
+    let near = num_double::nearest(x);
     match near {
         Rounded::Whole(y) => {
             v[p] = y;

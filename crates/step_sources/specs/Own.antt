@@ -12,9 +12,9 @@ use Rattle.paper.specs.Faults.{fixes}
 use Rattle.paper.specs.Areas.{Net, areaOf}
 use Rattle.paper.specs.Sources.{ramp, risen, source, held, injected}
 use Rattle.paper.specs.Solve.{stillOf}
-use Rattle.facts.specs.Fields.{wider}
-use Rattle.facts.specs.Sound.{SourceSound}
-use Rattle.facts.specs.Nets.{NetSound, rowAt}
+use Rattle.laws_facts.specs.Fields.{wider}
+use Rattle.laws_facts.specs.Sound.{SourceSound}
+use Rattle.laws_facts.specs.Nets.{NetSound, rowAt}
 use Rattle.laws_volts.specs.Still.{area-node, still-at, still-length, still-end}
 use Rattle.plan_ends.specs.Own.{ownSource, ownSources, sourceLine, sourceLines}
 use Rattle.step_legs.specs.Shares.{Volts}

@@ -4,7 +4,7 @@ use Rattle.whole.specs.Plain.{set, replicate, Words, z, word, nat, fold}
 use Rattle.paper.specs.Limits as Limits
 use Rattle.paper.specs.Rows.{Row, kind, at, peak, start, rise}
 use Rattle.paper.specs.Sources.{ramp}
-use Rattle.facts.specs.Sound.{SourceSound}
+use Rattle.laws_facts.specs.Sound.{SourceSound}
 use Rattle.step_sources.specs.declared.Source.{Source}
 
 abbrev pub sourceIn : Words → Source

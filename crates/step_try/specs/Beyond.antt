@@ -7,7 +7,7 @@ use Rattle.paper.specs.Rows.{kind}
 use Rattle.paper.specs.Areas.{Net}
 use Rattle.paper.specs.Legs.{Branch, legsBy, legsOf, heard, through, current, echo, passedOn}
 use Rattle.paper.specs.Solve.{beyond, firstBeyond}
-use Rattle.facts.specs.Nets.{rowAt}
+use Rattle.laws_facts.specs.Nets.{rowAt}
 use Rattle.step_flow.specs.Flown.{passedBy}
 use Rattle.plan_ends.specs.Own.{ownEnd, ownEnds}
 use Rattle.step_legs.specs.declared.Wire.{Wire}

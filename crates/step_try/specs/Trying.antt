@@ -14,7 +14,7 @@ use Rattle.paper.specs.Elimination.{voltages}
 use Rattle.paper.specs.Legs.{Leg, Branch, legsOf, heard, bothLegs}
 use Rattle.paper.specs.Floating.{floating}
 use Rattle.paper.specs.Solve.{stop, solve, stillOf, system, proposed, outOfRange, settled, unbalanced, firstBeyond}
-use Rattle.facts.specs.Nets.{NetSound}
+use Rattle.laws_facts.specs.Nets.{NetSound}
 use Rattle.plan_ends.specs.Own.{sourceLines}
 use Rattle.plan_rows.specs.declared.Row.{Row}
 use Rattle.plan_rows.specs.Planned.{rowIn, rowOf, Planned}

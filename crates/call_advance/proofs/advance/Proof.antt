@@ -3,7 +3,7 @@ use Rattle.whole.specs.Plain.{_≡_, sym, _∙_, true, not-true, not-false}
 use borrow.Author.Needs.{needs}
 use Rattle.paper.specs.Network.{isNetwork}
 use Rattle.paper.specs.Advance.{Memory, memory, fits}
-use Rattle.lent.specs.Lengths.{lengths}
+use Rattle.call_lent.specs.Lengths.{lengths}
 use Rattle.call_advance.specs.Cases.{wrong-length, no-network, on-network}
 use Rattle.call_advance.proofs.advance.Statement.{statement}
 use Rattle.call_advance.proofs.advance.Tie as tie

@@ -1,7 +1,7 @@
 -- `call_advance::alone` meets its contract: the tables hold the area's own, and its step from them is the paper's. Assumes nothing.
 use Rattle.whole.specs.Plain.{refl, ap, [], length, replicate, getD-replicate}
 use borrow.Author.Needs.{needs}
-use Rattle.facts.specs.Nets.{netIn}
+use Rattle.laws_facts.specs.Nets.{netIn}
 use Rattle.plan_own.specs.Areas.{room-first}
 use Rattle.call_advance.specs.Given.{of, given, row-count, area-few, stepping-alone, tables-alone}
 use Rattle.call_advance.proofs.alone.Statement.{statement}

@@ -2,7 +2,7 @@
 use Rattle.whole.specs.Plain.{_≤_, _≡_, ap, _∙_, length, arith}
 use borrow.Author.Needs.{needs}
 use Rattle.paper.specs.Advance.{memory, firstLate}
-use Rattle.facts.specs.Nets.{netIn}
+use Rattle.laws_facts.specs.Nets.{netIn}
 use Rattle.plan_rows.specs.declared.Row.{Row}
 use Rattle.call_counts.specs.Lines.{rows-of}
 use Rattle.call_advance.specs.Cases.{late-in, waits, goes-on}

@@ -5,7 +5,7 @@ use Rattle.paper.specs.Areas.{areaCount}
 use Rattle.paper.specs.Rows.{steps}
 use Rattle.paper.specs.Records.{countOf, wellFormed}
 use Rattle.paper.specs.Advance.{Memory, memory}
-use Rattle.facts.specs.Nets.{netIn}
+use Rattle.laws_facts.specs.Nets.{netIn}
 use Rattle.step_area.specs.declared.Turn.{Turn}
 use Rattle.call_state.specs.Facts.{formed-counts, formed-counted}
 use Rattle.call_advance.specs.Cases.{not-formed, no-area, all-taken, next-step}

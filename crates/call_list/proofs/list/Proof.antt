@@ -3,7 +3,7 @@ use Rattle.whole.specs.Plain.{_≡_, sym, _∙_, true, length, not-true, not-fa
 use borrow.Author.Needs.{needs}
 use Rattle.paper.specs.Network.{isNetwork}
 use Rattle.paper.specs.Advance.{Memory, memory, fits}
-use Rattle.lent.specs.Lengths.{lengths}
+use Rattle.call_lent.specs.Lengths.{lengths}
 use Rattle.call_list.specs.Cases.{gives-none, lists, wrong-length, no-room, no-network, on-network}
 use Rattle.call_list.proofs.list.Statement.{statement}
 use Rattle.call_list.proofs.list.Tie as tie

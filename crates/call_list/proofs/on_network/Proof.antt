@@ -4,7 +4,7 @@ use borrow.Author.Needs.{needs}
 use Rattle.paper.specs.Records.{wellFormed}
 use Rattle.paper.specs.Advance.{Memory, memory}
 use Rattle.paper.specs.Pieces.{level}
-use Rattle.facts.specs.Nets.{netIn}
+use Rattle.laws_facts.specs.Nets.{netIn}
 use Rattle.plan_net.specs.Of.{Of, of-record}
 use Rattle.call_list.specs.Cases.{gives-none, judged}
 use Rattle.call_list.specs.Laid.{level-here}

@@ -2,7 +2,7 @@
 use Rattle.whole.specs.Plain.{ap, _∙_}
 use borrow.Author.Needs.{needs}
 use Rattle.paper.specs.Answers.{advanceNumber}
-use Rattle.answers.specs.Places.{placeOrCount}
+use Rattle.call_answers.specs.Places.{placeOrCount}
 use Rattle.emt.proofs.emt_advance.Statement.{statement}
 use Rattle.emt.proofs.emt_advance.Tie as tie
 

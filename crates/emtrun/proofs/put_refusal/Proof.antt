@@ -1,7 +1,7 @@
 -- `emtrun::put_refusal` meets its contract. Assumes nothing.
 use Rattle.whole.specs.Plain.{arith}
 use borrow.Author.Needs.{needs}
-use Rattle.digits.specs.Puts.{puts-as}
+use Rattle.list_digits.specs.Puts.{puts-as}
 use Rattle.emtrun.specs.Pieces.{bad-short}
 use Rattle.emtrun.proofs.put_refusal.Statement.{statement}
 use Rattle.emtrun.proofs.put_refusal.Tie as tie

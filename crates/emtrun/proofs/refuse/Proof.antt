@@ -2,7 +2,7 @@
 use Rattle.whole.specs.Plain.{_≤_, sym, length, length-take-le, arith}
 use borrow.Author.Needs.{needs}
 use Rattle.paper.specs.Answers.{readingNumber, readingLine}
-use Rattle.digits.specs.Puts.{puts-length}
+use Rattle.list_digits.specs.Puts.{puts-length}
 use Rattle.emtrun.specs.Pieces.{bad-short}
 use Rattle.emtrun.proofs.refuse.Statement.{statement}
 use Rattle.emtrun.proofs.refuse.Tie as tie

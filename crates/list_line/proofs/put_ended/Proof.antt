@@ -2,7 +2,7 @@
 use Rattle.whole.specs.Plain.{_+_, _≤_, length, arith}
 use borrow.Author.Needs.{needs}
 use mir.Facts.{toZ-ofZ}
-use Rattle.digits.specs.Puts.{puts-one, puts-length, room-first, room-second, both-put}
+use Rattle.list_digits.specs.Puts.{puts-one, puts-length, room-first, room-second, both-put}
 use Rattle.list_line.specs.Texts.{ended-parts}
 use Rattle.list_line.proofs.put_ended.Statement.{statement}
 use Rattle.list_line.proofs.put_ended.Tie as tie

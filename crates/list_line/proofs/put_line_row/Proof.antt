@@ -1,7 +1,7 @@
 -- `list_line::put_line_row` meets its contract: the start of the line, and two values. Assumes nothing.
 use borrow.Author.Needs.{needs}
 use mir.Facts.{toZ-ofZ}
-use Rattle.digits.specs.Puts.{room-first, room-second, both-put}
+use Rattle.list_digits.specs.Puts.{room-first, room-second, both-put}
 use Rattle.list_line.specs.Texts.{line-parts, both-parts}
 use Rattle.list_line.proofs.put_line_row.Statement.{statement}
 use Rattle.list_line.proofs.put_line_row.Tie as tie

@@ -1,7 +1,7 @@
 -- `list_line::put_row` meets its contract: two parts, one after the other. Assumes nothing.
 use borrow.Author.Needs.{needs}
 use mir.Facts.{toZ-ofZ}
-use Rattle.digits.specs.Puts.{room-first, room-second, both-put}
+use Rattle.list_digits.specs.Puts.{room-first, room-second, both-put}
 use Rattle.list_line.specs.Texts.{row-parts}
 use Rattle.list_line.proofs.put_row.Statement.{statement}
 use Rattle.list_line.proofs.put_row.Tie as tie

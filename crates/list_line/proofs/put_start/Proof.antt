@@ -1,6 +1,6 @@
 -- `list_line::put_start` meets its contract: the head, the number, a tab. Assumes nothing.
 use Rattle.whole.specs.Plain.{_+_, _≤_, _≡_, _∙_, length, length-set, arith}
-use Rattle.digits.specs.Puts.{puts-one, puts-length, room-first, room-second, both-put}
+use Rattle.list_digits.specs.Puts.{puts-one, puts-length, room-first, room-second, both-put}
 use Rattle.list_line.specs.Texts.{start-parts, count-parts}
 use Rattle.list_line.proofs.put_start.Statement.{statement}
 use Rattle.list_line.proofs.put_start.Tie as tie

@@ -1,8 +1,8 @@
 -- `list_line::spell` meets its contract. Assumes nothing.
 use Rattle.whole.specs.Plain.{_≤_, _≡_, _∙_, length, length-set, arith}
 use borrow.Author.Needs.{needs}
-use Rattle.digits.specs.Puts.{puts-one, puts-then, puts-length}
-use Rattle.digits.specs.Decimal.{shown-length}
+use Rattle.list_digits.specs.Puts.{puts-one, puts-then, puts-length}
+use Rattle.list_digits.specs.Decimal.{shown-length}
 use Rattle.list_line.specs.Heads.{spelt}
 use Rattle.list_line.proofs.spell.Statement.{statement}
 use Rattle.list_line.proofs.spell.Tie as tie

@@ -3,7 +3,7 @@
 use Rattle.whole.specs.Plain.{_+_, _-_, _≤_, _<_, _≡_, refl, ap, _∙_, [], length, getD-replicate, arith, Words}
 use denote.Enum.Declared.{tagOf}
 use Rattle.paper.specs.Advance.{memory}
-use Rattle.digits.specs.Puts.{puts-length}
+use Rattle.list_digits.specs.Puts.{puts-length}
 use Rattle.list_round.specs.Passed.{Lent}
 use Rattle.list_turn.specs.declared.Turn.{Turn}
 use Rattle.list_turn.specs.declared.Turn.the-variants.{On, Over}

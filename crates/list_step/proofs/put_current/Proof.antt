@@ -6,7 +6,7 @@ use Rattle.paper.specs.Rows.{bytes}
 use Rattle.plan_rows.specs.declared.Row.{Row}
 use Rattle.paper.specs.Rows.{branchKind}
 use Rattle.plan_rows.specs.Planned.{rowIn}
-use Rattle.digits.specs.Puts.{puts-none, puts-as}
+use Rattle.list_digits.specs.Puts.{puts-none, puts-as}
 use Rattle.list_step.specs.ByPlan.{line-of-line, line-of-branch, line-of-source}
 use Rattle.list_step.proofs.put_current.Statement.{statement}
 use Rattle.list_step.proofs.put_current.Tie as tie

@@ -1,6 +1,6 @@
 -- `list_step::put_currents` meets its contract. The invariant: the lines of the rows passed are put. Assumes nothing.
 use Rattle.whole.specs.Plain.{ℕ, _+_, _-_, _≤_, _≡_, ap, arith, numbers}
-use Rattle.digits.specs.Puts.{Puts, puts-none, puts-as, puts-length}
+use Rattle.list_digits.specs.Puts.{Puts, puts-none, puts-as, puts-length}
 use Rattle.list_step.specs.Joined.{joined, line-room, line-put}
 use Rattle.list_step.specs.ByPlan.{currentLineBy}
 use Rattle.list_step.proofs.put_currents.Statement.{statement}

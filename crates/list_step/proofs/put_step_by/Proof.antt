@@ -2,7 +2,7 @@
 use Rattle.whole.specs.Plain.{_+_, _≤_, length, arith}
 use borrow.Author.Needs.{needs}
 use Rattle.paper.specs.Listing.{stepLines}
-use Rattle.digits.specs.Puts.{room-first, room-second, both-put}
+use Rattle.list_digits.specs.Puts.{room-first, room-second, both-put}
 use Rattle.list_step.specs.ByPlan.{rows-are, nodes-are, numbered, step-parts}
 use Rattle.list_step.specs.Bounds.{lines-short}
 use Rattle.list_step.proofs.put_step_by.Statement.{statement}

@@ -3,7 +3,7 @@ use Rattle.whole.specs.Plain.{ℕ, _-_, _≤_, _<_, _≡_, ap, arith, numbers}
 use Rattle.whole.specs.Int.{read64}
 use Rattle.paper.specs.Rows.{bytes}
 use borrow.Author.Needs.{needs}
-use Rattle.digits.specs.Puts.{Puts, puts-none, puts-as, puts-length}
+use Rattle.list_digits.specs.Puts.{Puts, puts-none, puts-as, puts-length}
 use Rattle.list_step.specs.Joined.{joined, voltLine, line-room, line-put}
 use Rattle.list_step.proofs.put_volts.Statement.{statement}
 use Rattle.list_step.proofs.put_volts.Tie as tie

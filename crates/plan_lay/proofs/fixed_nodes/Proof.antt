@@ -1,6 +1,6 @@
 -- `plan_lay::fixed_nodes` meets its contract: the flags of the rows passed. Assumes nothing.
 use Rattle.whole.specs.Plain.{_-_, _≤_, _<_, _≡_, length, arith}
-use Rattle.facts.specs.Nets.{netIn}
+use Rattle.laws_facts.specs.Nets.{netIn}
 use Rattle.plan_lay.specs.Flags.{FlaggedTo, flagged-none, flagged-more, flagged-all}
 use Rattle.plan_lay.proofs.fixed_nodes.Statement.{statement}
 use Rattle.plan_lay.proofs.fixed_nodes.Tie as tie

@@ -3,8 +3,8 @@ use Rattle.whole.specs.Plain.{_≡_, sym, ap, _∙_, true, arith}
 use borrow.Author.Needs.{needs}
 use Rattle.paper.specs.Rows.{Row, fixingKind, isFixing}
 use Rattle.paper.specs.Classes.{fixing-source}
-use Rattle.facts.specs.Sound.{SourceSound}
-use Rattle.facts.specs.Nets.{netIn, rowAt, net-sound}
+use Rattle.laws_facts.specs.Sound.{SourceSound}
+use Rattle.laws_facts.specs.Nets.{netIn, rowAt, net-sound}
 use Rattle.plan_lay.specs.Flags.{flag-not, flag-put}
 use Rattle.plan_lay.proofs.flag_row.Statement.{statement}
 use Rattle.plan_lay.proofs.flag_row.Tie as tie

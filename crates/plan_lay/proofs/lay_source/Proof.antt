@@ -6,8 +6,8 @@ use Rattle.whole.specs.Int.{read64}
 use Rattle.whole.specs.Truths.{and-false}
 use Rattle.paper.specs.Rows.{Row, isSource, at, sourceKind}
 use Rattle.paper.specs.Areas.{areaOf}
-use Rattle.facts.specs.Sound.{SourceSound}
-use Rattle.facts.specs.Nets.{netIn, rowAt, net-sound}
+use Rattle.laws_facts.specs.Sound.{SourceSound}
+use Rattle.laws_facts.specs.Nets.{netIn, rowAt, net-sound}
 use Rattle.plan_ends.specs.Own.{ownSource}
 use Rattle.plan_lay.specs.Grown.{put-yes, put-no}
 use Rattle.plan_lay.specs.Sources.{source-line}

@@ -1,6 +1,6 @@
 -- `plan_lay::lay_sources` meets its contract: the sources among the rows passed are laid. Assumes nothing.
 use Rattle.whole.specs.Plain.{_-_, _≤_, _<_, _≡_, length, arith}
-use Rattle.facts.specs.Nets.{netIn}
+use Rattle.laws_facts.specs.Nets.{netIn}
 use Rattle.plan_lay.specs.Grown.{Grown}
 use Rattle.plan_lay.specs.Listed.{gathered-none, gathered-room, gathered-more}
 use Rattle.plan_lay.specs.Sources.{sourcesBy}

@@ -1,7 +1,7 @@
 -- `plan_own::lay_all` meets its contract: the areas passed are laid, with room for the rest. Assumes nothing.
 use Rattle.whole.specs.Plain.{suc, _+_, _-_, _≤_, _≡_, sym, ap, _∙_, arith}
 use Rattle.paper.specs.Areas.{areaCount}
-use Rattle.facts.specs.Nets.{netIn, net-sound, area-count-most}
+use Rattle.laws_facts.specs.Nets.{netIn, net-sound, area-count-most}
 use Rattle.plan_rows.specs.declared.Totals.{Totals}
 use Rattle.plan_own.specs.Laying.{Laying, laying-none, laying-more}
 use Rattle.plan_own.proofs.lay_all.Statement.{statement}

@@ -2,7 +2,7 @@
 use Rattle.whole.specs.Plain.{_<_, _≡_, ap, _∙_, true, false, map, length, length-map, arith}
 use borrow.Author.Needs.{needs}
 use Rattle.paper.specs.Areas.{Net, freeOf}
-use Rattle.facts.specs.Nets.{NetSound, netIn, net-sound}
+use Rattle.laws_facts.specs.Nets.{NetSound, netIn, net-sound}
 use Rattle.plan_ends.specs.Own.{ownEnds, fixedOf, sourceLines}
 use Rattle.plan_rows.specs.declared.Totals.{Totals}
 use Rattle.plan_rows.specs.Decoded.{noded}

@@ -3,7 +3,7 @@ use Rattle.whole.specs.Plain.{_≡_, sym, ap, _∙_, true, not-true, not-false,
 use borrow.Author.Needs.{needs}
 use Rattle.paper.specs.Rows.{isBranch}
 use Rattle.paper.specs.Areas.{step}
-use Rattle.facts.specs.Nets.{netIn, rowAt, net-sound}
+use Rattle.laws_facts.specs.Nets.{netIn, rowAt, net-sound}
 use Rattle.paper.specs.Rows.{branchKind}
 use Rattle.plan_rows.specs.Decoded.{branch, no-branch, sized, conductance-is}
 use Rattle.plan_rows.proofs.conductance_at.Statement.{statement}

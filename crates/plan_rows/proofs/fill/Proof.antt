@@ -3,7 +3,7 @@ use Rattle.whole.specs.Plain.{_+_, _-_, _≤_, _<_, _≡_, refl, sym, ap, _∙_
 use native.Mathlib.Numerals.{add-one}
 use Rattle.paper.specs.Areas.{branchNumber}
 use Rattle.paper.specs.Records.{offset}
-use Rattle.facts.specs.Nets.{netIn, net-sound}
+use Rattle.laws_facts.specs.Nets.{netIn, net-sound}
 use Rattle.plan_rows.specs.declared.Row.{Row}
 use Rattle.plan_rows.specs.Planned.{rowOf, PlannedTo}
 use Rattle.plan_rows.specs.Decoded.{slots-end}

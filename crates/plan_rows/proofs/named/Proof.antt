@@ -1,7 +1,7 @@
 -- `plan_rows::named` meets its contract. Assumes nothing.
 use Rattle.whole.specs.Plain.{arith}
 use borrow.Author.Needs.{needs}
-use Rattle.facts.specs.Nets.{net-sound}
+use Rattle.laws_facts.specs.Nets.{net-sound}
 use Rattle.plan_rows.specs.Decoded.{from-in, named-is}
 use Rattle.plan_rows.proofs.named.Statement.{statement}
 use Rattle.plan_rows.proofs.named.Tie as tie

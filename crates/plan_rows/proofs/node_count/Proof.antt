@@ -2,7 +2,7 @@
 use Rattle.whole.specs.Plain.{_≤_, _-_, max, _≡_, [], drop, arith, fold}
 use Rattle.whole.specs.Folds.{fold-next, fold-end}
 use Rattle.paper.specs.Areas.{named}
-use Rattle.facts.specs.Nets.{netIn, rowAt}
+use Rattle.laws_facts.specs.Nets.{netIn, rowAt}
 use Rattle.plan_rows.specs.Laws.{nodes-are}
 use Rattle.plan_rows.proofs.node_count.Statement.{statement}
 use Rattle.plan_rows.proofs.node_count.Tie as tie

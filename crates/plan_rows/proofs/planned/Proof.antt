@@ -4,7 +4,7 @@ use borrow.Author.Needs.{needs}
 use Rattle.paper.specs.Limits as Limits
 use Rattle.paper.specs.Faults as Faults
 use Rattle.paper.specs.Areas.{step}
-use Rattle.facts.specs.Nets.{NetSound, netIn, rowAt, net-sound, travel-word, branch-number-most}
+use Rattle.laws_facts.specs.Nets.{NetSound, netIn, rowAt, net-sound, travel-word, branch-number-most}
 use Rattle.plan_rows.specs.ByKind.{slotsBy, slots-by}
 use Rattle.plan_rows.specs.Planned.{rowOf}
 use Rattle.plan_rows.specs.Decoded.{from-in, to-most, slots-end, open-word, owner-from, owner-to}

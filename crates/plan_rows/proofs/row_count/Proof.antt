@@ -2,7 +2,7 @@
 use Rattle.whole.specs.Plain.{ap, _∙_, arith, nat}
 use Rattle.whole.specs.Int.{read64}
 use Rattle.whole.specs.Index.{index}
-use Rattle.facts.specs.Nets.{network-length, row-count-word}
+use Rattle.laws_facts.specs.Nets.{network-length, row-count-word}
 use Rattle.plan_rows.proofs.row_count.Statement.{statement}
 use Rattle.plan_rows.proofs.row_count.Tie as tie
 

@@ -2,7 +2,7 @@
 use Rattle.whole.specs.Plain.{sym, _∙_, arith}
 use borrow.Author.Needs.{needs}
 use Rattle.whole.specs.Int.{read64}
-use Rattle.facts.specs.Nets.{network-length, head-word}
+use Rattle.laws_facts.specs.Nets.{network-length, head-word}
 use Rattle.plan_rows.proofs.study_word.Statement.{statement}
 use Rattle.plan_rows.proofs.study_word.Tie as tie
 

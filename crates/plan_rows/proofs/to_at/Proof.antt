@@ -2,7 +2,7 @@
 use Rattle.whole.specs.Plain.{_≡_, sym, ap, _∙_, true, not-true, not-false, arith}
 use borrow.Author.Needs.{needs}
 use Rattle.paper.specs.Rows.{isBranch}
-use Rattle.facts.specs.Nets.{netIn, rowAt, net-sound}
+use Rattle.laws_facts.specs.Nets.{netIn, rowAt, net-sound}
 use Rattle.paper.specs.Rows.{branchKind}
 use Rattle.plan_rows.specs.Decoded.{branch, no-branch}
 use Rattle.plan_rows.proofs.to_at.Statement.{statement}

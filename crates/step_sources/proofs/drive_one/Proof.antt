@@ -10,7 +10,7 @@ use Rattle.paper.specs.Limits as Limits
 use Rattle.paper.specs.Rows.{Row, kind, isFixing, isIS, at, peak}
 use Rattle.paper.specs.Classes.{fixing-kinds}
 use Rattle.paper.specs.Sources.{ramp}
-use Rattle.facts.specs.Sound.{SourceSound}
+use Rattle.laws_facts.specs.Sound.{SourceSound}
 use Rattle.laws_volts.specs.Sources.{ramp-size}
 use Rattle.step_sources.specs.declared.Source.{Source}
 use Rattle.step_sources.specs.Table.{Room, give}

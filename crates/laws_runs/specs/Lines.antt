@@ -1,0 +1,85 @@
+-- T-received in voltages and currents alone: at an accepted step k of a run, the current of a line's end is g·v, less what the far end's g·v and
+-- current came to at its own accepted step k - d of that run. No store is spoken of. Assumes nothing.
+use Rattle.whole.specs.Plain.{ℕ, _-_, _≤_, _<_, _≡_, refl, sym, ap, _∙_, true, List, ℤ, negℤ, _+ℤ_, length, lt-ltb}
+use Rattle.whole.specs.Plain.{arith, Words, word}
+use Rattle.paper.specs.declared.Advance.the-variants.{Took}
+use Rattle.paper.specs.Rows.{isLine}
+use Rattle.paper.specs.Areas.{Net}
+use Rattle.paper.specs.Legs.{sentTo, sentAt}
+use Rattle.paper.specs.Advance.{Memory, advanceOf}
+use Rattle.laws_facts.specs.Nets.{netIn, rowAt}
+use Rattle.laws_local.specs.Slots.{delayAt, slotOf}
+use Rattle.laws_demands.specs.Said.{fromCurrent, toCurrent, fromSent, toSent, gv, EndObeys}
+use Rattle.laws_demands.specs.Step.{step}
+use Rattle.laws_runs.specs.Runs.{Lent, after}
+use Rattle.laws_runs.specs.Orders.{start}
+use Rattle.laws_runs.specs.Received.{Side, fromSide, toSide, far, nodeAt, storeOf, areaAt, StepIn, right-after}
+use Rattle.laws_runs.specs.Heard.{hears, received}
+
+-- the current that leaves a line's end into the line
+abbrev pub currentAt : Memory → Side → ℕ → ℤ
+currentAt m fromSide i = fromCurrent m i
+currentAt m toSide i = toCurrent m i
+
+-- g·v at that end
+abbrev pub gvAt : Net → Memory → Side → ℕ → ℤ
+gvAt N m s i = gv N m i (nodeAt s (rowAt N i))
+
+pub record LineLaw (net : Words) (m : Memory) (w : List ℕ) (k : ℕ) (s : Side) (i : ℕ) (n : Memory) : Type 0 where
+  -- k - d < 1
+  pub early : k ≤ delayAt (netIn net) i → currentAt n s i ≡ gvAt (netIn net) n s i
+  -- the far area's accepted step k - d, and what its end's g·v and current came to right after it
+  pub step : delayAt (netIn net) i < k → StepIn net m w (areaAt (netIn net) (far s) i) (k - delayAt (netIn net) i)
+  pub later : (h : delayAt (netIn net) i < k)
+      → let p = right-after net m w (areaAt (netIn net) (far s) i) (k - delayAt (netIn net) i) (step h) in
+      currentAt n s i ≡ gvAt (netIn net) n s i +ℤ negℤ (gvAt (netIn net) p (far s) i +ℤ currentAt p (far s) i)
+
+sentBy : Net → Memory → Side → ℕ → ℕ → ℤ
+sentBy N m fromSide i x = fromSent N m i x
+sentBy N m toSide i x = toSent N m i x
+
+module _ (net : Words) (lent : Memory) (ok : Lent net lent) (a : ℕ) (w : List ℕ) (k : ℕ) (e : advanceOf net a (after net w (start net lent ok)) .answer ≡ Took k) where
+  abbrev N : Net
+  N = netIn net
+
+  abbrev m : Memory
+  m = after net w (start net lent ok)
+
+  abbrev n : Memory
+  n = advanceOf net a m .after
+
+  abbrev EndOf : Memory → ℕ → Memory → Side → ℕ → Type 0
+  EndOf before x now s i = EndObeys N x i (nodeAt s (rowAt N i)) now (currentAt now s i) (sentBy N now s i x) (sentBy N before (far s) i)
+
+  end-law : (before : Memory) (b x : ℕ) → advanceOf net b before .answer ≡ Took x → (s : Side) (i : ℕ) → i < length (N .rows) → isLine (rowAt N i) ≡ true → areaAt N s i ≡ b
+      → EndOf before x (advanceOf net b before .after) s i
+  unfolding sentBy
+  end-law before b x q fromSide i h l o = step net b before x q .from-end i h l o
+  end-law before b x q toSide i h l o = step net b before x q .to-end i h l o
+
+  heard-is : (s : Side) (i : ℕ) → delayAt N i < k → hears N m k s i ≡ sentBy N m (far s) i (k - delayAt N i)
+  unfolding sentTo sentAt sentBy
+  heard-is fromSide i h = rw (lt-ltb 0 (k - delayAt N i) (omega arith))
+  heard-is toSide i h = rw (lt-ltb 0 (k - delayAt N i) (omega arith))
+
+  store-is : (p : Memory) (s : Side) (i x : ℕ) (y : ℤ) → y ≡ word (storeOf s p) (slotOf N i x) → y ≡ sentBy N p s i x
+  unfolding sentBy
+  store-is p fromSide i x y h = h
+  store-is p toSide i x y h = h
+
+  -- T-received, of the current that the step wrote
+  pub line-law : (i : ℕ) → i < length (N .rows) → isLine (rowAt N i) ≡ true → (s : Side) → areaAt N s i ≡ a → LineLaw net (start net lent ok) w k s i n
+  line-law i h l s o =
+      let own = end-law m a k e s i h l o in
+      let got = received net lent ok a w k e i h l s o .later in
+      let b = areaAt N (far s) i in
+      let x = k - delayAt N i in
+      record {
+        early = own .early;
+        step = λ d. got d .step;
+        later = λ d.
+            let t = got d .step in
+            own .later d
+            ∙ ap (λ (y : ℤ). gvAt N n s i +ℤ y) (sym (heard-is s i d) ∙ store-is (right-after net (start net lent ok) w b x t) (far s) i x (hears N m k s i) (got d .value)
+            ∙ end-law (after net (t .before) (start net lent ok)) b x (t .answer) (far s) i h l refl .sent);
+      }

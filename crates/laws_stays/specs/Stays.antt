@@ -1,0 +1,164 @@
+-- T-fresh and T-stays: what reset writes is well formed, and a call leaves a well-formed state well formed. Assumes nothing.
+use Rattle.whole.specs.Plain.{ℕ, zero, suc, _+_, _-_, _≤_, _<_, _≡_, refl, sym, ap, _∙_, _≢_, Bool, true, false, List}
+use Rattle.whole.specs.Plain.{nonNeg, length, replicate, ℕ-discrete, arith, Words, z, word, nat}
+use Rattle.paper.specs.declared.Advance.{Advance}
+use Rattle.paper.specs.Limits as Limits
+use Rattle.paper.specs.Answers.{accepted}
+use Rattle.paper.specs.Rows.{from, to, steps}
+use Rattle.paper.specs.Areas.{Net, areaOf, areaCount}
+use Rattle.paper.specs.Records.{countAt, countOf, wellFormed}
+use Rattle.paper.specs.Legs.{Branch, Heard, heard, legsBy}
+use Rattle.paper.specs.Solve.{stop, move, solve}
+use Rattle.paper.specs.Advance.{Memory, written, onNet}
+use Rattle.paper.specs.Resetting.{fresh}
+use Rattle.laws_facts.specs.Nets.{NetSound, rowAt, area-of}
+use Rattle.laws_local.specs.Sound.{Sound, sound}
+use Rattle.laws_local.specs.Own.{other-count}
+use Rattle.laws_local.specs.Written.{new, records-length, records-keep, count-put}
+use Rattle.laws_local.specs.Slots.{delayAt, sent-length}
+use Rattle.laws_local.specs.Waits.{Free, not-late}
+use Rattle.laws_local.specs.Outcome.{stepOf, legsNow, voltsOf, large, Taken, taken, refused, Solving, floats, leaves, tips, exceeds, solves, solving}
+use Rattle.laws_stays.specs.Formed.{Formed, formed, well-formed}
+use Rattle.laws_stays.specs.Volts.{AllVolts, step-volts}
+use Rattle.laws_stays.specs.Sizes.{InRange, none-beyond}
+use Rattle.laws_stays.specs.Bounds.{records-bounded, froms-bounded, tos-bounded}
+
+-- ---- T-fresh
+
+pub zero-word : (n j : ℕ) → word (replicate n z) j ≡ z
+zero-word zero j = refl
+zero-word (suc n) zero = refl
+zero-word (suc n) (suc j) = zero-word n j
+
+fresh-formed : (N : Net) → Formed N fresh
+unfolding fresh
+fresh-formed N =
+    record {
+      signs = λ j _ _. rw (zero-word 512 j);
+      records = λ j. rw (zero-word 512 j) (omega arith);
+      from-near = λ i _ _. rw (zero-word 512 (countAt (areaOf N (from (rowAt N i)))), zero-word 512 (countAt (areaOf N (to (rowAt N i))))) (omega arith);
+      to-near = λ i _ _. rw (zero-word 512 (countAt (areaOf N (from (rowAt N i)))), zero-word 512 (countAt (areaOf N (to (rowAt N i))))) (omega arith);
+      froms = λ j. rw (zero-word 4096 j) (omega arith);
+      tos = λ j. rw (zero-word 4096 j) (omega arith);
+    }
+
+pub fresh-well : (N : Net) → wellFormed N (fresh .records) (fresh .froms) (fresh .tos) ≡ true
+fresh-well N = well-formed N fresh (fresh-formed N)
+
+-- ---- the lengths
+
+-- "a lent length wrong": the lengths that pass refusal 9
+pub record Long (m : Memory) : Type 0 where
+  pub records : length (m .records) ≡ Limits.recordWords
+  pub froms : length (m .froms) ≡ Limits.storeWords
+  pub tos : length (m .tos) ≡ Limits.storeWords
+
+-- ---- counts after the step of one area
+
+module _ (N : Net) (f : Sound N) (m : Memory) (long : Long m) (a k : ℕ) (one : 1 ≤ a) (most : a ≤ areaCount N) (ears : List Heard) (v : Words) where
+  abbrev after : Words
+  after = new N a k (m .records) ears v (m .records)
+
+  pub counted : countOf after a ≡ k
+  counted = ap nat (count-put N a k (m .records) ears v f (m .records) (long .records) one most)
+
+  pub uncounted : (b : ℕ) → 1 ≤ b → b ≤ 32 → b ≢ a → countOf after b ≡ countOf (m .records) b
+  uncounted b l h n = ap nat (records-keep N a k _ v (m .records) (countAt b) (other-count N a b one l h n))
+
+  -- "areas at a line's two ends differ by at most d in count": x and y are the areas at its ends
+  near-stays : (x y d : ℕ) → 1 ≤ x → x ≤ 32 → 1 ≤ y → y ≤ 32 → k ≡ suc (countOf (m .records) a)
+      → (x ≡ a → k ≤ countOf (m .records) y + d) → countOf (m .records) x ≤ countOf (m .records) y + d → countOf after x ≤ countOf after y + d
+  near-stays x y d x1 x32 y1 y32 e free old = go (ℕ-discrete x a) (ℕ-discrete y a)
+    where
+      go : Dec (x ≡ a) → Dec (y ≡ a) → countOf after x ≤ countOf after y + d
+      go (yes p) (yes q) = rw (p, q) (omega arith)
+      go (yes p) (no q) = let h : k ≤ countOf (m .records) y + d = free p in rw (p, counted, uncounted y y1 y32 q) h
+      go (no p) (yes q) =
+          let h : countOf (m .records) x ≤ countOf (m .records) a + d = rw q at old in
+          rw (q, counted, uncounted x x1 x32 p) (omega arith)
+      go (no p) (no q) = rw (uncounted x x1 x32 p, uncounted y y1 y32 q) old
+
+-- ---- the step
+
+pub stop-move : {x : Advance} {bs : List Branch} {v : Words} → stop x ≡ move bs v → ⊥
+stop-move e = let z : _≡_ {A = ℕ} 0 1 = cc in omega arith
+
+module _ (N : Net) (s : NetSound N) (a : ℕ) (m : Memory) (long : Long m) (good : wellFormed N (m .records) (m .froms) (m .tos) ≡ true) where
+  abbrev k : ℕ
+  k = stepOf N a m
+
+  abbrev v : Words
+  v = voltsOf N a k (legsNow N a m)
+
+  abbrev ears : List Heard
+  ears = heard N a k (m .froms) (m .tos)
+
+  abbrev next : Memory
+  next = written N a k (legsNow N a m) v m
+
+  snd : Sound N
+  snd = sound N s
+
+  f : Formed N m
+  f = formed N m good
+
+  pub next-long : Long next
+  unfolding written
+  next-long =
+      record {
+        records = records-length N a k (legsNow N a m) v (m .records) ∙ long .records;
+        froms = sent-length N a k (m .records) ears v (λ b. b .fromEnd) (m .froms) ∙ long .froms;
+        tos = sent-length N a k (m .records) ears v (λ b. b .toEnd) (m .tos) ∙ long .tos;
+      }
+
+  next-formed : 1 ≤ a → a ≤ areaCount N → k ≤ steps (N .head) → Free N a k (m .records) → large N a k (legsNow N a m) ≡ 0 → Formed N next
+  unfolding written
+  next-formed one most room free small =
+      record {
+        signs = λ j h _. sign j h;
+        records = records-bounded N s m f a k one most room v volts inside;
+        from-near = λ i h l.
+            near-stays N snd m long a k one most ears v (areaOf N (from (rowAt N i))) (areaOf N (to (rowAt N i))) (delayAt N i)
+            (snd .from-area i l) (omega (arith, area-of N (from (rowAt N i)), snd .areas)) (snd .to-area i l) (omega (arith, area-of N (to (rowAt N i)), snd .areas)) refl
+            (free i h l .at-from) (f .from-near i h l);
+        to-near = λ i h l.
+            near-stays N snd m long a k one most ears v (areaOf N (to (rowAt N i))) (areaOf N (from (rowAt N i))) (delayAt N i)
+            (snd .to-area i l) (omega (arith, area-of N (to (rowAt N i)), snd .areas)) (snd .from-area i l) (omega (arith, area-of N (from (rowAt N i)), snd .areas)) refl
+            (free i h l .at-to) (f .to-near i h l);
+        froms = froms-bounded N s m f a k one most room v volts inside;
+        tos = tos-bounded N s m f a k one most room v volts inside;
+      }
+    where
+      volts : AllVolts v
+      volts = step-volts N s a k (legsNow N a m)
+
+      inside : (i : ℕ) → i < length (N .rows) → InRange v (rowAt N i) (legsBy N a k (m .records) ears i)
+      inside = none-beyond N a k (m .records) ears v small
+
+      sign : (j : ℕ) → j < 32 → nonNeg (word (new N a k (m .records) ears v (m .records)) j) ≡ true
+      sign j h = go (ℕ-discrete j (countAt a))
+        where
+          go : Dec (j ≡ countAt a) → nonNeg (word (new N a k (m .records) ears v (m .records)) j) ≡ true
+          go (yes e) = rw (e, count-put N a k (m .records) ears v snd (m .records) (long .records) one most)
+          go (no n) =
+              let q : suc j - 1 ≡ j = omega arith in
+              rw (records-keep N a k (legsNow N a m) v (m .records) j (rw q at (other-count N a (suc j) one (omega arith) (omega arith) (λ e. n (omega arith)))))
+              (f .signs j h (rw (long .records) (omega arith)))
+
+  solved-small : Solving N a k (legsNow N a m) → solve N a k (legsNow N a m) ≡ move (legsNow N a m) v → large N a k (legsNow N a m) ≡ 0
+  solved-small (floats n p e) q = absurd (stop-move (sym e ∙ q))
+  solved-small (leaves n p o e) q = absurd (stop-move (sym e ∙ q))
+  solved-small (tips n p o h e) q = absurd (stop-move (sym e ∙ q))
+  solved-small (exceeds n p o h b e) q = absurd (stop-move (sym e ∙ q))
+  solved-small (solves p o h b e) q = b
+
+  pub step-formed : Taken N a m good → Formed N next
+  step-formed t = next-formed (t .one) (t .most) (t .undone) (not-late N a k (m .records) (t .free)) (solved-small (solving N a k (legsNow N a m)) (t .solved))
+
+  -- T-stays, of every call
+  pub stays : Long (onNet N a m .after) × (wellFormed N (onNet N a m .after .records) (onNet N a m .after .froms) (onNet N a m .after .tos) ≡ true)
+  stays = go (accepted (onNet N a m .answer)) refl
+    where
+      go : (b : Bool) → accepted (onNet N a m .answer) ≡ b → Long (onNet N a m .after) × (wellFormed N (onNet N a m .after .records) (onNet N a m .after .froms) (onNet N a m .after .tos) ≡ true)
+      go true e = let t = taken N a m good e in rw (t .is) (next-long, well-formed N next (step-formed t))
+      go false e = rw (refused N a m good e) (long, good)

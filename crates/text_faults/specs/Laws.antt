@@ -1,0 +1,153 @@
+-- From a row's words to what its faults ask. Assumes nothing.
+use Rattle.whole.specs.Plain.{ℕ, suc, _+_, _≤_, _<_, _≡_, refl, sym, _∙_, ap, Bool, true, false, not, cond, _&&_, _||_}
+use Rattle.whole.specs.Plain.{true≢false, false≢true, List, [], _∷_, tail, T, leb, ltb, eqb, ℤ, pos, negsuc, natAbs}
+use Rattle.whole.specs.Plain.{nonNeg, length, ne-eqb, eqb-true, le-trans, div-le-self, arith, Words, word, nat, between}
+use Rattle.whole.specs.Plain.{count}
+use Rattle.whole.specs.Folds.{or-left}
+use Rattle.paper.specs.Rows.{bytes, kinds, kind, fieldsOf, branchKind, sourceKind, isStudy, isBranch, stepLength, from, to, closes, opens, travel}
+use Rattle.paper.specs.Classes.{kind-count}
+use Rattle.paper.specs.Conductance.{conductance, ofOhms, ofHenries, ofFarads}
+use Rattle.paper.specs.Faults.{outside, nodeFault, valueFault, travelFault, slots}
+use Rattle.text_kinds.specs.Table.{namesOf, low, high, outsideFrom}
+use Rattle.text_kinds.specs.Fields.{each, names-few, fields-few, outside-names, outside-values, field-in, in-range}
+use Rattle.text_faults.specs.declared.Seen.{Seen}
+use Rattle.text_faults.specs.Seen.{headOf, Sized, conductanceOf, seenDouble, seenFull, seenFault, fixedAfter, seenAfter}
+
+-- ---- the kind as an index
+
+pub kind-sign : (x : ℤ) → kind (x ∷ []) < 8 → T (nonNeg x)
+kind-sign (pos k) h = tt
+kind-sign (negsuc n) h = absurd (omega (arith, kind-count))
+
+pub kind-size : (x : ℤ) → kind (x ∷ []) < 8 → natAbs x ≡ kind (x ∷ [])
+kind-size (pos k) h = refl
+kind-size (negsuc n) h = absurd (omega (arith, kind-count))
+
+-- ---- a branch's size
+
+branch-names : (k : ℕ) → k < 8 → namesOf k ≤ 2
+unfolding namesOf fieldsOf kinds bytes count
+branch-names = each (λ k. namesOf k ≤ 2) (omega arith) (omega arith) (omega arith) (omega arith) (omega arith) (omega arith) (omega arith) (omega arith)
+
+branch-fields : (k : ℕ) → k < 8 → 2 < length (fieldsOf k)
+unfolding fieldsOf kinds bytes
+branch-fields = each (λ k. 2 < length (fieldsOf k)) (omega arith) (omega arith) (omega arith) (omega arith) (omega arith) (omega arith) (omega arith) (omega arith)
+
+module _ (step : ℕ) (l : 1 ≤ step) (h : step ≤ 1000000) where
+  -- whose range is from low to end, and which is no C, or C's
+  of-range : (k low end : ℕ) (x : ℤ) → 1 ≤ low → end ≤ 1000000000000 → (k ≡ 3 → end ≤ 1000000000) → between (pos low) (pos end) x ≡ true → Sized step k (nat x)
+  of-range k low end x p q r b =
+      let t = in-range low end x b in
+      record { long = l; short = h; some = omega arith; most = omega arith; farads = λ (e : k ≡ 3). let m = r e in omega arith }
+
+  branch-size : (k : ℕ) → k < 8 → (x : ℤ) → branchKind k ≡ true → between (low k 2) (high k 2) x ≡ true → Sized step k (nat x)
+  unfolding low high fieldsOf branchKind kinds bytes
+  branch-size k known x = each (λ k. branchKind k ≡ true → between (low k 2) (high k 2) x ≡ true → Sized step k (nat x))
+      (λ f b. absurd (false≢true f))
+      (λ f b. of-range 1 1000 1000000000000 x (omega arith) (omega arith) (λ e. absurd (omega arith)) b)
+      (λ f b. of-range 2 1 1000000000000 x (omega arith) (omega arith) (λ e. absurd (omega arith)) b)
+      (λ f b. of-range 3 1 1000000000 x (omega arith) (omega arith) (λ e. omega arith) b)
+      (λ f b. of-range 4 1000 1000000000000 x (omega arith) (omega arith) (λ e. absurd (omega arith)) b)
+      (λ f b. of-range 5 1000 1000000000000 x (omega arith) (omega arith) (λ e. absurd (omega arith)) b)
+      (λ f b. absurd (false≢true f))
+      (λ f b. absurd (false≢true f))
+      k known
+
+-- ---- the faults of one row, of what code has read of it
+
+module _ (w : Words) (few : 6 ≤ length w) (known : kind w < 8) {k : ℕ} (e : k ≡ kind w) where
+  pub names-fit : {n : ℕ} → n ≡ namesOf k → n ≤ 5
+  names-fit p = rw (p, e) (le-trans (names-few (kind w) known) (fields-few (kind w) known))
+
+  pub fields-fit : {n : ℕ} → n ≡ length (fieldsOf k) → n ≤ 5
+  fields-fit p = rw (p, e) (fields-few (kind w) known)
+
+  pub node-is : {n a b : ℕ} {o br so : Bool} → a ≡ from w → b ≡ to w → n ≡ namesOf k → o ≡ outsideFrom k 0 n w → br ≡ branchKind k → so ≡ sourceKind k
+      → (((o || (br && eqb a b)) || (so && eqb a 0)) || (eqb k 4 && (eqb a 0 || eqb b 0))) ≡ nodeFault w
+  unfolding nodeFault
+  node-is p q r s t u = rw (p, q, s, r, t, u, e, outside-names w few (kind w) known)
+
+  -- VALUE: the fields first
+  pub values-are : {n m : ℕ} {o : Bool} → n ≡ namesOf k → m ≡ length (fieldsOf k) → o ≡ outsideFrom k n m w → o ≡ outside false (fieldsOf (kind w)) (tail w)
+  values-are p q r = rw (r, p, q, e) (outside-values w few (kind w) known)
+
+  pub value-out : (step : ℕ) → outside false (fieldsOf (kind w)) (tail w) ≡ true → true ≡ valueFault (headOf step) w
+  unfolding valueFault
+  value-out step o = rw o
+
+  pub value-none : (step : ℕ) {br : Bool} → outside false (fieldsOf (kind w)) (tail w) ≡ false → br ≡ branchKind k → br ≡ false → false ≡ valueFault (headOf step) w
+  unfolding valueFault branchKind kinds
+  value-none step {br} o p q =
+      let n : isBranch w ≡ false = rw (← e) (sym p ∙ q) in
+      rw (o, n, ne-eqb (kind w) 5 (λ (f : kind w ≡ 5). true≢false (sym (ap branchKind f) ∙ n)))
+
+  pub value-is : (step : ℕ) {br : Bool} {g shut opened size : ℕ} → outside false (fieldsOf (kind w)) (tail w) ≡ false → br ≡ branchKind k → br ≡ true
+      → size ≡ nat (word w 3) → g ≡ conductanceOf step k size → shut ≡ closes w → opened ≡ opens w
+      → ((eqb k 5 && leb opened shut) || not (leb 1 g && leb g 1000000000)) ≡ valueFault (headOf step) w
+  unfolding valueFault conductance ofOhms ofHenries ofFarads conductanceOf
+  value-is step o p q r s t u = let b : isBranch w ≡ true = rw (← e) (sym p ∙ q) in rw (o, b, s, r, t, u, e)
+
+  -- the size of a branch, for its conductance
+  pub sized : (step : ℕ) {br : Bool} {size : ℕ} → 1 ≤ step → step ≤ 1000000 → outside false (fieldsOf (kind w)) (tail w) ≡ false → br ≡ branchKind k → br ≡ true
+      → size ≡ nat (word w 3) → Sized step k size
+  sized step l h o p q r = rw (r, e) (branch-size step l h (kind w) known (word w 3) (rw (← e) (sym p ∙ q)) (field-in (kind w) (namesOf (kind w)) (length (fieldsOf (kind w))) w (outside-values w few (kind w) known ∙ o) 2 (branch-names (kind w) known) (branch-fields (kind w) known)))
+
+-- ---- a line's slots
+
+pub line-travel : (w : Words) → 6 ≤ length w → (step : ℕ) → kind w ≡ 4 → valueFault (headOf step) w ≡ false → travel w ≤ 1000000000
+unfolding valueFault fieldsOf kinds bytes low high namesOf count
+line-travel w few step e f =
+    let known : kind w < 8 = rw e (omega arith) in
+    of-line (kind w) e (outside-values w few (kind w) known ∙ or-left _ _ (or-left _ _ f))
+  where
+    of-line : (k : ℕ) → k ≡ 4 → outsideFrom k (namesOf k) (length (fieldsOf k)) w ≡ false → nat (word w 4) ≤ 1000000000
+    of-line k p o = in-range 1 1000000000 (word w 4) (field-in 4 2 4 w (rw p at o) 3 (omega arith) (omega arith)) .1 .1
+
+-- ---- what is seen
+
+pub slots-small : (w : Words) → 6 ≤ length w → (step : ℕ) → valueFault (headOf step) w ≡ false → slots (headOf step) w ≤ 2000000000
+unfolding slots
+slots-small w few step f = by-test (eqb (kind w) 4) refl
+  where
+    by-test : (t : Bool) → eqb (kind w) 4 ≡ t → slots (headOf step) w ≤ 2000000000
+    by-test true e = let t = line-travel w few step (eqb-true (kind w) 4 e) f in rw e (omega (arith, div-le-self (travel w) step))
+    by-test false e = rw e (omega arith)
+
+pub full-is : (s : Seen) (w : Words) {k n : ℕ} {br so : Bool} → k ≡ kind w → br ≡ branchKind k → so ≡ sourceKind k → n ≡ slots (headOf (s .step)) w
+    → ((br && leb 64 (s .branches)) || (so && leb 16 (s .sources)) || ltb 4096 (s .slots + n)) ≡ seenFull s w
+unfolding seenFull
+full-is s w e p q r = rw (p, q, r, e)
+
+-- ---- a row without fault
+
+pub record Faultless (s : Seen) (w : Words) : Type 0 where
+  pub node : nodeFault w ≡ false
+  pub value : valueFault (headOf (s .step)) w ≡ false
+  pub travel : travelFault (headOf (s .step)) w ≡ false
+  pub double : seenDouble s w ≡ false
+  pub full : seenFull s w ≡ false
+
+-- where the first of two is no fault, it is the second
+pub none-first : (b : Bool) (m n : ℕ) → cond b (suc m) n ≡ 0 → (b ≡ false) × (n ≡ 0)
+none-first true m n e = absurd (omega arith)
+none-first false m n e = (refl, e)
+
+pub faultless : (s : Seen) (w : Words) → seenFault s w ≡ 0 → Faultless s w
+unfolding seenFault
+faultless s w e =
+    let a = none-first (nodeFault w) 1 _ e in
+    let b = none-first (valueFault (headOf (s .step)) w) 2 _ (a .1) in
+    let c = none-first (travelFault (headOf (s .step)) w) 3 _ (b .1) in
+    let d = none-first (seenDouble s w) 4 _ (c .1) in
+    let f = none-first (seenFull s w) 5 0 (d .1) in
+    record { node = a .0; value = b .0; travel = c .0; double = d .0; full = f .0 }
+
+pub one-most : (b : Bool) {n : ℕ} → n ≡ cond b 1 0 → n ≤ 1
+one-most true e = omega arith
+one-most false e = omega arith
+
+pub after-is : (s : Seen) (w : Words) {k step n b o : ℕ} {br so : Bool} {fixed : List Bool} → k ≡ kind w → fixed ≡ fixedAfter (s .fixed) w
+    → step ≡ cond (isStudy w) (stepLength w) (s .step) → br ≡ branchKind k → b ≡ cond br 1 0 → so ≡ sourceKind k → o ≡ cond so 1 0 → n ≡ slots (headOf (s .step)) w
+    → _≡_ {A = Seen} (record { step = step; branches = s .branches + b; sources = s .sources + o; slots = s .slots + n; fixed = fixed }) (seenAfter s w)
+unfolding seenAfter
+after-is s w e f g h i j k l = rw (f, g, i, h, k, j, l, e)

@@ -1,0 +1,111 @@
+// The table of kinds: "study, R, L, C, LINE, SW, VS, IS", kinds 0 to 7. A kind's fields that name a node are its first.
+ghost use Rattle.whole.specs.Plain.{_≤_, _<_, _+_, _≡_, length, between};
+ghost use Rattle.paper.specs.Rows.{fieldsOf};
+ghost use Rattle.text_kinds.specs.Table.{namesOf, lowsOf, highsOf, outsideFrom};
+use paper::Balance;
+use paper::Farads;
+use paper::Henries;
+use paper::Injection;
+use paper::Node;
+use paper::Ohms;
+use paper::Rise;
+use paper::Start;
+use paper::StepLength;
+use paper::Steps;
+use paper::Switching;
+use paper::Travel;
+use paper::Voltage;
+
+// Each is a match and no constant array, which would be laid out anew at each use.
+pub fn fields(kind: usize) -> usize
+    requires { ⌜ kind < 8 ⌝ }
+    ensures { λ r. ⌜ r ≡ length (fieldsOf kind) ⌝ }
+{
+    match kind {
+        4 => 4,
+        5 => 5,
+        6 => 4,
+        7 => 4,
+        _ => 3,
+    }
+}
+
+pub fn names(kind: usize) -> usize
+    requires { ⌜ kind < 8 ⌝ }
+    ensures { λ r. ⌜ r ≡ namesOf kind ⌝ }
+{
+    match kind {
+        0 => 0,
+        6 => 1,
+        7 => 1,
+        _ => 2,
+    }
+}
+
+// The least that each field of a kind may be, and the most.
+pub fn lows(kind: usize) -> [i64; 5]
+    requires { ⌜ kind < 8 ⌝ }
+    ensures { λ r. ⌜ r ≡ lowsOf kind ⌝ }
+{
+    match kind {
+        0 => [StepLength::MIN, Steps::MIN, Balance::MIN, 0, 0],
+        1 => [Node::MIN, Node::MIN, Ohms::MIN, 0, 0],
+        2 => [Node::MIN, Node::MIN, Henries::MIN, 0, 0],
+        3 => [Node::MIN, Node::MIN, Farads::MIN, 0, 0],
+        4 => [Node::MIN, Node::MIN, Ohms::MIN, Travel::MIN, 0],
+        5 => [
+            Node::MIN,
+            Node::MIN,
+            Ohms::MIN,
+            Switching::MIN,
+            Switching::MIN,
+        ],
+        6 => [Node::MIN, Voltage::MIN, Start::MIN, Rise::MIN, 0],
+        _ => [Node::MIN, Injection::MIN, Start::MIN, Rise::MIN, 0],
+    }
+}
+
+fn highs(kind: usize) -> [i64; 5]
+    requires { ⌜ kind < 8 ⌝ }
+    ensures { λ r. ⌜ r ≡ highsOf kind ⌝ }
+{
+    match kind {
+        0 => [StepLength::MAX, Steps::MAX, Balance::MAX, 0, 0],
+        1 => [Node::MAX, Node::MAX, Ohms::MAX, 0, 0],
+        2 => [Node::MAX, Node::MAX, Henries::MAX, 0, 0],
+        3 => [Node::MAX, Node::MAX, Farads::MAX, 0, 0],
+        4 => [Node::MAX, Node::MAX, Ohms::MAX, Travel::MAX, 0],
+        5 => [
+            Node::MAX,
+            Node::MAX,
+            Ohms::MAX,
+            Switching::MAX,
+            Switching::MAX,
+        ],
+        6 => [Node::MAX, Voltage::MAX, Start::MAX, Rise::MAX, 0],
+        _ => [Node::MAX, Injection::MAX, Start::MAX, Rise::MAX, 0],
+    }
+}
+
+fn within(low: i64, high: i64, x: i64) -> bool
+    ensures { λ r. ⌜ r ≡ between low high x ⌝ }
+{
+    (low <= x) & (x <= high)
+}
+
+// A field of a kind, from the place i below end, out of its range.
+pub fn outside(kind: usize, first: usize, end: usize, row: [i64; 8]) -> bool
+    requires { ⌜ (kind < 8) × (end ≤ 5) ⌝ }
+    ensures { λ r. ⌜ r ≡ outsideFrom kind first end row ⌝ }
+{
+    let low = lows(kind);
+    let high = highs(kind);
+    let mut i = first;
+    while i < end {
+        if !within(low[i], high[i], row[1 + i]) {
+            return true;
+        }
+        i += 1;
+    }
+    false
+}
