@@ -1,8 +1,7 @@
 // "When an answer is an enum, a definition gives this paper's number and values for each of its cases": the same in code.
-ghost use mathlib.Core.Path.{_≡_};
-ghost use Rattle.paper.specs.Answers.{readingNumber, readingLine, resettingNumber, advanceNumber, advancePlace};
+ghost use Rattle.whole.specs.Plain.{_≡_, _+_};
+ghost use Rattle.paper.specs.Answers.{readingNumber, readingLine, resettingNumber, advanceNumber, advancePlace, advanceCount};
 ghost use Rattle.paper.specs.Pieces.{listingNumber};
-ghost use Rattle.call_answers.specs.Places.{placeOrCount};
 use paper::Advance;
 use paper::Listing;
 use paper::Reading;
@@ -88,9 +87,9 @@ pub fn advance_place(answer: Advance) -> u64
     }
 }
 
-// The new count of an area that has advanced, or the place.
+// The new count of an area that has advanced, or the place: no answer has both, so that their sum is the one that it has.
 pub fn place_or_count(answer: Advance) -> u64
-    ensures { λ r. ⌜ r ≡ placeOrCount answer ⌝ }
+    ensures { λ r. ⌜ r ≡ advancePlace answer + advanceCount answer ⌝ }
 {
     match answer {
         Advance::Took(count) => count,

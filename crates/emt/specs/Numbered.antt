@@ -1,28 +1,44 @@
--- The calls as C sees them: the paper's number for the answer, and beside it the line, the place or the count. Assumes nothing.
-use Rattle.whole.specs.Plain.{ℕ, _≡_, List, _++_, length, drop, Words}
-use Rattle.paper.specs.Answers.{readingNumber, readingLine, resettingNumber, advanceNumber}
+-- The calls as C sees them: the paper's number for the answer, and beside it the line, the place or the count;
+-- and T-one, that each contract leaves nothing open. Assumes nothing.
+use Rattle.whole.specs.Plain.{ℕ, _+_, _≡_, sym, _∙_, List, _++_, length, drop, Words}
+use Rattle.paper.specs.Answers.{readingNumber, readingLine, resettingNumber, advanceNumber, advancePlace, advanceCount}
 use Rattle.paper.specs.Reading.{readOf}
 use Rattle.paper.specs.Advance.{Memory, advanceOf}
 use Rattle.paper.specs.Resetting.{resetOf}
 use Rattle.paper.specs.Pieces.{listingNumber, listOf}
-use Rattle.call_answers.specs.Places.{placeOrCount}
 
 pub record ReadsBy (text : List ℕ) (net : Words) (number line : ℕ) (after : Words) : Type 0 where
   pub answer : number ≡ readingNumber (readOf text net .answer)
   pub line-of : line ≡ readingLine (readOf text net .answer)
   pub network : after ≡ readOf text net .network
 
+pub read-by-one : (text : List ℕ) (net : Words) {x y l k : ℕ} {v w : Words} → ReadsBy text net x l v → ReadsBy text net y k w → (x ≡ y) × ((l ≡ k) × (v ≡ w))
+read-by-one text net p q = (p .answer ∙ sym (q .answer), (p .line-of ∙ sym (q .line-of), p .network ∙ sym (q .network)))
+
 pub record ResetsBy (net : Words) (m : Memory) (number : ℕ) (after : Memory) : Type 0 where
   pub answer : number ≡ resettingNumber (resetOf net m .answer)
   pub memory : after ≡ resetOf net m .after
 
+pub reset-by-one : (net : Words) (m : Memory) {x y : ℕ} {v w : Memory} → ResetsBy net m x v → ResetsBy net m y w → (x ≡ y) × (v ≡ w)
+reset-by-one net m p q = (p .answer ∙ sym (q .answer), p .memory ∙ sym (q .memory))
+
+-- the paper's place and the paper's count in one number: no answer has both
 pub record AdvancesBy (net : Words) (a : ℕ) (m : Memory) (number place : ℕ) (after : Memory) : Type 0 where
   pub answer : number ≡ advanceNumber (advanceOf net a m .answer)
-  pub place-of : place ≡ placeOrCount (advanceOf net a m .answer)
+  pub place-of : place ≡ advancePlace (advanceOf net a m .answer) + advanceCount (advanceOf net a m .answer)
   pub memory : after ≡ advanceOf net a m .after
+
+pub advance-by-one : (net : Words) (a : ℕ) (m : Memory) {x y l k : ℕ} {v w : Memory}
+    → AdvancesBy net a m x l v → AdvancesBy net a m y k w → (x ≡ y) × ((l ≡ k) × (v ≡ w))
+advance-by-one net a m p q = (p .answer ∙ sym (q .answer), (p .place-of ∙ sym (q .place-of), p .memory ∙ sym (q .memory)))
 
 pub record ListsBy (net : Words) (m : Memory) (out : List ℕ) (number written : ℕ) (b : List ℕ) (after : Memory) : Type 0 where
   pub answer : number ≡ listingNumber (listOf net m (length out) .answer)
   pub count : written ≡ length (listOf net m (length out) .written)
   pub buffer : b ≡ listOf net m (length out) .written ++ drop (length (listOf net m (length out) .written)) out
   pub memory : after ≡ listOf net m (length out) .after
+
+pub list-by-one : (net : Words) (m : Memory) (out : List ℕ) {x y i j : ℕ} {a b : List ℕ} {v w : Memory}
+    → ListsBy net m out x i a v → ListsBy net m out y j b w → (x ≡ y) × ((i ≡ j) × ((a ≡ b) × (v ≡ w)))
+list-by-one net m out p q =
+    (p .answer ∙ sym (q .answer), (p .count ∙ sym (q .count), (p .buffer ∙ sym (q .buffer), p .memory ∙ sym (q .memory))))

@@ -1,15 +1,14 @@
 -- `emt::emt_advance` meets its contract: the number of what `advance` answers, and the count or the place. Assumes nothing.
-use Rattle.whole.specs.Plain.{ap, _∙_}
+use Rattle.whole.specs.Plain.{_+_, ap, _∙_}
 use borrow.Author.Needs.{needs}
-use Rattle.paper.specs.Answers.{advanceNumber}
-use Rattle.call_answers.specs.Places.{placeOrCount}
+use Rattle.paper.specs.Answers.{advanceNumber, advancePlace, advanceCount}
 use Rattle.emt.proofs.emt_advance.Statement.{statement}
 use Rattle.emt.proofs.emt_advance.Tie as tie
 
 returns : tie.Need-returns
 returns c =
     let r = c .before .before .before .before .before .advance .ensures in
-    record { answer = c .advance-number .ensures ∙ ap advanceNumber (r .answer); place-of = c .before .place-or-count .ensures ∙ ap placeOrCount (r .answer); memory = r .memory }
+    record { answer = c .advance-number .ensures ∙ ap advanceNumber (r .answer); place-of = c .before .place-or-count .ensures ∙ ap (λ x. advancePlace x + advanceCount x) (r .answer); memory = r .memory }
 
 pub emt-advance-spec : {M : Type 1} → statement M
 emt-advance-spec =
