@@ -26,7 +26,7 @@ unfoldable pub valueFault : Row → Row → Bool
 valueFault head r =
     outside false (fieldsOf (kind r)) (tail r)
     || (isSwitch r && leb (opens r) (closes r))
-    || (isBranch r && not (leb 1 (conductance (stepLength head) r) && leb (conductance (stepLength head) r) Limits.conductanceEnd))
+    || (isBranch r && not (leb Limits.conductanceLow (conductance (stepLength head) r) && leb (conductance (stepLength head) r) Limits.conductanceEnd))
 
 -- 4 TRAVEL: "travel not a multiple of the step"
 unfoldable pub travelFault : Row → Row → Bool

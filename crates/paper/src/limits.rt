@@ -118,6 +118,7 @@ impl Room {
 
 pub fn quantities_agree()
     ensures { λ _. do ⌜ (← ⟦Voltage::MAX⟧ .entry) ≡ pos Limits.voltageEnd ⌝ }
+    ensures { λ _. do ⌜ (← ⟦Conductance::MIN⟧ .entry) ≡ pos Limits.conductanceLow ⌝ }
     ensures { λ _. do ⌜ (← ⟦Conductance::MAX⟧ .entry) ≡ pos Limits.conductanceEnd ⌝ }
     ensures { λ _. do ⌜ (← ⟦History::MAX⟧ .entry) ≡ pos Limits.historyEnd ⌝ }
     ensures { λ _. do ⌜ (← ⟦Current::MAX⟧ .entry) ≡ pos Limits.currentEnd ⌝ }
