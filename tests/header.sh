@@ -1,5 +1,5 @@
 #!/usr/bin/env bash
-# Every number of include/emt.h is the definitions' own: limits and lengths (crates/paper/specs/Limits), where the records have their words (Records), the
+# Every number of include/emt.h is the definitions' own: limits and lengths (crates/paper/specs/Limits), where the records have their words (Where), the
 # numbers of the answers (Answers, Pieces). Closing line: N passed, M failed.
 set -u
 cd "$(dirname "$0")/.." || exit 1
@@ -10,6 +10,17 @@ specs=crates/paper/specs
 work=$(mktemp -d)
 trap 'rm -rf "$work"' EXIT
 
+# the number of a limit, which other limits may be parts of
+limit() {
+    local text name
+    text=$(sed -n "s/^$1 = //p" $specs/Limits.antt)
+    while [[ $text =~ [A-Za-z]+ ]]; do
+        name=${BASH_REMATCH[0]}
+        text=${text//$name/($(sed -n "s/^$name = //p" $specs/Limits.antt))}
+    done
+    echo $((${text//^/**}))
+}
+
 # expect NAME NUMBER: an expression of the header, and what the definitions say it is
 expect() { printf '%s\t%s\n' "$1" "$2" >>"$work/expected"; }
 
@@ -19,15 +30,14 @@ limits="VOLTAGE_MOST voltageEnd CONDUCTANCE_MOST conductanceEnd HISTORY_MOST his
     RECORD_WORDS recordWords STORE_WORDS storeWords STORE_WORDS slotEnd LIST_BYTES stepBytes"
 set -- $limits
 while [ $# -gt 1 ]; do
-    number=$(sed -n "s/^$2 = //p" $specs/Limits.antt)
-    expect "EMT_$1" "$((${number//^/**}))"
+    expect "EMT_$1" "$(limit "$2")"
     shift 2
 done
 
 # a word's place, asked for area, node and row 7
 set -- COUNT countAt VOLTAGE voltAt CURRENT currentAt TO_CURRENT toCurrentAt HISTORY_OF historyAt
 while [ $# -gt 1 ]; do
-    place=$(sed -n "s/^$2 [anr] = //p" $specs/Records.antt)
+    place=$(sed -nE "s/^$2 (N )?[anr] = //p" $specs/Where.antt)
     expect "EMT_$1(7)" "$((${place//[anr]/7}))"
     shift 2
 done
