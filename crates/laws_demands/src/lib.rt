@@ -1,3 +1,1 @@
 // Demand 2 over one call: what an accepted step satisfies, and when each refusal comes: theorems in specs/.
-
-pub fn nothing() {}

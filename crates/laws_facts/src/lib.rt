@@ -1,3 +1,1 @@
 // What every network record that passes refusal 8 has, derived once: laws, in specs/.
-
-pub fn nothing() {}

@@ -1,3 +1,1 @@
 // When a node floats, in the paper's words: theorems over the definitions, in specs/.
-
-pub fn nothing() {}

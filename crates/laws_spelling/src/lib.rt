@@ -1,3 +1,1 @@
 // The one spelling of a study, and what it has to do with network records: theorems over the definitions, in specs/.
-
-pub fn nothing() {}

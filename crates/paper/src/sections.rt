@@ -15,7 +15,7 @@ pub const HISTORIES: usize = 224;
 
 pub const END: usize = 304;
 
-pub fn sections_agree()
+fn sections_agree()
     ensures { λ _. do ⌜ (← ⟦COUNTS⟧ .entry) ≡ counts .start ⌝ }
     ensures { λ _. do ⌜ (← ⟦VOLTS⟧ .entry) ≡ voltages .start ⌝ }
     ensures { λ _. do ⌜ (← ⟦CURRENTS⟧ .entry) ≡ currents .start ⌝ }

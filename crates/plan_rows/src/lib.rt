@@ -102,7 +102,7 @@ pub struct Totals {
     pub limit: i64,
 }
 
-pub fn row_count(net: &[i64]) -> usize
+fn row_count(net: &[i64]) -> usize
     requires { ⌜ isNetwork (now net) ≡ true ⌝ }
     ensures { λ r. ⌜ r ≡ length (netIn (was net) .rows) ⌝ }
 {

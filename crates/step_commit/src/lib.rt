@@ -63,7 +63,7 @@ fn put_legs(legs: &[Line], records: &mut [i64])
 }
 
 // The count, the voltages, and the words of the area's rows.
-pub fn put_records(
+fn put_records(
     legs: &[Line],
     nodes: &[usize],
     v: &[i64; 33],
@@ -117,7 +117,7 @@ fn send_leg(plan: &Table, l: Wire, x: i64, froms: &mut [i64], tos: &mut [i64], k
 }
 
 // "An area's advance writes only the slots of its own line ends.": one pass over its legs, into both stores.
-pub fn send(plan: &Table, legs: &[Line], froms: &mut [i64], tos: &mut [i64], k: usize)
+fn send(plan: &Table, legs: &[Line], froms: &mut [i64], tos: &mut [i64], k: usize)
     requires { ⌜ Sendable (now plan) (now legs) (now froms) (now tos) ⌝ }
     ensures { λ _. ⌜ is froms ≡ sentBy (was plan) k fromEnd (was legs) (was froms) ⌝ }
     ensures { λ _. ⌜ is tos ≡ sentBy (was plan) k toEnd (was legs) (was tos) ⌝ }

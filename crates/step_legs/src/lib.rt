@@ -22,9 +22,6 @@ pub struct Wire {
 // near, far, row, end, kind, g, h, current, passed on
 pub type Line = [i64; 9];
 
-// As many ends as 80 rows have.
-pub type Legs = [Line; 160];
-
 pub fn leg_at(legs: &[Line], j: usize) -> Wire
     requires { ⌜ Wires (now legs) × (j < length (now legs)) ⌝ }
     ensures { λ r. ⌜ r ≡ wireAt (was legs) j ⌝ }

@@ -10,7 +10,7 @@ pub enum Side {
     To,
 }
 
-pub fn far<'a>(froms: &'a [i64], tos: &'a [i64], side: Side, start: usize, end: usize) -> &'a [i64]
+fn far<'a>(froms: &'a [i64], tos: &'a [i64], side: Side, start: usize, end: usize) -> &'a [i64]
     requires { ⌜ (start ≤ end) × ((end ≤ length (now froms)) × (end ≤ length (now tos))) ⌝ }
     ensures { λ r. ⌜ now r ≡ farPart side (was froms) (was tos) start end ⌝ }
 {

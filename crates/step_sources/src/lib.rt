@@ -8,7 +8,7 @@ ghost use Rattle.step_sources.specs.Table.{sourceAt, valueOf, Sources, R
 use paper::kinds;
 
 // One source: a VS or an IS at its node.
-pub struct Source {
+struct Source {
     pub kind: usize,
     pub node: usize,
     pub peak: i64,
@@ -19,7 +19,7 @@ pub struct Source {
 // kind, node, peak, start, rise
 pub type SourceLine = [i64; 5];
 
-pub fn source_at(sources: &[SourceLine], j: usize) -> Source
+fn source_at(sources: &[SourceLine], j: usize) -> Source
     requires { ⌜ Sources (now sources) × (j < length (now sources)) ⌝ }
     ensures { λ r. ⌜ r ≡ sourceAt (was sources) j ⌝ }
 {
@@ -34,7 +34,7 @@ pub fn source_at(sources: &[SourceLine], j: usize) -> Source
 }
 
 // "it is peak · n / rise rounded toward zero while n < rise; at or after the rise it is the peak"
-pub fn source_value(peak: i64, start: usize, rise: usize, k: usize) -> i64
+fn source_value(peak: i64, start: usize, rise: usize, k: usize) -> i64
     requires { ⌜ (natAbs peak ≤ Limits.injectionEnd) × (rise ≤ Limits.riseEnd) ⌝ }
     ensures { λ r. ⌜ r ≡ valueOf peak start rise k ⌝ }
 {

@@ -15,7 +15,7 @@ pub fn magnitude(x: i64) -> u64
 }
 
 // What is left of `most` over |x|; below 0 where |x| is more.
-pub fn room(x: i64, most: i64) -> i64
+fn room(x: i64, most: i64) -> i64
     requires { ⌜ T (nonNeg most) ⌝ }
     ensures { λ r. ⌜ r ≡ roomOf most x ⌝ }
 {
