@@ -1,0 +1,97 @@
+-- Runs that mix the two calls which advance: from a reset, any list of calls of `advance` and of `list`, refused ones among them. Each leaves what a
+-- run of advances leaves, so the promises of such runs are promises of mixed ones. Assumes nothing.
+use Rattle.whole.specs.Plain.{ℕ, _≡_, refl, sym, ap, _∙_, true, List, [], _∷_, _++_, length, Words, _<_}
+use Rattle.paper.specs.Rows.{isLine}
+use Rattle.paper.specs.Areas.{Net}
+use Rattle.paper.specs.Records.{countOf}
+use Rattle.paper.specs.Advance.{Memory, advanceOf}
+use Rattle.paper.specs.Pieces.{listOf}
+use Rattle.laws_facts.specs.Nets.{netIn, rowAt}
+use Rattle.laws_demands.specs.Said.{IsArea}
+use Rattle.laws_demands.specs.Step.{Judged}
+use Rattle.laws_demands.specs.States.{long-fits}
+use Rattle.laws_runs.specs.Runs.{Lent, after, accepts, taken}
+use Rattle.laws_runs.specs.Orders.{start, run-inv, orders-agree}
+use Rattle.laws_runs.specs.Refused.{counts-are}
+use Rattle.laws_runs.specs.Received.{Side, areaAt, StepIn}
+use Rattle.laws_runs.specs.Heard.{Receives, received, once}
+use Rattle.laws_mixed.specs.Made.{after-append, list-is-calls}
+
+-- a call: of an area by its number, or of a listing into a buffer of so many bytes
+pub data Call : Type 0 where
+  advance list : ℕ → Call
+
+abbrev pub leaves : Words → Call → Memory → Memory
+leaves net (advance a) m = advanceOf net a m .after
+leaves net (list room) m = listOf net m room .after
+
+-- the memory after the calls, in that order
+unfoldable pub afterAll : Words → List Call → Memory → Memory
+afterAll net [] m = m
+afterAll net (c ∷ w) m = afterAll net w (leaves net c m)
+
+-- the advances that they make
+abbrev pub made : Words → Call → Memory → List ℕ
+made net (advance a) m = a ∷ []
+made net (list room) m = list-is-calls net m room .calls
+
+unfoldable pub advances : Words → List Call → Memory → List ℕ
+advances net [] m = []
+advances net (c ∷ w) m = made net c m ++ advances net w (leaves net c m)
+
+module _ (net : Words) where
+  leaves-made : (c : Call) (m : Memory) → leaves net c m ≡ after net (made net c m) m
+  unfolding after
+  leaves-made (advance a) m = refl
+  leaves-made (list room) m = list-is-calls net m room .leaves
+
+  -- every mixed run leaves what a run of advances leaves
+  pub mixed-is-run : (w : List Call) (m : Memory) → afterAll net w m ≡ after net (advances net w m) m
+  unfolding afterAll advances after
+  mixed-is-run [] m = refl
+  mixed-is-run (c ∷ w) m =
+      mixed-is-run w (leaves net c m) ∙ ap (after net (advances net w (leaves net c m))) (leaves-made c m)
+      ∙ sym (after-append net (made net c m) (advances net w (leaves net c m)) m)
+
+module _ (net : Words) (lent : Memory) (ok : Lent net lent) where
+  abbrev N : Net
+  N = netIn net
+
+  abbrev from0 : Memory
+  from0 = start net lent ok
+
+  -- the memory after a mixed run, and its advances
+  abbrev at : List Call → Memory
+  at w = afterAll net w from0
+
+  abbrev run : List Call → List ℕ
+  run w = advances net w from0
+
+  is-run : (w : List Call) → at w ≡ after net (run w) from0
+  is-run w = mixed-is-run net w from0
+
+  -- T-stays: what a mixed run leaves passes 8, 9 and 10
+  pub mixed-stays : (w : List Call) → Judged net (at w)
+  mixed-stays w =
+      let i = run-inv net lent ok (run w) in
+      rw (is-run w) (record { lengths = long-fits net _ (ok .network) (i .long); network = ok .network; formed = i .good })
+
+  -- the count in the records is the number of accepted advances, those inside listings too
+  pub mixed-counts : (a : ℕ) → IsArea N a → (w : List Call) → countOf (at w .records) a ≡ taken net a (run w) from0
+  mixed-counts a h w = rw (is-run w) (counts-are net lent ok a h (run w))
+
+  -- T-order: two mixed runs that have taken every area equally far agree in all records and line stores, and in each area's accepted answers
+  pub mixed-orders : (w v : List Call) → ((a : ℕ) → IsArea N a → countOf (at w .records) a ≡ countOf (at v .records) a)
+      → (at w ≡ at v) × ((a : ℕ) → accepts net a (run w) from0 ≡ accepts net a (run v) from0)
+  mixed-orders w v h =
+      let r = orders-agree net lent ok (run w) (run v) (λ a i. sym (mixed-counts a i w) ∙ h a i ∙ mixed-counts a i v) in
+      (is-run w ∙ r .0 ∙ sym (is-run v), r .1)
+
+  -- T-received: at each accepted step k of a mixed run, inside a listing or not, a line end hears what the far end sent at its step k - d of that run
+  pub mixed-received : (w : List Call) (a k : ℕ) (p : StepIn net from0 (run w) a k) (i : ℕ) → i < length (N .rows) → isLine (rowAt N i) ≡ true
+      → (s : Side) → areaAt N s i ≡ a → Receives net from0 (p .before) k s i
+  mixed-received w a k p i there line = received net lent ok a (p .before) k (p .answer) i there line
+
+  -- a mixed run has one accepted step x of an area
+  pub mixed-once : (w : List Call) (b x : ℕ) (p q : StepIn net from0 (run w) b x) → p .before ≡ q .before
+  mixed-once w b x = once net lent ok b x (run w)
