@@ -1,26 +1,26 @@
 -- "Balance.": the sum over a step's legs that refusal 16 judges is the sum over the rows of the currents in the records. Assumes nothing.
-use Rattle.whole.specs.Plain.{ℕ, zero, suc, _+_, _≤_, _<_, _≡_, refl, sym, ap, _∙_, Bool, true, false, cond, List, []}
-use Rattle.whole.specs.Plain.{_∷_, map, eqb, ℤ, pos, negℤ, _+ℤ_, _-ℤ_, _*ℤ_, +ℤ-assoc, length, getD, ne-eqb, ℕ-discrete}
-use Rattle.whole.specs.Plain.{arith, Words, z, word, numbers, total}
+use Rattle.whole.specs.Plain.{ℕ, zero, suc, _+_, _<_, _≡_, refl, sym, ap, _∙_, Bool, true, false, cond, List, [], _∷_}
+use Rattle.whole.specs.Plain.{map, eqb, ℤ, pos, negℤ, _+ℤ_, _-ℤ_, _*ℤ_, +ℤ-assoc, length, getD, ne-eqb, ℕ-discrete}
+use Rattle.whole.specs.Plain.{arith, z, word, numbers, total}
 use Rattle.whole.specs.Folds.{both}
 use Rattle.whole.specs.Int.{ring-laws}
 use Rattle.paper.specs.Rows.{Row, isBranch, isLine, from, to}
 use Rattle.paper.specs.Conductance.{conductance}
-use Rattle.paper.specs.Areas.{Net, areaOf, areaCount, rowArea, step}
+use Rattle.paper.specs.Areas.{Net, areaOf, rowArea, step}
 use Rattle.paper.specs.Sources.{injected}
-use Rattle.paper.specs.Records.{historyAt, wellFormed}
-use Rattle.paper.specs.Legs.{Leg, leg, idle, End, ownEnd, otherEnd, Branch, Heard, heard, conducts, plainLegs, legsBy, legsOf, bothLegs, through, current}
+use Rattle.paper.specs.Records.{historyAt}
+use Rattle.paper.specs.Legs.{Leg, leg, idle, End, ownEnd, otherEnd, Branch, conducts, plainLegs, legsOf, bothLegs, through, current}
 use Rattle.paper.specs.Solve.{imbalance}
 use Rattle.paper.specs.Solve as Solve
 use Rattle.paper.specs.Advance.{Memory, written}
-use Rattle.laws_facts.specs.Nets.{NetSound, rowAt, row-area-from, row-area-to}
+use Rattle.laws_facts.specs.Nets.{rowAt, row-area-from, row-area-to}
 use Rattle.laws_local.specs.Own.{deaf}
 use Rattle.laws_local.specs.Nodes.{NodeOf}
 use Rattle.laws_local.specs.Written.{current-put, to-put}
-use Rattle.laws_local.specs.Outcome.{stepOf, legsNow, voltsOf}
-use Rattle.laws_stays.specs.Stays.{Long}
-use Rattle.laws_demands.specs.Said.{fromCurrent, toCurrent, at-end, leaves, imbalanceAt}
-use Rattle.laws_demands.specs.Branches.{proposal, snd, from-leg, to-leg, from-else, to-else, plain-legs, row-else}
+use Rattle.laws_local.specs.Outcome.{legsNow}
+use Rattle.laws_demands.specs.Said.{fromCurrent, toCurrent, at-end, leaves, imbalanceAt, offer}
+use Rattle.laws_demands.specs.Judged.{Asked}
+use Rattle.laws_demands.specs.Branches.{Now, now, snd, from-leg, to-leg, from-else, to-else, plain-legs, row-else}
 
 -- ---- sums over both legs of each row
 
@@ -38,21 +38,11 @@ total-same f g i (suc n) h = rw (h i (omega arith), total-same f g (suc i) n (λ
 turned : (c : ℕ) (f t h : ℤ) → pos c *ℤ (t -ℤ f) +ℤ negℤ h ≡ negℤ (pos c *ℤ (f -ℤ t) +ℤ h)
 turned c f t h = simp ring-laws
 
-module _ (N : Net) (s : NetSound N) (a : ℕ) (m : Memory) (long : Long m) (good : wellFormed N (m .records) (m .froms) (m .tos) ≡ true) (one : 1 ≤ a) (most : a ≤ areaCount N) where
-  abbrev k : ℕ
-  k = stepOf N a m
-
-  abbrev ears : List Heard
-  ears = heard N a k (m .froms) (m .tos)
-
-  abbrev v : Words
-  v = voltsOf N a k (legsNow N a m)
-
-  abbrev by : ℕ → Branch
-  by = legsBy N a k (m .records) ears
+module _ (N : Net) (a : ℕ) (m : Memory) (ok : Asked N a m) where
+  open Now (now N a m) using (k, ears, v, by)
 
   abbrev n : Memory
-  n = proposal N s a m long good one most
+  n = offer N a m
 
   module _ (p : ℕ) (node : NodeOf N a p) where
     abbrev share : Leg → ℤ
@@ -72,11 +62,11 @@ module _ (N : Net) (s : NetSound N) (a : ℕ) (m : Memory) (long : Long m) (good
 
       written-from : by i .fromEnd .own ≡ true → fromCurrent n i ≡ current v (by i .fromEnd .wire)
       unfolding written
-      written-from o = current-put N a k (m .records) ears v (snd N s a m long good one most) (m .records) (long .records) i there o
+      written-from o = current-put N a k (m .records) ears v (snd N a m ok) (m .records) (ok .long .records) i there o
 
       written-to : isLine r ≡ true → by i .toEnd .own ≡ true → toCurrent n i ≡ current v (by i .toEnd .wire)
       unfolding written
-      written-to l o = to-put N a k (m .records) ears v (snd N s a m long good one most) (m .records) (long .records) i there (both l o)
+      written-to l o = to-put N a k (m .records) ears v (snd N a m ok) (m .records) (ok .long .records) i there (both l o)
 
       -- an end of a line: it is the area's own, or it is not at p
       line-end : (q : ℕ) (e : End) (w : Leg) (x : ℤ) → w .near ≡ q → (areaOf N q ≡ a → (e ≡ ownEnd w) × (x ≡ current v (e .wire))) → ((areaOf N q ≡ a → ⊥) → e ≡ otherEnd)
@@ -118,8 +108,8 @@ module _ (N : Net) (s : NetSound N) (a : ℕ) (m : Memory) (long : Long m) (good
           ap (λ (x : Branch). share (x .fromEnd .wire) +ℤ share (x .toEnd .wire)) is
           ∙ rw (
             nothing-leaves,
-            elsewhere (from r) (fromCurrent n i) (λ e. d (row-area-from N s i there b l (omega (arith, node .low)) ∙ ap (areaOf N) e ∙ node .area)),
-            elsewhere (to r) (negℤ (fromCurrent n i)) (λ e. d (row-area-to N s i there b l (omega (arith, node .low)) ∙ ap (areaOf N) e ∙ node .area)),
+            elsewhere (from r) (fromCurrent n i) (λ e. d (row-area-from N (ok .net) i there b l (omega (arith, node .low)) ∙ ap (areaOf N) e ∙ node .area)),
+            elsewhere (to r) (negℤ (fromCurrent n i)) (λ e. d (row-area-to N (ok .net) i there b l (omega (arith, node .low)) ∙ ap (areaOf N) e ∙ node .area)),
           )
 
       row-share : share (by i .fromEnd .wire) +ℤ share (by i .toEnd .wire) ≡ leaves N n p i

@@ -1,18 +1,18 @@
 -- "Branch equations": the memory that a step proposes obeys them, accepted or not. Assumes nothing.
 use Rattle.whole.specs.Plain.{ℕ, zero, suc, _+_, _-_, _≤_, _<_, _≡_, refl, sym, ap, _∙_, _⊎_, inl, inr, Bool, true}
-use Rattle.whole.specs.Plain.{false, cond, _&&_, _||_, or-true, List, eqb, ltb, ℤ, pos, negsuc, negℤ, natAbs, _+ℤ_}
-use Rattle.whole.specs.Plain.{_-ℤ_, _*ℤ_, +ℤ-comm, +ℤ-idr, zero-*ℤ, negℤ-+ℤ, length, getD, eq-eqb, eqb-true, ne-eqb}
-use Rattle.whole.specs.Plain.{lt-ltb, le-ltb, arith, Words, z, word, numbers}
+use Rattle.whole.specs.Plain.{false, cond, _&&_, _||_, or-true, List, eqb, ltb, ℤ, negℤ, _+ℤ_, _-ℤ_, _*ℤ_, +ℤ-comm}
+use Rattle.whole.specs.Plain.{+ℤ-idr, zero-*ℤ, negℤ-+ℤ, length, getD, eq-eqb, eqb-true, ne-eqb, lt-ltb, le-ltb, arith}
+use Rattle.whole.specs.Plain.{Words, z, word, numbers}
 use Rattle.whole.specs.Folds.{both, getD-map, getD-numbers, length-numbers}
 use Rattle.paper.specs.Limits as Limits
-use Rattle.paper.specs.Rows.{Row, kind, isBranch, isL, isC, isLine, from, to}
+use Rattle.paper.specs.Rows.{kind, isBranch, isL, isC, isLine, from, to}
 use Rattle.paper.specs.Conductance.{conductance}
-use Rattle.paper.specs.Areas.{Net, areaOf, areaCount, rowArea, step}
-use Rattle.paper.specs.Records.{historyAt, slotCount, wellFormed}
+use Rattle.paper.specs.Areas.{Net, areaOf, rowArea, step}
+use Rattle.paper.specs.Records.{historyAt, slotCount}
 use Rattle.paper.specs.Legs.{Leg, leg, End, ownEnd, otherEnd, Branch, branch, Heard, sentTo, sentAt, heardBy, heard, isOpen, conducts, lineEnd, lineLegs, plainLegs, legsBy, through, current, echo, passedOn}
 use Rattle.paper.specs.Apart.{histories-in, end-of, unused-zero}
 use Rattle.paper.specs.Advance.{Memory, written}
-use Rattle.laws_facts.specs.Nets.{NetSound, rowAt, row-area-from, row-area-to}
+use Rattle.laws_facts.specs.Nets.{rowAt, row-area-from, row-area-to}
 use Rattle.paper.specs.Classes.{line-branch}
 use Rattle.laws_local.specs.Sound.{Sound, sound}
 use Rattle.laws_local.specs.Own.{deaf}
@@ -20,15 +20,9 @@ use Rattle.laws_local.specs.Nodes.{NodeOf}
 use Rattle.laws_local.specs.Written.{volt-put, current-put, to-put, history-put}
 use Rattle.laws_local.specs.Slots.{delayAt, sent, sent-put}
 use Rattle.laws_local.specs.Outcome.{stepOf, legsNow, voltsOf}
-use Rattle.laws_stays.specs.Stays.{Long}
-use Rattle.laws_demands.specs.Said.{voltage, fromCurrent, toCurrent, history, fromSent, toSent, gu, gv, Obeys, EndObeys}
+use Rattle.laws_demands.specs.Said.{voltage, fromCurrent, toCurrent, history, fromSent, toSent, gu, gv, offer, Obeys, EndObeys}
+use Rattle.laws_demands.specs.Judged.{Asked}
 use Rattle.laws_demands.specs.Volts.{ground-volt}
-
--- ---- a kind is one number
-
-zero-size : (x : ℤ) → natAbs x ≤ 0 → x ≡ z
-zero-size (pos n) h = ap pos (omega arith)
-zero-size (negsuc n) h = absurd (omega arith)
 
 minus-zero : (x : ℤ) → x -ℤ z ≡ x
 minus-zero x = +ℤ-idr x
@@ -74,33 +68,33 @@ ear-is N a k froms tos i h =
     getD-map (heardBy N a k froms tos) (numbers 0 (length (N .rows))) i 0 deaf (rw (length-numbers 0 (length (N .rows))) h)
     ∙ ap (heardBy N a k froms tos) (getD-numbers 0 (length (N .rows)) i 0 h ∙ omega arith)
 
--- ---- the memory that area a's next step proposes
+-- ---- the memory that area a's next step offers
 
-module _ (N : Net) (s : NetSound N) (a : ℕ) (m : Memory) (long : Long m) (good : wellFormed N (m .records) (m .froms) (m .tos) ≡ true) (one : 1 ≤ a) (most : a ≤ areaCount N) where
-  abbrev k : ℕ
-  k = stepOf N a m
+-- its number, what its line ends hear, the voltages that it proposes, and each row's legs
+pub record Now : Type 0 where
+  pub k : ℕ
+  pub ears : List Heard
+  pub v : Words
+  pub by : ℕ → Branch
 
-  abbrev ears : List Heard
-  ears = heard N a k (m .froms) (m .tos)
+abbrev pub now : Net → ℕ → Memory → Now
+now N a m =
+    let k = stepOf N a m in
+    let ears = heard N a k (m .froms) (m .tos) in
+    record { k = k; ears = ears; v = voltsOf N a k (legsNow N a m); by = legsBy N a k (m .records) ears }
 
-  abbrev v : Words
-  v = voltsOf N a k (legsNow N a m)
-
-  abbrev by : ℕ → Branch
-  by = legsBy N a k (m .records) ears
-
-  abbrev pub proposal : Memory
-  proposal = written N a k (legsNow N a m) v m
+module _ (N : Net) (a : ℕ) (m : Memory) (ok : Asked N a m) where
+  open Now (now N a m) using (k, ears, v, by)
 
   pub snd : Sound N
-  snd = sound N s
+  snd = sound N (ok .net)
 
   -- a voltage of the area, or ground's
-  pub volt-of : (p : ℕ) → (p ≡ 0) ⊎ NodeOf N a p → voltage N proposal p ≡ word v p
+  pub volt-of : (p : ℕ) → (p ≡ 0) ⊎ NodeOf N a p → voltage N (offer N a m) p ≡ word v p
   unfolding written
-  volt-of zero h = sym (ground-volt N s a k (legsNow N a m))
+  volt-of zero h = sym (ground-volt N (ok .net) a k (legsNow N a m))
   volt-of (suc p) (inl e) = absurd (omega arith)
-  volt-of (suc p) (inr n) = volt-put N a k (m .records) ears v snd (m .records) (long .records) (suc p) n
+  volt-of (suc p) (inr n) = volt-put N a k (m .records) ears v snd (m .records) (ok .long .records) (suc p) n
 
   -- ---- R, L, C, SW
 
@@ -110,14 +104,14 @@ module _ (N : Net) (s : NetSound N) (a : ℕ) (m : Memory) (long : Long m) (good
       where
         go : (p : ℕ) → from (rowAt N i) ≡ p → (from (rowAt N i) ≡ 0) ⊎ NodeOf N a (from (rowAt N i))
         go zero e = inl e
-        go (suc p) e = inr (record { area = sym (row-area-from N s i there b l (omega arith)) ∙ mine; low = omega arith; high = s .row i there .branch b .fromIn .most })
+        go (suc p) e = inr (record { area = sym (row-area-from N (ok .net) i there b l (omega arith)) ∙ mine; low = omega arith; high = ok .net .row i there .branch b .fromIn .most })
 
     to-near : (to (rowAt N i) ≡ 0) ⊎ NodeOf N a (to (rowAt N i))
     to-near = go (to (rowAt N i)) refl
       where
         go : (p : ℕ) → to (rowAt N i) ≡ p → (to (rowAt N i) ≡ 0) ⊎ NodeOf N a (to (rowAt N i))
         go zero e = inl e
-        go (suc p) e = inr (record { area = sym (row-area-to N s i there b l (omega arith)) ∙ mine; low = omega arith; high = s .row i there .branch b .toIn .most })
+        go (suc p) e = inr (record { area = sym (row-area-to N (ok .net) i there b l (omega arith)) ∙ mine; low = omega arith; high = ok .net .row i there .branch b .toIn .most })
 
     abbrev wire : Leg
     wire = leg (from (rowAt N i)) (to (rowAt N i)) (conducts N (m .records) k i) (history m i)
@@ -126,40 +120,40 @@ module _ (N : Net) (s : NetSound N) (a : ℕ) (m : Memory) (long : Long m) (good
     unfolding plainLegs
     own-from = ap (λ (b : Branch). b .fromEnd) (plain-legs N a k (m .records) ears i l b mine)
 
-    gu-of : isOpen N (m .records) k i ≡ false → through v wire ≡ gu N proposal i
+    gu-of : isOpen N (m .records) k i ≡ false → through v wire ≡ gu N (offer N a m) i
     unfolding through conducts
     gu-of o = rw (o, volt-of (from (rowAt N i)) from-near, volt-of (to (rowAt N i)) to-near)
 
-    current-of : fromCurrent proposal i ≡ current v wire
+    current-of : fromCurrent (offer N a m) i ≡ current v wire
     unfolding written
     current-of =
-        current-put N a k (m .records) ears v snd (m .records) (long .records) i there (ap (λ (e : End). e .own) own-from)
+        current-put N a k (m .records) ears v snd (m .records) (ok .long .records) i there (ap (λ (e : End). e .own) own-from)
         ∙ ap (λ (e : End). current v (e .wire)) own-from
 
     -- i = g·u + h
-    closed-current : isOpen N (m .records) k i ≡ false → fromCurrent proposal i ≡ gu N proposal i +ℤ history m i
+    closed-current : isOpen N (m .records) k i ≡ false → fromCurrent (offer N a m) i ≡ gu N (offer N a m) i +ℤ history m i
     unfolding current
     closed-current o = current-of ∙ ap (λ (x : ℤ). x +ℤ history m i) (gu-of o)
 
     no-history : isL (rowAt N i) || isC (rowAt N i) ≡ false → history m i ≡ z
     no-history e =
-        unused-zero N (m .records) (m .froms) (m .tos) good (historyAt i) (end-of N histories-in i (omega (arith, snd .rows)) ∙ ap (λ (b : Bool). cond b Limits.historyEnd 0) e)
+        unused-zero N (m .records) (m .froms) (m .tos) (ok .good) (historyAt i) (end-of N histories-in i (omega (arith, snd .rows)) ∙ ap (λ (b : Bool). cond b Limits.historyEnd 0) e)
 
-    resistive : isOpen N (m .records) k i ≡ false → isL (rowAt N i) || isC (rowAt N i) ≡ false → fromCurrent proposal i ≡ gu N proposal i
-    resistive o e = closed-current o ∙ rw (no-history e) (+ℤ-idr (gu N proposal i))
+    resistive : isOpen N (m .records) k i ≡ false → isL (rowAt N i) || isC (rowAt N i) ≡ false → fromCurrent (offer N a m) i ≡ gu N (offer N a m) i
+    resistive o e = closed-current o ∙ rw (no-history e) (+ℤ-idr (gu N (offer N a m) i))
 
-    open-current : isOpen N (m .records) k i ≡ true → isL (rowAt N i) || isC (rowAt N i) ≡ false → fromCurrent proposal i ≡ z
+    open-current : isOpen N (m .records) k i ≡ true → isL (rowAt N i) || isC (rowAt N i) ≡ false → fromCurrent (offer N a m) i ≡ z
     unfolding current through conducts
     open-current o e = current-of ∙ rw (o, no-history e) (ap (λ (x : ℤ). x +ℤ z) (zero-*ℤ (word v (from (rowAt N i)) -ℤ word v (to (rowAt N i)))))
 
-    next-history : isL (rowAt N i) || isC (rowAt N i) ≡ true → history proposal i ≡ passedOn v (rowAt N i) wire
+    next-history : isL (rowAt N i) || isC (rowAt N i) ≡ true → history (offer N a m) i ≡ passedOn v (rowAt N i) wire
     unfolding written
     next-history e =
-        history-put N a k (m .records) ears v snd (m .records) (long .records) i there (both e (ap (λ (e : End). e .own) own-from))
+        history-put N a k (m .records) ears v snd (m .records) (ok .long .records) i there (both e (ap (λ (e : End). e .own) own-from))
         ∙ ap (λ (e : End). passedOn v (rowAt N i) (e .wire)) own-from
 
     -- i + g·u
-    echo-of : isOpen N (m .records) k i ≡ false → echo v wire ≡ fromCurrent proposal i +ℤ gu N proposal i
+    echo-of : isOpen N (m .records) k i ≡ false → echo v wire ≡ fromCurrent (offer N a m) i +ℤ gu N (offer N a m) i
     unfolding echo
     echo-of o = rw (← current-of, gu-of o)
 
@@ -181,7 +175,7 @@ module _ (N : Net) (s : NetSound N) (a : ℕ) (m : Memory) (long : Long m) (good
     unfolding passedOn
     passes-C e = let q : isL (rowAt N i) ≡ false = rw (kind-is 3 e) in rw (q, e)
 
-    pub plain-obeys : Obeys N k m proposal i
+    pub plain-obeys : Obeys N k m (offer N a m) i
     plain-obeys = record {
       resistor = λ e. resistive (never-open 1 refl (kind-is 1 e)) (keeps-none 1 refl refl (kind-is 1 e));
       closed = λ e o. resistive o (keeps-none 5 refl refl (kind-is 5 e));
@@ -191,17 +185,17 @@ module _ (N : Net) (s : NetSound N) (a : ℕ) (m : Memory) (long : Long m) (good
       capacitor = λ e. closed-current (never-open 3 refl (kind-is 3 e));
       capacitor-next = λ e.
           next-history (rw e (or-true (isL (rowAt N i)))) ∙ passes-C e ∙ ap negℤ (echo-of (never-open 3 refl (kind-is 3 e)))
-          ∙ negℤ-+ℤ (fromCurrent proposal i) (gu N proposal i);
+          ∙ negℤ-+ℤ (fromCurrent (offer N a m) i) (gu N (offer N a m) i);
     }
 
   -- ---- the two ends of a LINE
 
-  end-through : (p i : ℕ) (h : ℤ) → NodeOf N a p → through v (leg p 0 (conductance (step N) (rowAt N i)) h) ≡ gv N proposal i p
+  end-through : (p i : ℕ) (h : ℤ) → NodeOf N a p → through v (leg p 0 (conductance (step N) (rowAt N i)) h) ≡ gv N (offer N a m) i p
   unfolding through
-  end-through p i h n = rw (ground-volt N s a k (legsNow N a m), minus-zero (word v p), volt-of p (inr n))
+  end-through p i h n = rw (ground-volt N (ok .net) a k (legsNow N a m), minus-zero (word v p), volt-of p (inr n))
 
   -- the current, and what is sent, at an end whose leg is known and which hears h
-  end-current : (p i : ℕ) (h : ℤ) → NodeOf N a p → current v (leg p 0 (conductance (step N) (rowAt N i)) h) ≡ gv N proposal i p +ℤ h
+  end-current : (p i : ℕ) (h : ℤ) → NodeOf N a p → current v (leg p 0 (conductance (step N) (rowAt N i)) h) ≡ gv N (offer N a m) i p +ℤ h
   unfolding current
   end-current p i h n = ap (λ (x : ℤ). x +ℤ h) (end-through p i h n)
 
@@ -213,11 +207,11 @@ module _ (N : Net) (s : NetSound N) (a : ℕ) (m : Memory) (long : Long m) (good
       rw (q, c, e)
 
   end-sends : (p i : ℕ) (h : ℤ) → NodeOf N a p → isLine (rowAt N i) ≡ true
-      → passedOn v (rowAt N i) (leg p 0 (conductance (step N) (rowAt N i)) h) ≡ negℤ (gv N proposal i p +ℤ (gv N proposal i p +ℤ h))
+      → passedOn v (rowAt N i) (leg p 0 (conductance (step N) (rowAt N i)) h) ≡ negℤ (gv N (offer N a m) i p +ℤ (gv N (offer N a m) i p +ℤ h))
   unfolding echo
   end-sends p i h n e =
       let w = leg p 0 (conductance (step N) (rowAt N i)) h in
-      let sum : through v w +ℤ current v w ≡ gv N proposal i p +ℤ (gv N proposal i p +ℤ h) = rw (end-through p i h n, end-current p i h n) in
+      let sum : through v w +ℤ current v w ≡ gv N (offer N a m) i p +ℤ (gv N (offer N a m) i p +ℤ h) = rw (end-through p i h n, end-current p i h n) in
       passes-line i w e ∙ ap negℤ (+ℤ-comm (current v w) (through v w) ∙ sum)
 
   -- what an end hears
@@ -228,11 +222,11 @@ module _ (N : Net) (s : NetSound N) (a : ℕ) (m : Memory) (long : Long m) (good
     hears-later : delayAt N i < k → h ≡ far (k - delayAt N i)
     hears-later e = heardIs ∙ rw (lt-ltb 0 (k - delayAt N i) (omega arith))
 
-    end-obeys : (p : ℕ) (current sends : ℤ) → current ≡ gv N proposal i p +ℤ h → sends ≡ negℤ (gv N proposal i p +ℤ (gv N proposal i p +ℤ h)) → EndObeys N k i p proposal current sends far
+    end-obeys : (p : ℕ) (current sends : ℤ) → current ≡ gv N (offer N a m) i p +ℤ h → sends ≡ negℤ (gv N (offer N a m) i p +ℤ (gv N (offer N a m) i p +ℤ h)) → EndObeys N k i p (offer N a m) current sends far
     end-obeys p current sends c d = record {
-      early = λ e. c ∙ rw (hears-early e) (+ℤ-idr (gv N proposal i p));
-      later = λ e. c ∙ ap (λ (x : ℤ). gv N proposal i p +ℤ x) (hears-later e);
-      sent = d ∙ ap (λ (x : ℤ). negℤ (gv N proposal i p +ℤ x)) (sym c);
+      early = λ e. c ∙ rw (hears-early e) (+ℤ-idr (gv N (offer N a m) i p));
+      later = λ e. c ∙ ap (λ (x : ℤ). gv N (offer N a m) i p +ℤ x) (hears-later e);
+      sent = d ∙ ap (λ (x : ℤ). negℤ (gv N (offer N a m) i p +ℤ x)) (sym c);
     }
 
   module _ (i : ℕ) (there : i < length (N .rows)) (l : isLine (rowAt N i) ≡ true) where
@@ -243,35 +237,35 @@ module _ (N : Net) (s : NetSound N) (a : ℕ) (m : Memory) (long : Long m) (good
     ear = getD ears i deaf
 
     room : slotCount N ≤ length (m .froms)
-    room = rw (long .froms) (snd .slots)
+    room = rw (ok .long .froms) (snd .slots)
 
     room-to : slotCount N ≤ length (m .tos)
-    room-to = rw (long .tos) (snd .slots)
+    room-to = rw (ok .long .tos) (snd .slots)
 
-    pub from-obeys : areaOf N (from (rowAt N i)) ≡ a → EndObeys N k i (from (rowAt N i)) proposal (fromCurrent proposal i) (fromSent N proposal i k) (toSent N m i)
+    pub from-obeys : areaOf N (from (rowAt N i)) ≡ a → EndObeys N k i (from (rowAt N i)) (offer N a m) (fromCurrent (offer N a m) i) (fromSent N (offer N a m) i k) (toSent N m i)
     unfolding written heardBy sentTo sentAt
     from-obeys e =
         end-obeys i (ear .atFrom) (toSent N m i) (ap (λ (x : Heard). x .atFrom) (ear-is N a k (m .froms) (m .tos) i there) ∙ rw (l, eq-eqb (areaOf N (from (rowAt N i))) a e))
-        (from (rowAt N i)) (fromCurrent proposal i) (fromSent N proposal i k)
-        (current-put N a k (m .records) ears v snd (m .records) (long .records) i there (ap (λ (x : End). x .own) is) ∙ ap (λ (x : End). current v (x .wire)) is ∙ end-current (from (rowAt N i)) i (ear .atFrom) n)
+        (from (rowAt N i)) (fromCurrent (offer N a m) i) (fromSent N (offer N a m) i k)
+        (current-put N a k (m .records) ears v snd (m .records) (ok .long .records) i there (ap (λ (x : End). x .own) is) ∙ ap (λ (x : End). current v (x .wire)) is ∙ end-current (from (rowAt N i)) i (ear .atFrom) n)
         (sent-put N a k (m .records) ears v (λ b. b .fromEnd) snd (m .froms) room i there (both l (ap (λ (x : End). x .own) is)) ∙ ap (λ (x : End). passedOn v (rowAt N i) (x .wire)) is ∙ end-sends (from (rowAt N i)) i (ear .atFrom) n l)
       where
         is : by i .fromEnd ≡ ownEnd (leg (from (rowAt N i)) 0 (conductance (step N) (rowAt N i)) (ear .atFrom))
         is = from-leg N a k (m .records) ears i l e
 
         n : NodeOf N a (from (rowAt N i))
-        n = node-at (from (rowAt N i)) e (s .row i there .line l .fromOff) (s .row i there .branch (line-branch (rowAt N i) l) .fromIn .most)
+        n = node-at (from (rowAt N i)) e (ok .net .row i there .line l .fromOff) (ok .net .row i there .branch (line-branch (rowAt N i) l) .fromIn .most)
 
-    pub to-obeys : areaOf N (to (rowAt N i)) ≡ a → EndObeys N k i (to (rowAt N i)) proposal (toCurrent proposal i) (toSent N proposal i k) (fromSent N m i)
+    pub to-obeys : areaOf N (to (rowAt N i)) ≡ a → EndObeys N k i (to (rowAt N i)) (offer N a m) (toCurrent (offer N a m) i) (toSent N (offer N a m) i k) (fromSent N m i)
     unfolding written heardBy sentTo sentAt
     to-obeys e =
         end-obeys i (ear .atTo) (fromSent N m i) (ap (λ (x : Heard). x .atTo) (ear-is N a k (m .froms) (m .tos) i there) ∙ rw (l, eq-eqb (areaOf N (to (rowAt N i))) a e))
-        (to (rowAt N i)) (toCurrent proposal i) (toSent N proposal i k)
-        (to-put N a k (m .records) ears v snd (m .records) (long .records) i there (both l (ap (λ (x : End). x .own) is)) ∙ ap (λ (x : End). current v (x .wire)) is ∙ end-current (to (rowAt N i)) i (ear .atTo) n)
+        (to (rowAt N i)) (toCurrent (offer N a m) i) (toSent N (offer N a m) i k)
+        (to-put N a k (m .records) ears v snd (m .records) (ok .long .records) i there (both l (ap (λ (x : End). x .own) is)) ∙ ap (λ (x : End). current v (x .wire)) is ∙ end-current (to (rowAt N i)) i (ear .atTo) n)
         (sent-put N a k (m .records) ears v (λ b. b .toEnd) snd (m .tos) room-to i there (both l (ap (λ (x : End). x .own) is)) ∙ ap (λ (x : End). passedOn v (rowAt N i) (x .wire)) is ∙ end-sends (to (rowAt N i)) i (ear .atTo) n l)
       where
         is : by i .toEnd ≡ ownEnd (leg (to (rowAt N i)) 0 (conductance (step N) (rowAt N i)) (ear .atTo))
         is = to-leg N a k (m .records) ears i l e
 
         n : NodeOf N a (to (rowAt N i))
-        n = node-at (to (rowAt N i)) e (s .row i there .line l .toOff) (s .row i there .branch (line-branch (rowAt N i) l) .toIn .most)
+        n = node-at (to (rowAt N i)) e (ok .net .row i there .line l .toOff) (ok .net .row i there .branch (line-branch (rowAt N i) l) .toIn .most)

@@ -1,42 +1,60 @@
--- T-exact, 11 to 13: each comes exactly when the paper says, and 13 names the first such branch in table order. Assumes nothing.
-use Rattle.whole.specs.Plain.{ℕ, suc, _≤_, _<_, _≡_, refl, sym, ap, _∙_, _≢_, _↔_, Bool, true, false, true≢false, List}
-use Rattle.whole.specs.Plain.{[], leb, length, leb-true, leb-false, le-leb, lt-leb, arith, Words}
+-- T-exact: each answer to an advance comes exactly when document 01 says, with its place. Assumes nothing.
+use Rattle.whole.specs.Plain.{ℕ, zero, suc, _<_, _≡_, refl, sym, ap, _∙_, subst, _↔_, Bool, true, false, true≢false}
+use Rattle.whole.specs.Plain.{List, [], leb, length, getD, leb-true, leb-false, le-leb, lt-leb, arith, Words}
 use Rattle.paper.specs.declared.Advance.{Advance}
-use Rattle.paper.specs.declared.Advance.the-variants.{Took, Store, Network, State, Area, Done, Wait}
+use Rattle.paper.specs.declared.Advance.the-variants.{Took, Store, Network, State, Area, Done, Wait, Floating, Range, Unbalanced, History}
 use Rattle.whole.specs.Folds.{and-left, and-right, both}
+use Rattle.whole.specs.Members.{among-at}
 use Rattle.whole.specs.Places.{place-least, least-place}
-use Rattle.paper.specs.Answers.{advanceNumber}
-use Rattle.paper.specs.Rows.{isLine, steps}
-use Rattle.paper.specs.Areas.{Net, areaCount, branchNumber}
-use Rattle.paper.specs.Network.{isNetwork}
-use Rattle.paper.specs.Records.{countOf, wellFormed}
+use Rattle.paper.specs.Rows.{steps}
+use Rattle.paper.specs.Areas.{Net, areaCount, freeOf, branchNumber}
+use Rattle.paper.specs.Records.{countOf}
 use Rattle.paper.specs.Legs.{Branch}
-use Rattle.paper.specs.Solve.{stop, move, solve}
-use Rattle.paper.specs.Advance.{Memory, Advanced, waitsFor, takeStep, ready, onNext, onNet, fits, advanceOf}
-use Rattle.laws_facts.specs.Nets.{rowAt, netIn}
-use Rattle.laws_local.specs.Waits.{Allowed, Behind, late-place, waits-line, waits-behind, behind-waits, free-allowed, allowed-free}
-use Rattle.laws_local.specs.Outcome.{stepOf, legsNow, voltsOf, lateNow, isArea, StepRefusal, floating14, range15, unbalanced16, history17, Outcome, no-area, done, waits, stops, takes, outcome}
+use Rattle.paper.specs.Solve.{Step, stop, move, solve, settling, solvedStep, rangeStep, balanceStep, historyStep}
+use Rattle.paper.specs.Advance.{Memory, Advanced, waitsFor, takeStep, ready, onNext, onNet, finish, advanceOf}
+use Rattle.laws_facts.specs.Nets.{netIn}
+use Rattle.laws_floats.specs.Floats.{search-floats, floats-search}
+use Rattle.laws_local.specs.Nodes.{free-of}
+use Rattle.laws_local.specs.Waits.{not-late, late-not, late-place, waits-line, waits-behind, behind-waits, free-allowed, allowed-free}
+use Rattle.laws_local.specs.Outcome.{legsNow, voltsOf, lateNow, isArea, isDone, lone, outside, heavy, large, Solving, floats, leaves, tips, exceeds, solves, solving, Outcome, no-area, done, waits, stops, takes, outcome}
+use Rattle.laws_stays.specs.Stays.{stop-move}
 use Rattle.laws_demands.specs.Said.{IsArea}
-use Rattle.laws_demands.specs.Step.{Judged, Call, unfit, unread, unformed, judged, call, call-of}
+use Rattle.laws_demands.specs.Judged.{Judged, Asked, asked, Call, unfit, unread, unformed, judged, call, call-of}
+use Rattle.laws_demands.specs.Branches.{Now, now}
+use Rattle.laws_demands.specs.Passing.{lone-paths, paths-lone, outside-out, out-outside, inside-all, all-inside, heavy-tips, tips-heavy, even-all, all-even}
+use Rattle.laws_demands.specs.Histories.{large-first, first-large, small-all, all-small}
+use Rattle.laws_demands.specs.Says.{Next, Late, Ready, Says}
 
--- "13 WAIT: a far area's count is below k - d": the line in place i, and none before it
-pub record Late (net : Words) (a : ℕ) (m : Memory) (b : ℕ) : Type 0 where
-  pub row : ℕ
-  pub there : row < length (netIn net .rows)
-  pub line : isLine (rowAt (netIn net) row) ≡ true
-  pub behind : Behind (netIn net) a (suc (countOf (m .records) a)) (m .records) row
-  pub first : (i : ℕ) → i < row → isLine (rowAt (netIn net) i) ≡ true → Allowed (netIn net) a (suc (countOf (m .records) a)) (m .records) i
-  pub number : b ≡ branchNumber (netIn net) (suc row)
+-- the step, by what it finds in turn
+module _ (N : Net) (a k : ℕ) (bs : List Branch) where
+  solve14 : (n : ℕ) → lone N a k bs ≡ suc n → solve N a k bs ≡ stop (Floating (suc n))
+  unfolding solve settling
+  solve14 n e = rw e
 
--- what is judged has a next step
-pub record Next (net : Words) (a : ℕ) (m : Memory) : Type 0 where
-  pub judged : Judged net m
-  pub area : IsArea (netIn net) a
-  pub undone : countOf (m .records) a < steps (netIn net .head)
+  solve15 : (n : ℕ) → lone N a k bs ≡ 0 → outside N a k bs ≡ suc n → solve N a k bs ≡ stop (Range (suc n))
+  unfolding solve settling solvedStep rangeStep
+  solve15 n p e = rw (p, e)
+
+  solve16 : (n : ℕ) → lone N a k bs ≡ 0 → outside N a k bs ≡ 0 → heavy N a k bs ≡ suc n → solve N a k bs ≡ stop (Unbalanced (suc n))
+  unfolding solve settling solvedStep rangeStep balanceStep
+  solve16 n p q e = rw (p, q, e)
+
+  solve17 : (r : ℕ) → lone N a k bs ≡ 0 → outside N a k bs ≡ 0 → heavy N a k bs ≡ 0 → large N a k bs ≡ suc r → solve N a k bs ≡ stop (History (branchNumber N (suc r)))
+  unfolding solve settling solvedStep rangeStep balanceStep historyStep
+  solve17 r p q h e = rw (p, q, h, e)
+
+  solve0 : lone N a k bs ≡ 0 → outside N a k bs ≡ 0 → heavy N a k bs ≡ 0 → large N a k bs ≡ 0 → solve N a k bs ≡ move bs (voltsOf N a k bs)
+  unfolding solve settling solvedStep rangeStep balanceStep historyStep
+  solve0 p q h e = rw (p, q, h, e)
 
 module _ (net : Words) (a : ℕ) (m : Memory) where
   abbrev N : Net
   N = netIn net
+
+  abbrev bs : List Branch
+  bs = legsNow N a m
+
+  open Now (now N a m) using (k, ears)
 
   is-area : isArea N a m ≡ true → IsArea N a
   is-area e = record { one = leb-true 1 a (and-left (leb 1 a) (leb a (areaCount N)) e); most = leb-true a (areaCount N) (and-right (leb 1 a) (leb a (areaCount N)) e) }
@@ -44,48 +62,6 @@ module _ (net : Words) (a : ℕ) (m : Memory) where
   area-is : IsArea N a → isArea N a m ≡ true
   area-is h = both (le-leb 1 a (h .one)) (le-leb a (areaCount N) (h .most))
 
-  answer-is : (r : Advanced) → advanceOf net a m ≡ r → advanceOf net a m .answer ≡ r .answer
-  answer-is r e = ap (λ (r : Advanced). r .answer) e
-
-  -- the answer of a call that is not judged is 9, 8 or 10; of one that is, what it comes to
-  pub data Comes : Type 0 where
-    refused9 : fits net m ≡ false → advanceOf net a m .answer ≡ Store → Comes
-    refused8 : fits net m ≡ true → isNetwork net ≡ false → advanceOf net a m .answer ≡ Network → Comes
-    refused10 : fits net m ≡ true → isNetwork net ≡ true → wellFormed N (m .records) (m .froms) (m .tos) ≡ false → advanceOf net a m .answer ≡ State → Comes
-    refused11 : Judged net m → (IsArea N a → ⊥) → advanceOf net a m .answer ≡ Area → Comes
-    refused12 : Judged net m → IsArea N a → steps (N .head) ≤ countOf (m .records) a → advanceOf net a m .answer ≡ Done → Comes
-    refused13 : Next net a m → (r : ℕ) → lateNow N a m ≡ suc r → advanceOf net a m .answer ≡ Wait (branchNumber N (suc r)) → Comes
-    refused14-17 : Next net a m → lateNow N a m ≡ 0 → (x : Advance) → StepRefusal x → solve N a (stepOf N a m) (legsNow N a m) ≡ stop x → advanceOf net a m .answer ≡ x → Comes
-    accepted0 : Next net a m → lateNow N a m ≡ 0 → solve N a (stepOf N a m) (legsNow N a m) ≡ move (legsNow N a m) (voltsOf N a (stepOf N a m) (legsNow N a m))
-        → advanceOf net a m .answer ≡ Took (stepOf N a m) → Comes
-
-  pub comes : Comes
-  comes = go (call net a m)
-    where
-      by : Judged net m → Outcome N a m → Comes
-      by j (no-area e x) = refused11 j (λ h. true≢false (sym (area-is h) ∙ e)) (answer-is _ (call-of net a m j ∙ x))
-      by j (done e d x) = refused12 j (is-area e) (leb-true _ _ d) (answer-is _ (call-of net a m j ∙ x))
-      by j (waits r e d l x) = refused13 (record { judged = j; area = is-area e; undone = leb-false _ _ d }) r l (answer-is _ (call-of net a m j ∙ x))
-      by j (stops y s e d l v x) = refused14-17 (record { judged = j; area = is-area e; undone = leb-false _ _ d }) l y s v (answer-is _ (call-of net a m j ∙ x))
-      by j (takes e d l v x) = accepted0 (record { judged = j; area = is-area e; undone = leb-false _ _ d }) l v (answer-is _ (call-of net a m j ∙ x))
-
-      go : Call net a m → Comes
-      go (unfit f q) = refused9 f (answer-is _ q)
-      go (unread f n q) = refused8 f n (answer-is _ q)
-      go (unformed f n w q) = refused10 f n w (answer-is _ q)
-      go (judged j) = by j (outcome N a m (j .formed))
-
-  -- by its number an answer is no other one
-  pub number : {x y : Advance} → advanceOf net a m .answer ≡ x → advanceOf net a m .answer ≡ y → advanceNumber x ≡ advanceNumber y
-  number p q = ap advanceNumber (sym p ∙ q)
-
-  pub step-number : {x : Advance} → StepRefusal x → 14 ≤ advanceNumber x
-  step-number floating14 = omega arith
-  step-number range15 = omega arith
-  step-number unbalanced16 = omega arith
-  step-number history17 = omega arith
-
-  -- and back: what a judged call comes to
   area-not : (IsArea N a → ⊥) → isArea N a m ≡ false
   area-not h = go (isArea N a m) refl
     where
@@ -93,71 +69,26 @@ module _ (net : Words) (a : ℕ) (m : Memory) where
       go true e = absurd (h (is-area e))
       go false e = refl
 
-  answers11 : Judged net m → (IsArea N a → ⊥) → advanceOf net a m .answer ≡ Area
-  unfolding onNet
-  answers11 j h = answer-is (onNet N a m) (call-of net a m j) ∙ rw (j .formed, area-not h)
+  next : Judged net m → isArea N a m ≡ true → isDone N a m ≡ false → Next net a m
+  next j e d = record { judged = j; area = is-area e; undone = leb-false _ _ d }
 
-  answers12 : Judged net m → IsArea N a → steps (N .head) ≤ countOf (m .records) a → advanceOf net a m .answer ≡ Done
-  unfolding onNet
-  answers12 j h d = answer-is (onNet N a m) (call-of net a m j) ∙ rw (j .formed, area-is h, le-leb (steps (N .head)) (countOf (m .records) a) d)
+  late-ready : Next net a m → lateNow N a m ≡ 0 → Ready net a m
+  late-ready h l = record { next = h; sent = not-late N a k (m .records) l }
 
-  answers13 : Next net a m → (r : ℕ) → lateNow N a m ≡ suc r → advanceOf net a m .answer ≡ Wait (branchNumber N (suc r))
-  unfolding onNet onNext
-  answers13 h r l = answer-is (onNet N a m) (call-of net a m (h .judged)) ∙ rw (h .judged .formed, area-is (h .area), lt-leb (steps (N .head)) (countOf (m .records) a) (h .undone), l)
+  ok : Ready net a m → Asked N a m
+  ok r = asked net a m (r .next .judged) (r .next .area)
 
-  pub answers14-17 : Next net a m → lateNow N a m ≡ 0 → (x : Advance) → solve N a (stepOf N a m) (legsNow N a m) ≡ stop x → advanceOf net a m .answer ≡ x
-  unfolding onNet onNext ready takeStep
-  answers14-17 h l x e =
-      answer-is (onNet N a m) (call-of net a m (h .judged)) ∙ rw (h .judged .formed, area-is (h .area), lt-leb (steps (N .head)) (countOf (m .records) a) (h .undone), l, e)
-
-  pub answers0 : Next net a m → lateNow N a m ≡ 0 → (bs : List Branch) (v : Words) → solve N a (stepOf N a m) (legsNow N a m) ≡ move bs v → advanceOf net a m .answer ≡ Took (stepOf N a m)
-  unfolding onNet onNext ready takeStep
-  answers0 h l bs v e =
-      answer-is (onNet N a m) (call-of net a m (h .judged)) ∙ rw (h .judged .formed, area-is (h .area), lt-leb (steps (N .head)) (countOf (m .records) a) (h .undone), l, e)
-
-  -- 11 AREA: "no such area"
-  pub area-exactly : (advanceOf net a m .answer ≡ Area) ↔ (Judged net m × (IsArea N a → ⊥))
-  area-exactly = (forth comes, λ h. answers11 (h .0) (h .1))
-    where
-      forth : Comes → advanceOf net a m .answer ≡ Area → Judged net m × (IsArea N a → ⊥)
-      forth (refused9 f q) e = absurd (omega (arith, number q e))
-      forth (refused8 f n q) e = absurd (omega (arith, number q e))
-      forth (refused10 f n w q) e = absurd (omega (arith, number q e))
-      forth (refused11 j h q) e = (j, h)
-      forth (refused12 j h d q) e = absurd (omega (arith, number q e))
-      forth (refused13 j r l q) e = absurd (omega (arith, number q e))
-      forth (refused14-17 j l x s v q) e = absurd (omega (arith, number q e, step-number s))
-      forth (accepted0 j l v q) e = absurd (omega (arith, number q e))
-
-  -- 12 DONE: "the area has taken all steps"
-  pub done-exactly : (advanceOf net a m .answer ≡ Done) ↔ (Judged net m × IsArea N a × (steps (N .head) ≤ countOf (m .records) a))
-  done-exactly = (forth comes, λ h. answers12 (h .0) (h .1) (h .2))
-    where
-      forth : Comes → advanceOf net a m .answer ≡ Done → Judged net m × IsArea N a × (steps (N .head) ≤ countOf (m .records) a)
-      forth (refused9 f q) e = absurd (omega (arith, number q e))
-      forth (refused8 f n q) e = absurd (omega (arith, number q e))
-      forth (refused10 f n w q) e = absurd (omega (arith, number q e))
-      forth (refused11 j h q) e = absurd (omega (arith, number q e))
-      forth (refused12 j h d q) e = (j, h, d)
-      forth (refused13 j r l q) e = absurd (omega (arith, number q e))
-      forth (refused14-17 j l x s v q) e = absurd (omega (arith, number q e, step-number s))
-      forth (accepted0 j l v q) e = absurd (omega (arith, number q e))
-
-  -- 13 WAIT: "a far area's count is below k - d", the first such branch in table order
-  abbrev k : ℕ
-  k = stepOf N a m
-
-  late-row : (r b : ℕ) → lateNow N a m ≡ suc r → b ≡ branchNumber N (suc r) → Late net a m b
-  late-row r b l e =
+  late-row : (r : ℕ) → lateNow N a m ≡ suc r → Late net a m (branchNumber N (suc r))
+  late-row r l =
       let q = place-least (waitsFor N a k (m .records)) [] 0 (N .rows) r (sym (late-place N a k (m .records) 0 (N .rows)) ∙ l) in
-      let same : q .0 ≡ r = omega (arith, q .1) in
+      let same : r ≡ q .0 = omega (arith, q .1) in
       record {
         row = q .0;
         there = q .2 .inside;
         line = waits-line N a k (m .records) (q .0) (q .2 .hit);
         behind = waits-behind N a k (m .records) (q .0) (q .2 .hit);
         first = λ i h o. free-allowed N a k (m .records) i o (q .2 .before i h);
-        number = e ∙ ap (λ (x : ℕ). branchNumber N (suc x)) (sym same);
+        number = ap (λ (x : ℕ). branchNumber N (suc x)) same;
       }
 
   row-late : (b : ℕ) (h : Late net a m b) → lateNow N a m ≡ suc (h .row)
@@ -169,15 +100,85 @@ module _ (net : Words) (a : ℕ) (m : Memory) where
         before = λ i l. allowed-free N a k (m .records) i (h .first i l);
       }) ∙ omega arith
 
-  pub wait-exactly : (b : ℕ) → (advanceOf net a m .answer ≡ Wait b) ↔ (Next net a m × Late net a m b)
-  wait-exactly b = (forth comes, λ h. answers13 (h .0) (h .1 .row) (row-late b (h .1)) ∙ ap Wait (sym (h .1 .number)))
+  -- ---- what the answer says
+
+  same-stop : {x y : Advance} → stop x ≡ stop y → x ≡ y
+  same-stop e = cc
+
+  step-says : (r : Ready net a m) (y : Advance) → solve N a k bs ≡ stop y → Solving N a k bs → Says net a m y
+  step-says r y v (floats i p e) = subst (Says net a m) (same-stop (sym e ∙ v)) (r, search-floats N (ok r .net) a k (m .records) ears i p)
+  step-says r y v (leaves i p o e) = subst (Says net a m) (same-stop (sym e ∙ v)) (r, lone-paths N a m (ok r) p, outside-out N a m (ok r) i o)
+  step-says r y v (tips i p o h e) = subst (Says net a m) (same-stop (sym e ∙ v)) (r, lone-paths N a m (ok r) p, inside-all N a m (ok r) o, heavy-tips N a m (ok r) i h)
+  step-says r y v (exceeds i p o h b e) =
+      subst (Says net a m) (same-stop (sym e ∙ v)) (r, lone-paths N a m (ok r) p, inside-all N a m (ok r) o, even-all N a m (ok r) h, large-first N a m (ok r) i _ b refl)
+  step-says r y v (solves p o h b e) = absurd (stop-move (sym v ∙ e))
+
+  move-says : (r : Ready net a m) → solve N a k bs ≡ move bs (voltsOf N a k bs) → Solving N a k bs → Says net a m (Took k)
+  move-says r v (floats i p e) = absurd (stop-move (sym e ∙ v))
+  move-says r v (leaves i p o e) = absurd (stop-move (sym e ∙ v))
+  move-says r v (tips i p o h e) = absurd (stop-move (sym e ∙ v))
+  move-says r v (exceeds i p o h b e) = absurd (stop-move (sym e ∙ v))
+  move-says r v (solves p o h b e) = (r, refl, lone-paths N a m (ok r) p, inside-all N a m (ok r) o, even-all N a m (ok r) h, small-all N a m (ok r) b)
+
+  told : Says net a m (advanceOf net a m .answer)
+  told = go (call net a m)
     where
-      forth : Comes → advanceOf net a m .answer ≡ Wait b → Next net a m × Late net a m b
-      forth (refused9 f q) e = absurd (omega (arith, number q e))
-      forth (refused8 f n q) e = absurd (omega (arith, number q e))
-      forth (refused10 f n w q) e = absurd (omega (arith, number q e))
-      forth (refused11 j h q) e = absurd (omega (arith, number q e))
-      forth (refused12 j h d q) e = absurd (omega (arith, number q e))
-      forth (refused13 j r l q) e = let p : _≡_ {A = Advance} (Wait b) (Wait (branchNumber N (suc r))) = sym e ∙ q in let x : b ≡ branchNumber N (suc r) = cc in (j, late-row r b l x)
-      forth (refused14-17 j l x s v q) e = absurd (omega (arith, number q e, step-number s))
-      forth (accepted0 j l v q) e = absurd (omega (arith, number q e))
+      answered : (r : Advanced) → advanceOf net a m ≡ r → Says net a m (r .answer) → Says net a m (advanceOf net a m .answer)
+      answered r e h = subst (λ (r : Advanced). Says net a m (r .answer)) (sym e) h
+
+      by : (j : Judged net m) → Outcome N a m → Says net a m (onNet N a m .answer)
+      by j (no-area e x) = rw x (j, λ h. true≢false (sym (area-is h) ∙ e))
+      by j (done e d x) = rw x (j, is-area e, leb-true _ _ d)
+      by j (waits r e d l x) = rw x (next j e d, late-row r l)
+      by j (stops y s e d l v x) = rw x (step-says (late-ready (next j e d) l) y v (solving N a k bs))
+      by j (takes e d l v x) = rw x (move-says (late-ready (next j e d) l) v (solving N a k bs))
+
+      go : Call net a m → Says net a m (advanceOf net a m .answer)
+      go (unfit f q) = answered _ q f
+      go (unread f n q) = answered _ q (f, n)
+      go (unformed f n w q) = answered _ q (f, n, w)
+      go (judged j) = answered _ (call-of net a m j) (by j (outcome N a m (j .formed)))
+
+  -- ---- and back
+
+  answer-is : (r : Advanced) → advanceOf net a m ≡ r → advanceOf net a m .answer ≡ r .answer
+  answer-is r e = ap (λ (r : Advanced). r .answer) e
+
+  on-next : (h : Next net a m) → advanceOf net a m .answer ≡ onNext N a k m .answer
+  unfolding onNet
+  on-next h =
+      answer-is (onNet N a m) (call-of net a m (h .judged)) ∙ rw (h .judged .formed, area-is (h .area), lt-leb (steps (N .head)) (countOf (m .records) a) (h .undone))
+
+  on-step : (r : Ready net a m) (s : Step) → solve N a k bs ≡ s → advanceOf net a m .answer ≡ finish N a k m s .answer
+  unfolding onNext ready takeStep
+  on-step r s e = on-next (r .next) ∙ rw (late-not N a k (m .records) (r .sent), e)
+
+  -- a free node's number is over 0
+  free-over : (q : ℕ) → q < length (freeOf N a) → 0 < getD (freeOf N a) q 0
+  free-over q h = omega (arith, free-of N a (among-at (freeOf N a) q 0 h) .0 .low)
+
+  says-answer : (x : Advance) → Says net a m x → advanceOf net a m .answer ≡ x
+  unfolding advanceOf onNet onNext
+  says-answer Store h = rw h
+  says-answer Network h = rw (h .0, h .1)
+  says-answer State h = rw (h .0, h .1, h .2)
+  says-answer Area h = answer-is (onNet N a m) (call-of net a m (h .0)) ∙ rw (h .0 .formed, area-not (h .1))
+  says-answer Done h = answer-is (onNet N a m) (call-of net a m (h .0)) ∙ rw (h .0 .formed, area-is (h .1), le-leb (steps (N .head)) (countOf (m .records) a) (h .2))
+  says-answer (Wait b) h = on-next (h .0) ∙ rw (row-late b (h .1), h .1 .number)
+  says-answer (Floating zero) h = absurd (omega (arith, h .1 .node .low))
+  says-answer (Floating (suc n)) h = on-step (h .0) _ (solve14 N a k bs n (floats-search N (ok (h .0) .net) a k (m .records) ears (suc n) (h .1)))
+  says-answer (Range zero) h = absurd (omega (arith, h .2 .node, free-over (h .2 .place) (h .2 .inside)))
+  says-answer (Range (suc n)) h = on-step (h .0) _ (solve15 N a k bs n (paths-lone N a m (ok (h .0)) (h .1)) (out-outside N a m (ok (h .0)) (suc n) (h .2)))
+  says-answer (Unbalanced zero) h = absurd (omega (arith, h .3 .node .low))
+  says-answer (Unbalanced (suc n)) h =
+      on-step (h .0) _ (solve16 N a k bs n (paths-lone N a m (ok (h .0)) (h .1)) (all-inside N a m (ok (h .0)) (h .2)) (tips-heavy N a m (ok (h .0)) (suc n) (h .3)))
+  says-answer (History b) h =
+      on-step (h .0) _ (solve17 N a k bs (h .4 .row) (paths-lone N a m (ok (h .0)) (h .1)) (all-inside N a m (ok (h .0)) (h .2)) (all-even N a m (ok (h .0)) (h .3)) (first-large N a m (ok (h .0)) b (h .4)))
+      ∙ ap History (sym (h .4 .number))
+  says-answer (Took x) h =
+      on-step (h .0) _ (solve0 N a k bs (paths-lone N a m (ok (h .0)) (h .2)) (all-inside N a m (ok (h .0)) (h .3)) (all-even N a m (ok (h .0)) (h .4)) (all-small N a m (ok (h .0)) (h .5)))
+      ∙ ap Took (sym (h .1))
+
+  -- T-exact
+  pub exactly : (x : Advance) → (advanceOf net a m .answer ≡ x) ↔ Says net a m x
+  exactly x = (λ e. subst (Says net a m) e told, says-answer x)

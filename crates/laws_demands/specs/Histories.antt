@@ -1,28 +1,28 @@
 -- "17 HISTORY: a next history or sent value beyond 10^17": the row that the step's search finds. Assumes nothing.
-use Rattle.whole.specs.Plain.{ℕ, suc, _+_, _≤_, _<_, _≡_, refl, sym, ap, _∙_, _≢_, _⊎_, inl, inr, Bool, true, false}
-use Rattle.whole.specs.Plain.{cond, not, _&&_, _||_, and-false, true≢false, List, [], eqb, leb, ℤ, pos, negℤ, natAbs}
-use Rattle.whole.specs.Plain.{_+ℤ_, _-ℤ_, _*ℤ_, zero-*ℤ, length, getD, ne-eqb, leb-false, lt-leb, ℕ-discrete, arith}
-use Rattle.whole.specs.Plain.{Words, z, word, upTo}
+use Rattle.whole.specs.Plain.{ℕ, suc, _+_, _<_, _≡_, refl, sym, ap, _∙_, _≢_, _⊎_, inl, inr, Bool, true, false, cond}
+use Rattle.whole.specs.Plain.{not, _&&_, _||_, and-false, true≢false, [], eqb, leb, ℤ, pos, negℤ, natAbs, _+ℤ_, _-ℤ_}
+use Rattle.whole.specs.Plain.{_*ℤ_, zero-*ℤ, length, getD, ne-eqb, leb-false, lt-leb, ℕ-discrete, arith, Words, z, word}
+use Rattle.whole.specs.Plain.{upTo}
 use Rattle.whole.specs.Folds.{both}
 use Rattle.whole.specs.Int.{ring-laws, abs-neg}
 use Rattle.whole.specs.Places.{place-none, none-place, place-least, least-place}
 use Rattle.paper.specs.Limits as Limits
 use Rattle.paper.specs.Rows.{Row, isBranch, isL, isC, isLine, from, to}
-use Rattle.paper.specs.Areas.{Net, areaOf, areaCount, rowArea, branchNumber}
-use Rattle.paper.specs.Records.{historyAt, wellFormed}
-use Rattle.paper.specs.Legs.{Leg, leg, idle, End, otherEnd, Branch, branch, Heard, heard, conducts, plainLegs, legsBy, through, current, echo, passedOn}
+use Rattle.paper.specs.Areas.{Net, areaOf, rowArea, branchNumber}
+use Rattle.paper.specs.Records.{historyAt}
+use Rattle.paper.specs.Legs.{Leg, leg, idle, End, otherEnd, Branch, branch, conducts, plainLegs, through, current, echo, passedOn}
 use Rattle.paper.specs.Solve.{beyond}
 use Rattle.paper.specs.Advance.{Memory, written}
-use Rattle.laws_facts.specs.Nets.{NetSound, rowAt}
+use Rattle.laws_facts.specs.Nets.{rowAt}
 use Rattle.laws_local.specs.Sound.{Sound}
 use Rattle.laws_local.specs.Own.{row-is, legs-length, branch-is, line-no, keeper}
 use Rattle.laws_local.specs.Written.{history-put}
 use Rattle.laws_local.specs.Slots.{sent-put}
-use Rattle.laws_local.specs.Outcome.{stepOf, legsNow, voltsOf, large}
+use Rattle.laws_local.specs.Outcome.{legsNow, large}
 use Rattle.laws_stays.specs.Sizes.{beyond-place}
-use Rattle.laws_stays.specs.Stays.{Long}
 use Rattle.laws_demands.specs.Said.{history, fromSent, toSent, offer}
-use Rattle.laws_demands.specs.Branches.{snd, from-leg, to-leg, from-else, to-else, plain-legs, row-else}
+use Rattle.laws_demands.specs.Judged.{Asked}
+use Rattle.laws_demands.specs.Branches.{Now, now, snd, from-leg, to-leg, from-else, to-else, plain-legs, row-else}
 
 -- what row i would pass on is beyond the end: the next history of an L or C of the area, or what one of its own line ends would send
 pub data Exceeds (N : Net) (a k : ℕ) (m : Memory) (i : ℕ) : Type 0 where
@@ -95,24 +95,14 @@ over-right A B h = rw (lt-leb (natAbs B) Limits.historyEnd h) (ap not (and-false
 not-zero : (x : ℤ) → x ≡ z → Limits.historyEnd < natAbs x → ⊥
 not-zero x e h = let q : natAbs x ≡ 0 = ap natAbs e in omega arith
 
-module _ (N : Net) (s : NetSound N) (a : ℕ) (m : Memory) (long : Long m) (good : wellFormed N (m .records) (m .froms) (m .tos) ≡ true) (one : 1 ≤ a) (most : a ≤ areaCount N) where
-  abbrev k : ℕ
-  k = stepOf N a m
-
-  abbrev ears : List Heard
-  ears = heard N a k (m .froms) (m .tos)
-
-  abbrev v : Words
-  v = voltsOf N a k (legsNow N a m)
-
-  abbrev by : ℕ → Branch
-  by = legsBy N a k (m .records) ears
+module _ (N : Net) (a : ℕ) (m : Memory) (ok : Asked N a m) where
+  open Now (now N a m) using (k, ears, v, by)
 
   abbrev n : Memory
   n = offer N a m
 
   f : Sound N
-  f = snd N s a m long good one most
+  f = snd N a m ok
 
   module _ (i : ℕ) (there : i < length (N .rows)) where
     abbrev r : Row
@@ -128,12 +118,12 @@ module _ (N : Net) (s : NetSound N) (a : ℕ) (m : Memory) (long : Long m) (good
     from-is : isLine r ≡ true → areaOf N (from r) ≡ a → A ≡ fromSent N n i k
     unfolding written
     from-is l e =
-        sym (sent-put N a k (m .records) ears v (λ b. b .fromEnd) f (m .froms) (rw (long .froms) (f .slots)) i there (both l (ap (λ (x : End). x .own) (from-leg N a k (m .records) ears i l e))))
+        sym (sent-put N a k (m .records) ears v (λ b. b .fromEnd) f (m .froms) (rw (ok .long .froms) (f .slots)) i there (both l (ap (λ (x : End). x .own) (from-leg N a k (m .records) ears i l e))))
 
     to-is : isLine r ≡ true → areaOf N (to r) ≡ a → B ≡ toSent N n i k
     unfolding written
     to-is l e =
-        sym (sent-put N a k (m .records) ears v (λ b. b .toEnd) f (m .tos) (rw (long .tos) (f .slots)) i there (both l (ap (λ (x : End). x .own) (to-leg N a k (m .records) ears i l e))))
+        sym (sent-put N a k (m .records) ears v (λ b. b .toEnd) f (m .tos) (rw (ok .long .tos) (f .slots)) i there (both l (ap (λ (x : End). x .own) (to-leg N a k (m .records) ears i l e))))
 
     from-not : isLine r ≡ true → (areaOf N (from r) ≡ a → ⊥) → A ≡ z
     from-not l d = ap (λ (x : End). passedOn v r (x .wire)) (from-else N a k (m .records) ears i l d) ∙ idle-passes v r
@@ -165,7 +155,7 @@ module _ (N : Net) (s : NetSound N) (a : ℕ) (m : Memory) (long : Long m) (good
       kept-is : isL r || isC r ≡ true → A ≡ history n i
       unfolding written plainLegs
       kept-is e =
-          sym (history-put N a k (m .records) ears v f (m .records) (long .records) i there (both e (ap (λ (x : Branch). x .fromEnd .own) own-is)))
+          sym (history-put N a k (m .records) ears v f (m .records) (ok .long .records) i there (both e (ap (λ (x : Branch). x .fromEnd .own) own-is)))
 
       none-kept : isL r || isC r ≡ false → A ≡ z
       none-kept e = none-passes v r (by i .fromEnd .wire) e l

@@ -1,11 +1,11 @@
 pub mod Said
+pub mod Judged
 pub mod Volts
 pub mod Branches
 pub mod Balance
-pub mod Step
-pub mod States
-pub mod Exact
 pub mod Passing
 pub mod Histories
-pub mod Judging
-pub mod Refusals
+pub mod Says
+pub mod Exact
+pub mod Step
+pub mod States

@@ -8,22 +8,22 @@ use Rattle.paper.specs.declared.Rounded.{Rounded}
 use Rattle.paper.specs.declared.Rounded.the-variants.{Whole, Outside}
 use Rattle.whole.specs.Rising.{Rising, lowest-first, first-lowest}
 use Rattle.paper.specs.Rows.{limit}
-use Rattle.paper.specs.Areas.{Net, areaCount, fixed, freeOf}
+use Rattle.paper.specs.Areas.{Net, fixed, freeOf}
 use Rattle.paper.specs.Sources.{injected}
-use Rattle.paper.specs.Records.{wellFormed}
-use Rattle.paper.specs.Legs.{Heard, bothLegs, heard}
+use Rattle.paper.specs.Legs.{bothLegs}
 use Rattle.paper.specs.Doubles.{nearestOf}
 use Rattle.paper.specs.Floating.{floating}
 use Rattle.paper.specs.Solve.{outOfRange, unbalanced, imbalance}
 use Rattle.paper.specs.Advance.{Memory}
-use Rattle.laws_facts.specs.Nets.{NetSound}
 use Rattle.laws_floats.specs.HasPath.{HasPath}
+use Rattle.laws_floats.specs.Floats.{free-rising}
 use Rattle.laws_floats.specs.Search.{sound, complete}
 use Rattle.laws_local.specs.Nodes.{NodeOf, free-of, of-free}
-use Rattle.laws_local.specs.Outcome.{stepOf, legsNow, voltsOf, rounded, lone, outside, heavy}
-use Rattle.laws_stays.specs.Stays.{Long}
+use Rattle.laws_local.specs.Outcome.{legsNow, voltsOf, rounded, lone, outside, heavy}
 use Rattle.laws_demands.specs.Said.{solution, offer, imbalanceAt}
-use Rattle.laws_demands.specs.Volts.{free-rising, first-all, all-first, rounded-length, rounded-at}
+use Rattle.laws_demands.specs.Volts.{first-all, all-first, rounded-length, rounded-at}
+use Rattle.laws_demands.specs.Judged.{Asked}
+use Rattle.laws_demands.specs.Branches.{Now, now}
 use Rattle.laws_demands.specs.Balance.{imbalance-is}
 
 -- ---- the first that is out of range
@@ -113,28 +113,24 @@ pub record Unbalances (N : Net) (a k : ℕ) (m : Memory) (n : ℕ) : Type 0 wher
 abbrev pub AllBalanced : Net → ℕ → ℕ → Memory → Type 0
 AllBalanced N a k m = (p : ℕ) → NodeOf N a p → fixed N p ≡ false → natAbs (imbalanceAt N k (offer N a m) p) ≤ limit (N .head)
 
-module _ (N : Net) (s : NetSound N) (a : ℕ) (m : Memory) (long : Long m) (good : wellFormed N (m .records) (m .froms) (m .tos) ≡ true) (one : 1 ≤ a) (most : a ≤ areaCount N) where
-  abbrev k : ℕ
-  k = stepOf N a m
-
-  abbrev ears : List Heard
-  ears = heard N a k (m .froms) (m .tos)
+module _ (N : Net) (a : ℕ) (m : Memory) (ok : Asked N a m) where
+  open Now (now N a m) using (k, ears)
 
   -- 14
   pub lone-paths : lone N a k (legsNow N a m) ≡ 0 → AllPaths N a k m
   unfolding floating
-  lone-paths e p h f = sound N s a k (m .records) ears p (eqb-true _ 0 (not-false _ (first-all _ 0 (freeOf N a) (free-rising N a) e (of-free N a p h f))))
+  lone-paths e p h f = sound N (ok .net) a k (m .records) ears p (eqb-true _ 0 (not-false _ (first-all _ 0 (freeOf N a) (free-rising N a) e (of-free N a p h f))))
 
   pub paths-lone : AllPaths N a k m → lone N a k (legsNow N a m) ≡ 0
   unfolding floating
-  paths-lone h = all-first _ (freeOf N a) (λ p i. let q = free-of N a i in ap not (eq-eqb _ 0 (complete N s a k (m .records) ears p (q .0 .area) (q .0 .high) (h p (q .0) (q .1)))))
+  paths-lone h = all-first _ (freeOf N a) (λ p i. let q = free-of N a i in ap not (eq-eqb _ 0 (complete N (ok .net) a k (m .records) ears p (q .0 .area) (q .0 .high) (h p (q .0) (q .1)))))
 
   -- 15
   same-length : length (rounded N a k (legsNow N a m)) ≡ length (freeOf N a)
-  same-length = rounded-length N s a k (legsNow N a m)
+  same-length = rounded-length N (ok .net) a k (legsNow N a m)
 
   at-place : (q : ℕ) → q < length (freeOf N a) → getD (rounded N a k (legsNow N a m)) q Outside ≡ nearestOf (getD (solution N a k m) q nan)
-  at-place = rounded-at N s a k (legsNow N a m)
+  at-place = rounded-at N (ok .net) a k (legsNow N a m)
 
   pub outside-out : (n : ℕ) → outside N a k (legsNow N a m) ≡ suc n → OutOfRange N a k m (suc n)
   outside-out n e =
@@ -167,12 +163,12 @@ module _ (N : Net) (s : NetSound N) (a : ℕ) (m : Memory) (long : Long m) (good
   past : (p : ℕ) → NodeOf N a p → (b : Bool) → not (upTo (limit (N .head)) (imbalance (bothLegs (legsNow N a m)) (injected N k) (voltsOf N a k (legsNow N a m)) p)) ≡ b
       → not (leb (natAbs (imbalanceAt N k (offer N a m) p)) (limit (N .head))) ≡ b
   unfolding upTo
-  past p h b e = rw (← imbalance-is N s a m long good one most p h) e
+  past p h b e = rw (← imbalance-is N a m ok p h) e
 
   unpast : (p : ℕ) → NodeOf N a p → (b : Bool) → not (leb (natAbs (imbalanceAt N k (offer N a m) p)) (limit (N .head))) ≡ b
       → not (upTo (limit (N .head)) (imbalance (bothLegs (legsNow N a m)) (injected N k) (voltsOf N a k (legsNow N a m)) p)) ≡ b
   unfolding upTo
-  unpast p h b e = rw (imbalance-is N s a m long good one most p h) e
+  unpast p h b e = rw (imbalance-is N a m ok p h) e
 
   pub heavy-tips : (n : ℕ) → heavy N a k (legsNow N a m) ≡ suc n → Unbalances N a k m (suc n)
   unfolding unbalanced

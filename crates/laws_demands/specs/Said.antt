@@ -109,9 +109,9 @@ solution N a k m = voltages (length (freeOf N a)) (system (bothLegs (legsAt N a 
 abbrev pub offer : Net → ℕ → Memory → Memory
 offer N a m = written N a (stepOf N a m) (legsNow N a m) (voltsOf N a (stepOf N a m) (legsNow N a m)) m
 
--- ---- T-step: area a's accepted step k
+-- ---- area a's step k: what it comes to, before it is weighed
 
-pub record Stepped (N : Net) (a k : ℕ) (m n : Memory) : Type 0 where
+pub record Offered (N : Net) (a k : ℕ) (m n : Memory) : Type 0 where
   -- "an accepted advance answers the area's new count"
   pub next : k ≡ suc (countOf (m .records) a)
   pub count : word (n .records) (countAt a) ≡ pos k
@@ -125,9 +125,14 @@ pub record Stepped (N : Net) (a k : ℕ) (m n : Memory) : Type 0 where
       → EndObeys N k i (from (rowAt N i)) n (fromCurrent n i) (fromSent N n i k) (toSent N m i)
   pub to-end : (i : ℕ) → i < length (N .rows) → isLine (rowAt N i) ≡ true → areaOf N (to (rowAt N i)) ≡ a
       → EndObeys N k i (to (rowAt N i)) n (toCurrent n i) (toSent N n i k) (fromSent N m i)
-  -- "At each free node the exact whole-number sum of currents leaving, minus injection, has magnitude at most the limit."
-  pub balance : (p : ℕ) → NodeOf N a p → fixed N p ≡ false → natAbs (imbalanceAt N k n p) ≤ limit (N .head)
   -- every word of the records and of the two stores that is not the area's own is as it was
   pub records : (j : ℕ) → ownerOf N j ≢ a → word (n .records) j ≡ word (m .records) j
   pub froms : (j : ℕ) → ((i : ℕ) → i < length (N .rows) → isLine (rowAt N i) ≡ true → areaOf N (from (rowAt N i)) ≡ a → j ≢ slotOf N i k) → word (n .froms) j ≡ word (m .froms) j
   pub tos : (j : ℕ) → ((i : ℕ) → i < length (N .rows) → isLine (rowAt N i) ≡ true → areaOf N (to (rowAt N i)) ≡ a → j ≢ slotOf N i k) → word (n .tos) j ≡ word (m .tos) j
+
+-- ---- T-step: the same, accepted
+
+pub record Stepped (N : Net) (a k : ℕ) (m n : Memory) : Type 0 where
+  pub offered : Offered N a k m n
+  -- "At each free node the exact whole-number sum of currents leaving, minus injection, has magnitude at most the limit."
+  pub balance : (p : ℕ) → NodeOf N a p → fixed N p ≡ false → natAbs (imbalanceAt N k n p) ≤ limit (N .head)

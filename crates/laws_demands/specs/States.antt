@@ -12,7 +12,7 @@ use Rattle.laws_local.specs.Owners.{OnlyOwn, writes-own}
 use Rattle.laws_local.specs.Outcome.{stepOf}
 use Rattle.laws_local.specs.Depends.{SameFor, SameOut, depends-on}
 use Rattle.laws_stays.specs.Stays.{Long, fresh-well, stays}
-use Rattle.laws_demands.specs.Step.{Judged, fits-long, call-of}
+use Rattle.laws_demands.specs.Judged.{Judged, fits-long, call-of}
 
 pub long-fits : (net : Words) (m : Memory) → isNetwork net ≡ true → Long m → fits net m ≡ true
 unfolding fits

@@ -10,7 +10,7 @@ use Rattle.paper.specs.declared.Rounded.the-variants.{Whole, Outside}
 use Rattle.whole.specs.Folds.{getD-map, length-keep, count-le, length-numbers, none-at}
 use Rattle.whole.specs.TurnLaws.{downs-keeps}
 use Rattle.whole.specs.Members.{Among, top, below, among-at}
-use Rattle.whole.specs.Rising.{Rising, rising-keep, rising-numbers, rising-over}
+use Rattle.whole.specs.Rising.{Rising, rising-over}
 use Rattle.paper.specs.Faults.{fixes}
 use Rattle.paper.specs.Areas.{Net, areaOf, fixed, nodesOf, freeOf}
 use Rattle.paper.specs.Sources.{source, injected}
@@ -20,12 +20,9 @@ use Rattle.paper.specs.Elimination.{System, voltages, solved, rowSolved, elimin
 use Rattle.paper.specs.Solve.{system, proposed, settled, outOfRange, stillOf}
 use Rattle.laws_facts.specs.Nets.{NetSound, rowAt, held-is}
 use Rattle.laws_volts.specs.Still.{still-at, still-ground, still-length}
+use Rattle.laws_floats.specs.Floats.{free-rising}
 use Rattle.laws_local.specs.Nodes.{NodeOf, free-of}
 use Rattle.laws_local.specs.Outcome.{rounded, voltsOf}
-
-pub free-rising : (N : Net) (a : ℕ) → Rising 0 (freeOf N a)
-unfolding freeOf nodesOf
-free-rising N a = rising-keep _ 0 _ (rising-keep _ 0 _ (rising-numbers 0 (N .nodes)))
 
 -- ---- the free nodes' values, put in their places
 

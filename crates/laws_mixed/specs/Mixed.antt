@@ -8,7 +8,7 @@ use Rattle.paper.specs.Advance.{Memory, advanceOf}
 use Rattle.paper.specs.Pieces.{listOf}
 use Rattle.laws_facts.specs.Nets.{netIn, rowAt}
 use Rattle.laws_demands.specs.Said.{IsArea}
-use Rattle.laws_demands.specs.Step.{Judged}
+use Rattle.laws_demands.specs.Judged.{Judged}
 use Rattle.laws_demands.specs.States.{long-fits}
 use Rattle.laws_runs.specs.Runs.{Lent, after, accepts, taken}
 use Rattle.laws_runs.specs.Orders.{start, run-inv, orders-agree}

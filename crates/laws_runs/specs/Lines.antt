@@ -54,8 +54,8 @@ module _ (net : Words) (lent : Memory) (ok : Lent net lent) (a : ℕ) (w : List 
   end-law : (before : Memory) (b x : ℕ) → advanceOf net b before .answer ≡ Took x → (s : Side) (i : ℕ) → i < length (N .rows) → isLine (rowAt N i) ≡ true → areaAt N s i ≡ b
       → EndOf before x (advanceOf net b before .after) s i
   unfolding sentBy
-  end-law before b x q fromSide i h l o = step net b before x q .from-end i h l o
-  end-law before b x q toSide i h l o = step net b before x q .to-end i h l o
+  end-law before b x q fromSide i h l o = step net b before x q .offered .from-end i h l o
+  end-law before b x q toSide i h l o = step net b before x q .offered .to-end i h l o
 
   heard-is : (s : Side) (i : ℕ) → delayAt N i < k → hears N m k s i ≡ sentBy N m (far s) i (k - delayAt N i)
   unfolding sentTo sentAt sentBy

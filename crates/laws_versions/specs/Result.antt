@@ -10,17 +10,22 @@ use Rattle.paper.specs.Areas.{Net, areaOf, rowArea}
 use Rattle.paper.specs.Records.{countAt, currentAt, Section, counts, voltages, currents, toCurrents, histories, sections, ownerOf}
 use Rattle.paper.specs.Apart.{owned}
 use Rattle.paper.specs.Advance.{Memory, memory}
-use Rattle.laws_facts.specs.Nets.{NetSound, rowAt}
+use Rattle.laws_facts.specs.Nets.{NetSound, rowAt, netIn}
 use Rattle.paper.specs.Classes.{line-branch}
 use Rattle.laws_local.specs.Sound.{row-there}
 use Rattle.laws_local.specs.Own.{line-no, keeper}
 use Rattle.laws_local.specs.Nodes.{NodeOf}
 use Rattle.laws_local.specs.Slots.{slotOf}
-use Rattle.laws_stays.specs.Stays.{Long}
-use Rattle.laws_demands.specs.Said.{IsArea, fromCurrent, toCurrent, fromSent, toSent, Stepped}
+use Rattle.laws_local.specs.Outcome.{stepOf}
+use Rattle.laws_stays.specs.Stays.{Long, next-long}
+use Rattle.laws_demands.specs.Said.{IsArea, fromCurrent, toCurrent, fromSent, toSent, offer, Offered}
+use Rattle.laws_demands.specs.Judged.{asked}
+use Rattle.laws_demands.specs.Passing.{AllInRange}
+use Rattle.laws_demands.specs.Says.{Ready}
+use Rattle.laws_demands.specs.Step.{offered}
 use Rattle.laws_versions.specs.Volts.{volt-one, plain-one, history-one, current-one, sends-one}
 
-module _ (N : Net) (s : NetSound N) (a k : ℕ) (h : IsArea N a) (m n n′ : Memory) (S : Stepped N a k m n) (S′ : Stepped N a k m n′) where
+module _ (N : Net) (s : NetSound N) (a k : ℕ) (h : IsArea N a) (m n n′ : Memory) (S : Offered N a k m n) (S′ : Offered N a k m n′) where
   from-node : (i : ℕ) → i < length (N .rows) → isLine (rowAt N i) ≡ true → areaOf N (from (rowAt N i)) ≡ a → NodeOf N a (from (rowAt N i))
   from-node i t l e = record { area = e; low = s .row i t .line l .fromOff; high = s .row i t .branch (line-branch (rowAt N i) l) .fromIn .most }
 
@@ -127,3 +132,11 @@ module _ (N : Net) (s : NetSound N) (a k : ℕ) (h : IsArea N a) (m n n′ : Mem
       (ext-getD z (n .records) (n′ .records) (l .records ∙ sym (l′ .records)) (λ j _. record-word j) x)
       (ext-getD z (n .froms) (n′ .froms) (l .froms ∙ sym (l′ .froms)) (λ j _. from-word j) x)
       (ext-getD z (n .tos) (n′ .tos) (l .tos ∙ sym (l′ .tos)) (λ j _. to-store-word j) x)
+
+-- so the step that 16 and 17 weigh is the one memory that the branch equations offer
+pub offer-one : (net : Words) (a : ℕ) (m n : Memory) → Ready net a m → AllInRange (netIn net) a (stepOf (netIn net) a m) m
+    → Offered (netIn net) a (stepOf (netIn net) a m) m n → Long n → n ≡ offer (netIn net) a m
+offer-one net a m n r q S l =
+    let ok = asked net a m (r .next .judged) (r .next .area) in
+    result-one (netIn net) (ok .net) a (stepOf (netIn net) a m) (ok .area) m n (offer (netIn net) a m) S (offered net a m r q) l
+    (next-long (netIn net) (ok .net) a m (ok .long) (ok .good))

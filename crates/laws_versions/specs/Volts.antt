@@ -16,7 +16,7 @@ use Rattle.paper.specs.Advance.{Memory}
 use Rattle.laws_facts.specs.Nets.{NetSound, rowAt, row-area-from, row-area-to}
 use Rattle.laws_local.specs.Nodes.{NodeOf, of-free}
 use Rattle.laws_local.specs.Slots.{delayAt}
-use Rattle.laws_demands.specs.Said.{voltage, fromCurrent, history, gu, gv, Obeys, EndObeys, Stepped}
+use Rattle.laws_demands.specs.Said.{voltage, fromCurrent, history, gu, gv, Obeys, EndObeys, Offered}
 
 -- where a number stands in a list
 among-place : (l : List ℕ) {p : ℕ} → Among p l → (q : ℕ) × (q < length l) × (getD l q 0 ≡ p)
@@ -27,7 +27,7 @@ among-place (x ∷ l) {p} i = go (List·Memᴰ·cases-cons i) (λ j. among-place
     go (inl e) ih = (0, omega arith, sym e)
     go (inr j) ih = let r = ih j in (suc (r .0), omega (arith, r .1), r .2)
 
-module _ (N : Net) (s : NetSound N) (a k : ℕ) (m n n′ : Memory) (S : Stepped N a k m n) (S′ : Stepped N a k m n′) where
+module _ (N : Net) (s : NetSound N) (a k : ℕ) (m n n′ : Memory) (S : Offered N a k m n) (S′ : Offered N a k m n′) where
   -- a fixed node's voltage is its source's, a free node's is the rounded double
   fixed-one : (p : ℕ) → NodeOf N a p → fixed N p ≡ true → voltage N n p ≡ voltage N n′ p
   unfolding fixed fixes
