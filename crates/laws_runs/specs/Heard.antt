@@ -19,10 +19,10 @@ use Rattle.laws_local.specs.Slots.{delayAt, slotOf, line-slots}
 use Rattle.laws_local.specs.Waits.{Allowed, not-late}
 use Rattle.laws_local.specs.Outcome.{stepOf}
 use Rattle.laws_stays.specs.Formed.{Formed, formed}
-use Rattle.laws_runs.specs.Runs.{Lent, after, accepts, taken}
+use Rattle.laws_runs.specs.Runs.{Lent, FromReset, fromReset, after, accepts, taken}
 use Rattle.laws_runs.specs.Moves.{took, call-is}
 use Rattle.laws_demands.specs.Said.{IsArea}
-use Rattle.laws_runs.specs.Orders.{start, run-inv, area-of-accepted}
+use Rattle.laws_runs.specs.Orders.{run-inv, area-of-accepted}
 use Rattle.laws_runs.specs.Refused.{counts-are}
 use Rattle.laws_runs.specs.Received.{Side, fromSide, toSide, far, storeOf, areaAt, StepIn, Sent, slots-hold}
 
@@ -35,14 +35,7 @@ pub record Receives (net : Words) (m : Memory) (w : List ℕ) (k : ℕ) (s : Sid
   pub later : delayAt (netIn net) i < k → Sent net m w (far s) i (k - delayAt (netIn net) i) (hears (netIn net) (after net w m) k s i)
 
 module _ (net : Words) (lent : Memory) (ok : Lent net lent) where
-  abbrev N : Net
-  N = netIn net
-
-  abbrev from0 : Memory
-  from0 = start net lent ok
-
-  abbrev at : List ℕ → Memory
-  at w = after net w from0
+  open FromReset (fromReset net lent) using (N, start, at)
 
   abbrev count : ℕ → List ℕ → ℕ
   count a w = countOf (at w .records) a
@@ -75,18 +68,18 @@ module _ (net : Words) (lent : Memory) (ok : Lent net lent) where
     within fromSide = form .to-near i there line
     within toSide = form .from-near i there line
 
-    heard : (s : Side) → areaAt N s i ≡ a → d < k → Sent net from0 w (far s) i (k - d) (word (storeOf (far s) (at w)) (slotOf N i (k - d)))
+    heard : (s : Side) → areaAt N s i ≡ a → d < k → Sent net start w (far s) i (k - d) (word (storeOf (far s) (at w)) (slotOf N i (k - d)))
     heard s o l =
         let own : k ≡ suc (count a w) = step-is a w k e in
         let near : count (areaAt N (far s) i) w ≤ count a w + d = rw o at (within s) in
         let h = slots-hold net lent ok (far s) i there line w in
-        let h′ : Holds (storeOf (far s) (at w)) (offset N i) (places d (depth (N .head) (rowAt N i))) (count (areaAt N (far s) i) w) (Sent net from0 w (far s) i) = rw (line-slots N i line) at h in
+        let h′ : Holds (storeOf (far s) (at w)) (offset N i) (places d (depth (N .head) (rowAt N i))) (count (areaAt N (far s) i) w) (Sent net start w (far s) i) = rw (line-slots N i line) at h in
         rw (line-slots N i line)
-        (holds-read (storeOf (far s) (at w)) (offset N i) d (depth (N .head) (rowAt N i)) (count (areaAt N (far s) i) w) (count a w) (Sent net from0 w (far s) i) (sound N (net-sound net (ok .network)) .travels i line) h′
+        (holds-read (storeOf (far s) (at w)) (offset N i) d (depth (N .head) (rowAt N i)) (count (areaAt N (far s) i) w) (count a w) (Sent net start w (far s) i) (sound N (net-sound net (ok .network)) .travels i line) h′
         (omega (arith, ahead s o)) near (k - d) (omega arith) (omega arith) (omega arith))
 
     -- T-received
-    pub received : (s : Side) → areaAt N s i ≡ a → Receives net from0 w k s i
+    pub received : (s : Side) → areaAt N s i ≡ a → Receives net start w k s i
     unfolding sentTo sentAt
     received s o = record { early = λ l. rw (le-ltb 0 (k - d) (omega arith)); later = λ l. rw (lt-ltb 0 (k - d) (omega arith)) (heard s o l) }
 
@@ -124,13 +117,13 @@ module _ (net : Words) (lent : Memory) (ok : Lent net lent) where
     later-steps : (u t : List ℕ) → advanceOf net b (at u) .answer ≡ Took x → x ≤ count b (u ++ (b ∷ t))
     later-steps u t e =
         let h : IsArea N b = area-of-accepted net lent ok b (at u) (run-inv net lent ok u) (took-accepted b (at u) x e) in
-        let p : count b u ≡ taken net b u from0 = counts-are net lent ok b h u in
-        let q : count b (u ++ (b ∷ t)) ≡ taken net b (u ++ (b ∷ t)) from0 = counts-are net lent ok b h (u ++ (b ∷ t)) in
+        let p : count b u ≡ taken net b u start = counts-are net lent ok b h u in
+        let q : count b (u ++ (b ∷ t)) ≡ taken net b (u ++ (b ∷ t)) start = counts-are net lent ok b h (u ++ (b ∷ t)) in
         let s : x ≡ suc (count b u) = step-is b u x e in
-        let g : suc (taken net b u from0) ≤ taken net b (u ++ (b ∷ t)) from0 = grown u t from0 e in
+        let g : suc (taken net b u start) ≤ taken net b (u ++ (b ∷ t)) start = grown u t start e in
         omega arith
 
-    pub once : (w : List ℕ) (p q : StepIn net from0 w b x) → p .before ≡ q .before
+    pub once : (w : List ℕ) (p q : StepIn net start w b x) → p .before ≡ q .before
     once w p q = go (two-places b (p .before) (q .before) (p .behind) (q .behind) (sym (p .calls) ∙ q .calls))
       where
         no : (u v t : List ℕ) → v ≡ u ++ (b ∷ t) → advanceOf net b (at u) .answer ≡ Took x → advanceOf net b (at v) .answer ≡ Took x → ⊥

@@ -11,8 +11,7 @@ use Rattle.laws_facts.specs.Nets.{netIn, rowAt}
 use Rattle.laws_local.specs.Slots.{delayAt, slotOf}
 use Rattle.laws_demands.specs.Said.{fromCurrent, toCurrent, fromSent, toSent, gv, EndObeys}
 use Rattle.laws_demands.specs.Step.{step}
-use Rattle.laws_runs.specs.Runs.{Lent, after}
-use Rattle.laws_runs.specs.Orders.{start}
+use Rattle.laws_runs.specs.Runs.{Lent, FromReset, fromReset}
 use Rattle.laws_runs.specs.Received.{Side, fromSide, toSide, far, nodeAt, storeOf, areaAt, StepIn, right-after}
 use Rattle.laws_runs.specs.Heard.{hears, received}
 
@@ -38,12 +37,11 @@ sentBy : Net → Memory → Side → ℕ → ℕ → ℤ
 sentBy N m fromSide i x = fromSent N m i x
 sentBy N m toSide i x = toSent N m i x
 
-module _ (net : Words) (lent : Memory) (ok : Lent net lent) (a : ℕ) (w : List ℕ) (k : ℕ) (e : advanceOf net a (after net w (start net lent ok)) .answer ≡ Took k) where
-  abbrev N : Net
-  N = netIn net
+module _ (net : Words) (lent : Memory) (ok : Lent net lent) (a : ℕ) (w : List ℕ) (k : ℕ) (e : advanceOf net a (fromReset net lent .at w) .answer ≡ Took k) where
+  open FromReset (fromReset net lent) using (N, start, at)
 
   abbrev m : Memory
-  m = after net w (start net lent ok)
+  m = at w
 
   abbrev n : Memory
   n = advanceOf net a m .after
@@ -68,7 +66,7 @@ module _ (net : Words) (lent : Memory) (ok : Lent net lent) (a : ℕ) (w : List 
   store-is p toSide i x y h = h
 
   -- T-received, of the current that the step wrote
-  pub line-law : (i : ℕ) → i < length (N .rows) → isLine (rowAt N i) ≡ true → (s : Side) → areaAt N s i ≡ a → LineLaw net (start net lent ok) w k s i n
+  pub line-law : (i : ℕ) → i < length (N .rows) → isLine (rowAt N i) ≡ true → (s : Side) → areaAt N s i ≡ a → LineLaw net start w k s i n
   line-law i h l s o =
       let own = end-law m a k e s i h l o in
       let got = received net lent ok a w k e i h l s o .later in
@@ -80,6 +78,6 @@ module _ (net : Words) (lent : Memory) (ok : Lent net lent) (a : ℕ) (w : List 
         later = λ d.
             let t = got d .step in
             own .later d
-            ∙ ap (λ (y : ℤ). gvAt N n s i +ℤ y) (sym (heard-is s i d) ∙ store-is (right-after net (start net lent ok) w b x t) (far s) i x (hears N m k s i) (got d .value)
-            ∙ end-law (after net (t .before) (start net lent ok)) b x (t .answer) (far s) i h l refl .sent);
+            ∙ ap (λ (y : ℤ). gvAt N n s i +ℤ y) (sym (heard-is s i d) ∙ store-is (right-after net start w b x t) (far s) i x (hears N m k s i) (got d .value)
+            ∙ end-law (at (t .before)) b x (t .answer) (far s) i h l refl .sent);
       }

@@ -4,10 +4,9 @@ use Rattle.whole.specs.Plain.{ℕ, _≡_, refl, sym, ap, _∙_, true, false, _&
 use Rattle.whole.specs.Plain.{decLe, Words}
 use Rattle.whole.specs.Folds.{and-left, and-right}
 use Rattle.paper.specs.Answers.{accepted}
-use Rattle.paper.specs.Areas.{Net, areaCount}
+use Rattle.paper.specs.Areas.{areaCount}
 use Rattle.paper.specs.Advance.{Memory, advanceOf}
 use Rattle.paper.specs.Resetting.{fresh, Reset-out}
-use Rattle.laws_facts.specs.Nets.{netIn}
 use Rattle.laws_order.specs.Same.{same}
 use Rattle.laws_order.specs.Calls as C
 use Rattle.laws_order.specs.Calls.{put}
@@ -19,16 +18,11 @@ use Rattle.laws_local.specs.Outcome as Outcome
 use Rattle.laws_stays.specs.Stays.{fresh-well}
 use Rattle.laws_demands.specs.Said.{IsArea}
 use Rattle.laws_demands.specs.States.{fresh-long, reset-is}
-use Rattle.laws_runs.specs.Runs.{Lent, reset, after, accepts, taken}
+use Rattle.laws_runs.specs.Runs.{Lent, FromReset, fromReset, after, accepts, taken}
 use Rattle.laws_runs.specs.Moves.{Inv, called, keep, moves, local}
 
 module _ (net : Words) (lent : Memory) (ok : Lent net lent) where
-  abbrev N : Net
-  N = netIn net
-
-  -- where every run starts
-  abbrev pub start : Memory
-  start = reset net lent
+  open FromReset (fromReset net lent) using (N, start, at)
 
   -- "writes the records and both line stores all zero"
   pub starts : start ≡ fresh
@@ -43,7 +37,7 @@ module _ (net : Words) (lent : Memory) (ok : Lent net lent) where
   inv-after (a ∷ w) m i = inv-after w (advanceOf net a m .after) (keep net (ok .network) a m i)
 
   -- the state of a run is well formed, whatever was called
-  pub run-inv : (w : List ℕ) → Inv net (ok .network) (after net w start)
+  pub run-inv : (w : List ℕ) → Inv net (ok .network) (at w)
   run-inv w = inv-after w start start-inv
 
   -- ---- the moves of a run
@@ -91,7 +85,7 @@ module _ (net : Words) (lent : Memory) (ok : Lent net lent) where
 
   -- T-order
   pub orders-agree : (w v : List ℕ) → ((a : ℕ) → IsArea N a → taken net a w start ≡ taken net a v start)
-      → (after net w start ≡ after net v start) × ((a : ℕ) → accepts net a w start ≡ accepts net a v start)
+      → (at w ≡ at v) × ((a : ℕ) → accepts net a w start ≡ accepts net a v start)
   orders-agree w v h =
       let r = O.orders-agree (moves net (ok .network)) (Inv net (ok .network)) diamond w v start start-inv (λ a. count-is a w ∙ same-counts w v h a ∙ sym (count-is a v)) in
       (sym (run-is w start) ∙ r .0 ∙ run-is v start, λ a. sym (told-is a w start) ∙ r .1 a ∙ told-is a v start)

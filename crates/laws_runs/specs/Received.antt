@@ -18,9 +18,9 @@ use Rattle.laws_local.specs.Sound.{Sound, sound}
 use Rattle.laws_local.specs.Owners.{keeper-of}
 use Rattle.laws_local.specs.Slots.{slotsAt, slotOf, some-slots, apart, sent, sent-other}
 use Rattle.laws_local.specs.Outcome.{stepOf, legsNow, voltsOf, Taken}
-use Rattle.laws_runs.specs.Runs.{Lent, after, accepts}
+use Rattle.laws_runs.specs.Runs.{Lent, FromReset, fromReset, after, accepts}
 use Rattle.laws_runs.specs.Moves.{fromWord, toWord, Inv, writes, took, call-is, moved, next, own-count, other-count}
-use Rattle.laws_runs.specs.Orders.{start, run-inv}
+use Rattle.laws_runs.specs.Orders.{run-inv}
 use Rattle.laws_runs.specs.Refused.{counts-are}
 
 -- ---- the two ends of a line, each with its node and its store
@@ -79,17 +79,10 @@ sent-more net m w c s i x y h = record {
 }
 
 module _ (net : Words) (lent : Memory) (ok : Lent net lent) where
-  abbrev N : Net
-  N = netIn net
+  open FromReset (fromReset net lent) using (N, start, at)
 
   f : Sound N
   f = sound N (net-sound net (ok .network))
-
-  abbrev from0 : Memory
-  from0 = start net lent ok
-
-  abbrev at : List ℕ → Memory
-  at w = after net w from0
 
   abbrev inv : (w : List ℕ) → Inv net (ok .network) (at w)
   inv w = run-inv net lent ok w
@@ -130,7 +123,7 @@ module _ (net : Words) (lent : Memory) (ok : Lent net lent) where
 
     -- of the steps that its area has taken in the run, the last 2d are in their slots
     abbrev Kept : List ℕ → Type 0
-    Kept w = Holds (storeOf s (at w)) (offset N i) (slotsAt N i) (countOf (at w .records) b) (Sent net from0 w s i)
+    Kept w = Holds (storeOf s (at w)) (offset N i) (slotsAt N i) (countOf (at w .records) b) (Sent net start w s i)
 
     zero-count : countOf (at [] .records) b ≡ 0
     unfolding accepts
@@ -147,10 +140,10 @@ module _ (net : Words) (lent : Memory) (ok : Lent net lent) where
       n = advanceOf net c m .after
 
       abbrev Sent′ : ℕ → ℤ → Type 0
-      Sent′ = Sent net from0 (w ++ (c ∷ [])) s i
+      Sent′ = Sent net start (w ++ (c ∷ [])) s i
 
-      more : (x : ℕ) (y : ℤ) → Sent net from0 w s i x y → Sent′ x y
-      more x y = sent-more net from0 w c s i x y
+      more : (x : ℕ) (y : ℤ) → Sent net start w s i x y → Sent′ x y
+      more x y = sent-more net start w c s i x y
 
       some : 0 < slotsAt N i
       some = some-slots N i f line
@@ -159,14 +152,14 @@ module _ (net : Words) (lent : Memory) (ok : Lent net lent) where
       refused-call : accepted (advanceOf net c m .answer) ≡ false → Holds (storeOf s n) (offset N i) (slotsAt N i) (countOf (n .records) b) Sent′
       refused-call e =
           subst (λ (n : Memory). Holds (storeOf s n) (offset N i) (slotsAt N i) (countOf (n .records) b) Sent′) (sym (advance-refused net c m e))
-          (holds-still (storeOf s m) (storeOf s m) (offset N i) (slotsAt N i) (countOf (m .records) b) (Sent net from0 w s i) Sent′ some h more (λ r _. refl))
+          (holds-still (storeOf s m) (storeOf s m) (offset N i) (slotsAt N i) (countOf (m .records) b) (Sent net start w s i) Sent′ some h more (λ r _. refl))
 
       other-area : accepted (advanceOf net c m .answer) ≡ true → c ≢ b → Holds (storeOf s n) (offset N i) (slotsAt N i) (countOf (n .records) b) Sent′
       other-area e d =
           let q : countOf (n .records) b ≡ countOf (m .records) b =
           ap (λ (m : Memory). countOf (m .records) b) (moved net (ok .network) c m (inv w) e) ∙ other-count net (ok .network) c m (inv w) (took net (ok .network) c m (inv w) e) b (least s) (omega (arith, area-of N (nodeAt s (rowAt N i)), f .areas)) d in
           rw q
-          (holds-still (storeOf s m) (storeOf s n) (offset N i) (slotsAt N i) (countOf (m .records) b) (Sent net from0 w s i) Sent′ some h more
+          (holds-still (storeOf s m) (storeOf s n) (offset N i) (slotsAt N i) (countOf (m .records) b) (Sent net start w s i) Sent′ some h more
           (λ r l. kept s c m r (inv w) (λ p. d (sym p)) l))
 
       own-area : accepted (advanceOf net c m .answer) ≡ true → c ≡ b → Holds (storeOf s n) (offset N i) (slotsAt N i) (countOf (n .records) b) Sent′
@@ -182,11 +175,11 @@ module _ (net : Words) (lent : Memory) (ok : Lent net lent) where
             value = ap (λ (a : ℕ). word (storeOf s (advanceOf net a m .after)) (slotOf N i k)) d;
           } in
           rw q
-          (holds-sent (storeOf s m) (storeOf s n) (offset N i) (slotsAt N i) (countOf (m .records) b) (Sent net from0 w s i) Sent′ some h more new
+          (holds-sent (storeOf s m) (storeOf s n) (offset N i) (slotsAt N i) (countOf (m .records) b) (Sent net start w s i) Sent′ some h more new
           (λ r l u. ap (λ (m : Memory). word (storeOf s m) (offset N i + r)) mv ∙ missed m (inv w) c t s r l (λ p. u (p ∙ ap (λ (x : ℕ). x % slotsAt N i) is))))
 
       kept-next : Kept (w ++ (c ∷ []))
-      kept-next = subst (λ (n : Memory). Holds (storeOf s n) (offset N i) (slotsAt N i) (countOf (n .records) b) Sent′) (sym (after-snoc net w c from0)) (go (accepted (advanceOf net c m .answer)) refl (ℕ-discrete c b))
+      kept-next = subst (λ (n : Memory). Holds (storeOf s n) (offset N i) (slotsAt N i) (countOf (n .records) b) Sent′) (sym (after-snoc net w c start)) (go (accepted (advanceOf net c m .answer)) refl (ℕ-discrete c b))
         where
           go : (x : Bool) → accepted (advanceOf net c m .answer) ≡ x → Dec (c ≡ b) → Holds (storeOf s n) (offset N i) (slotsAt N i) (countOf (n .records) b) Sent′
           go false e d = refused-call e

@@ -5,12 +5,12 @@ use Rattle.whole.specs.Plain.{_∷_, eqb, length, eqb-true, eqb-false, arith, W
 use Rattle.paper.specs.declared.Advance.{Advance}
 use Rattle.paper.specs.Answers.{accepted, advanceNumber}
 use Rattle.paper.specs.Rows.{from, to}
-use Rattle.paper.specs.Areas.{Net, areaOf}
+use Rattle.paper.specs.Areas.{areaOf}
 use Rattle.paper.specs.Records.{countAt, countOf}
 use Rattle.paper.specs.Advance.{Memory, Advanced, advanceOf}
 use Rattle.paper.specs.Kept.{advance-refused}
 use Rattle.paper.specs.Resetting.{fresh}
-use Rattle.laws_facts.specs.Nets.{netIn, rowAt, area-of, net-sound}
+use Rattle.laws_facts.specs.Nets.{rowAt, area-of, net-sound}
 use Rattle.laws_order.specs.Calls as C
 use Rattle.laws_order.specs.Calls.{put}
 use Rattle.laws_order.specs.Orders as O
@@ -18,10 +18,10 @@ use Rattle.laws_local.specs.Sound.{sound}
 use Rattle.laws_local.specs.Waits.{Free, late-not}
 use Rattle.laws_local.specs.Outcome.{stepOf, StepRefusal, floating14, range15, unbalanced16, history17, no-area, done, waits, stops, takes, outcome}
 use Rattle.laws_stays.specs.Stays.{zero-word}
-use Rattle.laws_runs.specs.Runs.{Lent, after, accepts, taken, firm}
+use Rattle.laws_runs.specs.Runs.{Lent, FromReset, fromReset, after, accepts, taken, firm}
 use Rattle.laws_runs.specs.Moves.{Inv, called, keep, moves, took, moved, own-count, other-count, step-firm, free-firm}
 use Rattle.laws_demands.specs.Said.{IsArea}
-use Rattle.laws_runs.specs.Orders.{start, starts, start-inv, run-inv, run-is, count-is, diamond}
+use Rattle.laws_runs.specs.Orders.{starts, start-inv, run-inv, run-is, count-is, diamond}
 
 -- the numbers that a run is answered
 pub record RunNumber (x : Advance) : Type 0 where
@@ -36,16 +36,9 @@ step-number unbalanced16 = omega arith
 step-number history17 = omega arith
 
 module _ (net : Words) (lent : Memory) (ok : Lent net lent) where
-  abbrev N : Net
-  N = netIn net
+  open FromReset (fromReset net lent) using (N, start, at)
 
-  abbrev from0 : Memory
-  from0 = start net lent ok
-
-  -- the memory and the next answer of area a after the calls of w
-  abbrev at : List ℕ → Memory
-  at w = after net w from0
-
+  -- the next answer of area a after the calls of w
   abbrev answers : ℕ → List ℕ → Advance
   answers a w = advanceOf net a (at w) .answer
 
@@ -65,17 +58,17 @@ module _ (net : Words) (lent : Memory) (ok : Lent net lent) where
   -- T-refused-step: where area a is refused by 14 to 17 after w, no order takes it further; and in an order that has taken it as far it gets that
   -- same answer, its place too, unless it is told to wait
   pub refused-step : (a : ℕ) (w v : List ℕ) → StepRefusal (answers a w)
-      → (taken net a v from0 ≤ taken net a w from0) × (taken net a v from0 ≡ taken net a w from0 → firm (answers a v) ≡ true → answers a v ≡ answers a w)
+      → (taken net a v start ≤ taken net a w start) × (taken net a v start ≡ taken net a w start → firm (answers a v) ≡ true → answers a v ≡ answers a w)
   refused-step a w v s =
       let m = moves net (ok .network) in
       let d = diamond net lent ok in
       let j = start-inv net lent ok in
-      let f : firm (advanceOf net a (C.run m w from0) .answer) ≡ true = rw (run-is net lent ok w from0) (step-firm s .0) in
-      let r : accepted (advanceOf net a (C.run m w from0) .answer) ≡ false = rw (run-is net lent ok w from0) (step-firm s .1) in (
-        rw (count-is net lent ok a v, count-is net lent ok a w) at (O.orders-stop m (Inv net (ok .network)) d a w v from0 j f r),
+      let f : firm (advanceOf net a (C.run m w start) .answer) ≡ true = rw (run-is net lent ok w start) (step-firm s .0) in
+      let r : accepted (advanceOf net a (C.run m w start) .answer) ≡ false = rw (run-is net lent ok w start) (step-firm s .1) in (
+        rw (count-is net lent ok a v, count-is net lent ok a w) at (O.orders-stop m (Inv net (ok .network)) d a w v start j f r),
         λ l g.
-            rw (run-is net lent ok v from0, run-is net lent ok w from0) at (O.orders-answer m (Inv net (ok .network)) d a w v from0 j
-            (count-is net lent ok a w ∙ sym l ∙ sym (count-is net lent ok a v)) f (rw (run-is net lent ok v from0) g)),
+            rw (run-is net lent ok v start, run-is net lent ok w start) at (O.orders-answer m (Inv net (ok .network)) d a w v start j
+            (count-is net lent ok a w ∙ sym l ∙ sym (count-is net lent ok a v)) f (rw (run-is net lent ok v start) g)),
       )
 
   -- ---- the counts of the records are the counts of accepted advances
@@ -101,14 +94,14 @@ module _ (net : Words) (lent : Memory) (ok : Lent net lent) where
           omega arith
       go false y e q = let z : count a (advanceOf net c m .after) ≡ count a m = ap (count a) (advance-refused net c m e) in omega arith
 
-  pub counts-are : (a : ℕ) → IsArea N a → (w : List ℕ) → count a (at w) ≡ taken net a w from0
+  pub counts-are : (a : ℕ) → IsArea N a → (w : List ℕ) → count a (at w) ≡ taken net a w start
   unfolding fresh
   counts-are a h w =
-      let z : count a from0 ≡ 0 = ap (count a) (starts net lent ok) ∙ ap nat (zero-word 512 (countAt a)) in
-      counts-from a h w from0 (start-inv net lent ok) ∙ omega arith
+      let z : count a start ≡ 0 = ap (count a) (starts net lent ok) ∙ ap nat (zero-word 512 (countAt a)) in
+      counts-from a h w start (start-inv net lent ok) ∙ omega arith
 
   -- T-fewest: an area that no other one is behind is never told to wait
-  pub fewest : (a : ℕ) (w : List ℕ) → IsArea N a → ((b : ℕ) → IsArea N b → taken net a w from0 ≤ taken net b w from0) → firm (answers a w) ≡ true
+  pub fewest : (a : ℕ) (w : List ℕ) → IsArea N a → ((b : ℕ) → IsArea N b → taken net a w start ≤ taken net b w start) → firm (answers a w) ≡ true
   fewest a w h least =
       let i = run-inv net lent ok w in
       let f = sound N (net-sound net (ok .network)) in

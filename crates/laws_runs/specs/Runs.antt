@@ -4,8 +4,10 @@ use Rattle.paper.specs.declared.Advance.{Advance}
 use Rattle.paper.specs.declared.Advance.the-variants.{Took, Network, Store, State, Area, Done, Wait, Floating, Range, Unbalanced, History}
 use Rattle.paper.specs.Answers.{accepted}
 use Rattle.paper.specs.Network.{isNetwork}
+use Rattle.paper.specs.Areas.{Net}
 use Rattle.paper.specs.Advance.{Memory, advanceOf, fits}
 use Rattle.paper.specs.Resetting.{resetOf}
+use Rattle.laws_facts.specs.Nets.{netIn}
 use Rattle.laws_order.specs.Calls.{put}
 
 -- what is lent has the lengths that refusal 9 asks, and the network passes refusal 8: a reset is accepted
@@ -21,6 +23,15 @@ reset net m = resetOf net m .after
 unfoldable pub after : Words → List ℕ → Memory → Memory
 after net [] m = m
 after net (a ∷ w) m = after net w (advanceOf net a m .after)
+
+-- a run from a reset of what was lent: its network, where it starts, and the memory after the calls of w
+pub record FromReset : Type 0 where
+  pub N : Net
+  pub start : Memory
+  pub at : List ℕ → Memory
+
+abbrev pub fromReset : Words → Memory → FromReset
+fromReset net lent = record { N = netIn net; start = reset net lent; at = λ w. after net w (reset net lent) }
 
 -- the accepted answers that area a gets, in order
 unfoldable pub accepts : Words → ℕ → List ℕ → Memory → List Advance

@@ -15,9 +15,9 @@ use Rattle.laws_order.specs.Calls.{Moves, put}
 use Rattle.laws_order.specs.Local.{Local, laws}
 use Rattle.laws_order.specs.Orders as O
 use Rattle.laws_demands.specs.Said.{IsArea}
-use Rattle.laws_runs.specs.Runs.{Lent, accepts, taken, firm}
+use Rattle.laws_runs.specs.Runs.{Lent, FromReset, fromReset, accepts, taken, firm}
 use Rattle.laws_runs.specs.Moves.{Cell, at, Inv, ownerIn, owner, hears, acc-firm, ext, keep, writes, reads, alive, unheard}
-use Rattle.laws_runs.specs.Orders.{start, start-inv, same-counts}
+use Rattle.laws_runs.specs.Orders.{start-inv, same-counts}
 
 -- area a's own words of the records and stores; 0 for the others
 unfoldable pub ownWords : Words → ℕ → Memory → Cell → ℤ
@@ -68,8 +68,7 @@ module _ (net : Words) (network : isNetwork net ≡ true) where
   }
 
 module _ (net : Words) (lent : Memory) (ok : Lent net lent) where
-  abbrev from0 : Memory
-  from0 = start net lent ok
+  open FromReset (fromReset net lent) using (start)
 
   told-lives : (a : ℕ) (w : List ℕ) (m : Memory) → C.told (rich net (ok .network)) a w m ≡ lives net a w m
   unfolding C.told lives same
@@ -86,9 +85,9 @@ module _ (net : Words) (lent : Memory) (ok : Lent net lent) where
   lives-length a (c ∷ w) m = put-length (accepted (advanceOf net c m .answer) && eqb a c) _ _ _ _ (lives-length a w (advanceOf net c m .after))
 
   -- T-order, with the words of each step
-  pub lives-agree : (w v : List ℕ) → ((a : ℕ) → IsArea (netIn net) a → taken net a w from0 ≡ taken net a v from0) → (a : ℕ) → lives net a w from0 ≡ lives net a v from0
+  pub lives-agree : (w v : List ℕ) → ((a : ℕ) → IsArea (netIn net) a → taken net a w start ≡ taken net a v start) → (a : ℕ) → lives net a w start ≡ lives net a v start
   unfolding C.count
   lives-agree w v h a =
-      let r = O.orders-agree (rich net (ok .network)) (Inv net (ok .network)) (laws (rich net (ok .network)) (Inv net (ok .network)) (rich-local net (ok .network))) w v from0 (start-inv net lent ok)
-      (λ b. ap length (told-lives b w from0) ∙ lives-length b w from0 ∙ same-counts net lent ok w v h b ∙ sym (lives-length b v from0) ∙ sym (ap length (told-lives b v from0))) in
-      sym (told-lives a w from0) ∙ r .1 a ∙ told-lives a v from0
+      let r = O.orders-agree (rich net (ok .network)) (Inv net (ok .network)) (laws (rich net (ok .network)) (Inv net (ok .network)) (rich-local net (ok .network))) w v start (start-inv net lent ok)
+      (λ b. ap length (told-lives b w start) ∙ lives-length b w start ∙ same-counts net lent ok w v h b ∙ sym (lives-length b v start) ∙ sym (ap length (told-lives b v start))) in
+      sym (told-lives a w start) ∙ r .1 a ∙ told-lives a v start
