@@ -99,19 +99,15 @@ module _ (N : Net) (a : ℕ) (m : Memory) (ok : Asked N a m) where
   -- ---- R, L, C, SW
 
   module _ (i : ℕ) (there : i < length (N .rows)) (b : isBranch (rowAt N i) ≡ true) (l : isLine (rowAt N i) ≡ false) (mine : rowArea N (rowAt N i) ≡ a) where
+    near : (p : ℕ) → (1 ≤ p → rowArea N (rowAt N i) ≡ areaOf N p) → p ≤ N .nodes → (p ≡ 0) ⊎ NodeOf N a p
+    near zero h t = inl refl
+    near (suc p) h t = inr (record { area = sym (h (omega arith)) ∙ mine; low = omega arith; high = t })
+
     from-near : (from (rowAt N i) ≡ 0) ⊎ NodeOf N a (from (rowAt N i))
-    from-near = go (from (rowAt N i)) refl
-      where
-        go : (p : ℕ) → from (rowAt N i) ≡ p → (from (rowAt N i) ≡ 0) ⊎ NodeOf N a (from (rowAt N i))
-        go zero e = inl e
-        go (suc p) e = inr (record { area = sym (row-area-from N (ok .net) i there b l (omega arith)) ∙ mine; low = omega arith; high = ok .net .row i there .branch b .fromIn .most })
+    from-near = near (from (rowAt N i)) (row-area-from N (ok .net) i there b l) (ok .net .row i there .branch b .fromIn .most)
 
     to-near : (to (rowAt N i) ≡ 0) ⊎ NodeOf N a (to (rowAt N i))
-    to-near = go (to (rowAt N i)) refl
-      where
-        go : (p : ℕ) → to (rowAt N i) ≡ p → (to (rowAt N i) ≡ 0) ⊎ NodeOf N a (to (rowAt N i))
-        go zero e = inl e
-        go (suc p) e = inr (record { area = sym (row-area-to N (ok .net) i there b l (omega arith)) ∙ mine; low = omega arith; high = ok .net .row i there .branch b .toIn .most })
+    to-near = near (to (rowAt N i)) (row-area-to N (ok .net) i there b l) (ok .net .row i there .branch b .toIn .most)
 
     abbrev wire : Leg
     wire = leg (from (rowAt N i)) (to (rowAt N i)) (conducts N (m .records) k i) (history m i)

@@ -28,24 +28,21 @@ length-lowest rows nodes = run-length (areaJoins rows) Limits.nodeEnd 0 (numbers
 abbrev pub leaders : List ℕ → ℕ → ℕ
 leaders low m = count (leads low) (numbers 1 m)
 
+up-next : (low : List ℕ) (m : ℕ) → leaders low (suc m) ≡ leaders low m + count (leads low) (suc m ∷ [])
+up-next low m =
+    let a : m + 1 ≡ suc m = omega arith in
+    let b : 1 + m ≡ suc m = omega arith in
+    let c : leaders low (m + 1) ≡ leaders low m + count (leads low) ((1 + m) ∷ []) = rw numbers-more (count-append (leads low) (numbers 1 m) ((1 + m) ∷ [])) in
+    rw (a, b) at c
+
+-- one that leads adds one, one that does not adds none
 pub up-last : (low : List ℕ) (m : ℕ) → mark low (suc m) ≡ suc m → leaders low (suc m) ≡ suc (leaders low m)
 unfolding count
-up-last low m e =
-    let a : m + 1 ≡ suc m = omega arith in
-    let b : 1 + m ≡ suc m = omega arith in
-    let c : leaders low (m + 1) ≡ leaders low m + count (leads low) ((1 + m) ∷ []) = rw numbers-more (count-append (leads low) (numbers 1 m) ((1 + m) ∷ [])) in
-    let d : count (leads low) (suc m ∷ []) ≡ 1 = rw (eq-eqb (mark low (suc m)) (suc m) e) in
-    omega (arith, rw (a, b) at c)
+up-last low m e = let d : count (leads low) (suc m ∷ []) ≡ 1 = rw (eq-eqb (mark low (suc m)) (suc m) e) in omega (arith, up-next low m)
 
--- one that does not lead adds none
 pub up-same : (low : List ℕ) (m : ℕ) → (mark low (suc m) ≡ suc m → ⊥) → leaders low (suc m) ≡ leaders low m
 unfolding count
-up-same low m e =
-    let a : m + 1 ≡ suc m = omega arith in
-    let b : 1 + m ≡ suc m = omega arith in
-    let c : leaders low (m + 1) ≡ leaders low m + count (leads low) ((1 + m) ∷ []) = rw numbers-more (count-append (leads low) (numbers 1 m) ((1 + m) ∷ [])) in
-    let d : count (leads low) (suc m ∷ []) ≡ 0 = rw (ne-eqb (mark low (suc m)) (suc m) e) in
-    omega (arith, rw (a, b) at c)
+up-same low m e = let d : count (leads low) (suc m ∷ []) ≡ 0 = rw (ne-eqb (mark low (suc m)) (suc m) e) in omega (arith, up-next low m)
 
 up-grows : (low : List ℕ) (m n : ℕ) → m ≤ n → leaders low m ≤ leaders low n
 up-grows low m n h =

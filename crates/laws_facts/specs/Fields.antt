@@ -3,7 +3,6 @@ use Rattle.whole.specs.Plain.{ℕ, zero, suc, _≤_, _<_, _≡_, refl, sym, sub
 use Rattle.whole.specs.Plain.{true≢false, List, [], _∷_, tail, T, leb, ltb, ltb→lt, ℤ, pos, negsuc, length, getD}
 use Rattle.whole.specs.Plain.{leb-true, not-false, arith, Words, z, word, nat, between}
 use Rattle.whole.specs.Folds.{and-left, and-right, or-left, or-right}
-use Rattle.paper.specs.Limits as Limits
 use Rattle.paper.specs.Rows.{Row, Field, fieldsOf, kind}
 use Rattle.paper.specs.Faults.{outside, nodeFault, valueFault}
 

@@ -1,12 +1,14 @@
 -- The joins of a table that passes: each is a row's, between two nodes off ground. Assumes nothing.
-use Rattle.whole.specs.Plain.{ℕ, zero, suc, _≤_, _<_, _≡_, refl, _⊎_, inl, inr, Bool, true, false, cond, not, _&&_}
-use Rattle.whole.specs.Plain.{List, [], _∷_, map, eqb, length, getD, not-true, eqb-false, arith, keep}
+use Rattle.whole.specs.Plain.{ℕ, suc, _≤_, _<_, _≡_, refl, _⊎_, inl, inr, Bool, true, false, cond, not, _&&_, List, []}
+use Rattle.whole.specs.Plain.{_∷_, List·Memᴰ·cases-cons, List·Memᴰ·not-nil, map, eqb, length, getD, not-true, eqb-false}
+use Rattle.whole.specs.Plain.{arith, keep}
 use Rattle.whole.specs.Folds.{and-left, and-right}
+use Rattle.whole.specs.Members.{among-at, among-keep, among-map}
 use Rattle.paper.specs.Rows.{Row, isBranch, isLine, from, to}
 use Rattle.paper.specs.Network.{passes}
 use Rattle.paper.specs.Spread.{Join}
 use Rattle.paper.specs.Areas.{joins, joinOf, nodeCount}
-use Rattle.laws_paths.specs.Paths.{In, top, below, Beside, Path, stay, hop, Linked}
+use Rattle.laws_paths.specs.Paths.{In, Beside, Path, stay, hop, Linked}
 use Rattle.laws_paths.specs.Rounds.{Inside}
 use Rattle.laws_paths.specs.Meaning.{areaJoins}
 use Rattle.laws_facts.specs.Table.{row-sound}
@@ -22,17 +24,9 @@ pub record Of (rows : List Row) (j : Join) : Type 0 where
 later : {rows : List Row} {j : Join} (r : Row) → Of rows j → Of (r ∷ rows) j
 later r o = record { place = suc (o .place); there = omega (arith, o .there); joining = o .joining; is = o .is }
 
-in-some : {j : Join} {js : List Join} → In j js → 0 < length js
-in-some top = omega arith
-in-some (below i) = omega arith
-
-in-cases : {i j : Join} {js : List Join} → In j (i ∷ js) → (j ≡ i) ⊎ In j js
-in-cases top = inl refl
-in-cases (below p) = inr p
-
 pub join-of : (rows : List Row) (j : Join) → In j (areaJoins rows) → Of rows j
 unfolding keep
-join-of [] j i = absurd (omega (arith, in-some i))
+join-of [] j i = absurd (List·Memᴰ·not-nil i)
 join-of (r ∷ rows) j i = go (joins r) refl (join-of rows j) i
   where
     head : joins r ≡ true → (In j (areaJoins rows) → Of rows j) → (j ≡ joinOf r) ⊎ In j (areaJoins rows) → Of (r ∷ rows) j
@@ -40,18 +34,11 @@ join-of (r ∷ rows) j i = go (joins r) refl (join-of rows j) i
     head e next (inr i) = later r (next i)
 
     go : (b : Bool) → joins r ≡ b → (In j (areaJoins rows) → Of rows j) → In j (map joinOf (cond b (r ∷ keep joins rows) (keep joins rows))) → Of (r ∷ rows) j
-    go true e next i = head e next (in-cases i)
+    go true e next i = head e next (List·Memᴰ·cases-cons i)
     go false e next i = later r (next i)
 
 pub join-in : (rows : List Row) (i : ℕ) → i < length rows → joins (getD rows i []) ≡ true → In (joinOf (getD rows i [])) (areaJoins rows)
-unfolding keep
-join-in [] i h e = absurd (omega arith)
-join-in (r ∷ rows) zero h e = rw e top
-join-in (r ∷ rows) (suc i) h e = go (joins r) (join-in rows i (omega arith) e)
-  where
-    go : (b : Bool) → In (joinOf (getD rows i [])) (areaJoins rows) → In (joinOf (getD rows i [])) (map joinOf (cond b (r ∷ keep joins rows) (keep joins rows)))
-    go true p = below p
-    go false p = p
+join-in rows i h e = among-map joinOf (keep joins rows) (among-keep joins rows (among-at rows i [] h) e)
 
 -- ---- what they join
 

@@ -1,15 +1,13 @@
 -- The search's marks against the paper's paths: a node of the area comes to mark 0 exactly when it has a path. Assumes nothing.
-use Rattle.whole.specs.Plain.{ℕ, suc, _≤_, _<_, _≡_, refl, sym, ap, _∙_, subst, _⊎_, inl, inr, true, List, [], _∷_}
-use Rattle.whole.specs.Plain.{List·Memᴰ·cases-cons, List·Memᴰ·not-nil, ℤ, length, eq-eqb, ne-eqb, ℕ-discrete, arith}
-use Rattle.whole.specs.Plain.{Words, keep}
-use Rattle.whole.specs.Members.{Among, top, below, among-map, map-among, among-keep, keep-among}
+use Rattle.whole.specs.Plain.{ℕ, suc, _≤_, _<_, _≡_, refl, sym, ap, _∙_, subst, _⊎_, inl, inr, true, List, ℤ, length}
+use Rattle.whole.specs.Plain.{eq-eqb, ne-eqb, ℕ-discrete, arith, Words, keep}
+use Rattle.whole.specs.Members.{Among, among-map, map-among, among-keep, keep-among}
 use Rattle.paper.specs.Rows.{Row, isBranch, isLine, from, to}
 use Rattle.paper.specs.Conductance.{conductance}
 use Rattle.paper.specs.Spread.{Join, mark}
 use Rattle.paper.specs.Areas.{Net, areaOf, rowArea, step, fixed}
 use Rattle.paper.specs.Legs.{Leg, leg, Heard}
 use Rattle.paper.specs.Floating.{conducting, legJoin, reached}
-use Rattle.laws_paths.specs.Paths as Paths
 use Rattle.laws_paths.specs.Paths.{In, Beside, Path, stay, hop}
 use Rattle.laws_paths.specs.Rounds.{Inside}
 use Rattle.laws_paths.specs.Meaning.{legJoins, Grounded, reached-sound, reached-complete}
@@ -17,20 +15,6 @@ use Rattle.laws_facts.specs.Nets.{rowAt, NetSound, row-area-from, row-area-to}
 use Rattle.paper.specs.Classes.{line-branch}
 use Rattle.laws_floats.specs.HasPath.{Conducts, Between, HasPath, at-ground, at-fixed, at-line, along}
 use Rattle.laws_floats.specs.Legs.{Of-row, of-line, of-branch, legsIn, leg-of, row-legs, line-from, line-to, plain-from}
-
--- ---- a join of the list
-
-in-among : {j : Join} {js : List Join} → In j js → Among j js
-in-among Paths.top = top refl
-in-among (Paths.below i) = below (in-among i)
-
-among-in : (js : List Join) {j : Join} → Among j js → In j js
-among-in [] i = absurd (List·Memᴰ·not-nil i)
-among-in (k ∷ js) {j} i = go (List·Memᴰ·cases-cons i) (λ p. among-in js p)
-  where
-    go : (j ≡ k) ⊎ Among j js → (Among j js → In j js) → In j (k ∷ js)
-    go (inl e) more = subst (λ (x : Join). In j (x ∷ js)) e Paths.top
-    go (inr p) more = Paths.below (more p)
 
 record Of-leg (legs : List Leg) (j : Join) : Type 0 where
   wire : Leg
@@ -40,12 +24,12 @@ record Of-leg (legs : List Leg) (j : Join) : Type 0 where
 
 join-leg : (legs : List Leg) {j : Join} → In j (legJoins legs) → Of-leg legs j
 join-leg legs i =
-    let m = map-among legJoin (keep conducting legs) (in-among i) in
+    let m = map-among legJoin (keep conducting legs) i in
     let k = keep-among conducting legs (m .among) in
     record { wire = m .source; among = k .among; carries = k .passes; is = m .gives }
 
 leg-join : (legs : List Leg) {l : Leg} → Among l legs → conducting l ≡ true → In (legJoin l) (legJoins legs)
-leg-join legs i c = among-in (legJoins legs) (among-map legJoin (keep conducting legs) (among-keep conducting legs i c))
+leg-join legs i c = among-map legJoin (keep conducting legs) (among-keep conducting legs i c)
 
 module _ (N : Net) (s : NetSound N) (a k : ℕ) (recs : Words) (ears : List Heard) where
   abbrev legs : List Leg

@@ -2,15 +2,22 @@
 -- (`spread-sound`); that it is at most that of each such node is `spread-complete` of Reached. Assumes nothing.
 use Rattle.whole.specs.Plain.{ℕ, zero, suc, _≡_, refl, ap, subst, _⊎_, inl, inr, List, [], _∷_, getD, set, decLe, arith}
 use Rattle.whole.specs.Plain.{fold}
+use Rattle.whole.specs.Members.{Among}
+use Rattle.whole.specs.Members as Members
 use Rattle.whole.specs.Turns.{run, turns}
 use Rattle.paper.specs.Limits as Limits
 use Rattle.paper.specs.Spread.{Join, mark, lower, joined, round, spread}
 
 -- ---- paths
 
-pub data In (j : Join) : List Join → Type 0 where
-  top : {js : List Join} → In j (j ∷ js)
-  below : {i : Join} {js : List Join} → In j js → In j (i ∷ js)
+abbrev pub In : Join → List Join → Type 0
+In j js = Among j js
+
+pub top : {j : Join} {js : List Join} → In j (j ∷ js)
+top = Members.top refl
+
+pub below : {i j : Join} {js : List Join} → In j js → In j (i ∷ js)
+below i = Members.below i
 
 -- a join of the list has n at one end and m at the other
 pub record Beside (js : List Join) (n m : ℕ) : Type 0 where

@@ -1,10 +1,9 @@
 -- What a round does to the marks: none rises, and each comes to its neighbours' at most. Assumes nothing.
-use Rattle.whole.specs.Plain.{ℕ, zero, suc, _≤_, _<_, _≡_, refl, ap, _∙_, inl, inr, List, [], _∷_, length, set}
-use Rattle.whole.specs.Plain.{length-set, getD-set-same, arith, fold}
+use Rattle.whole.specs.Plain.{ℕ, zero, suc, _≤_, _<_, _≡_, refl, ap, _∙_, inl, inr, List, [], _∷_, List·Memᴰ·cases-cons}
+use Rattle.whole.specs.Plain.{List·Memᴰ·not-nil, length, set, length-set, getD-set-same, arith, fold}
 use Rattle.whole.specs.Turns.{run}
-use Rattle.paper.specs.Limits as Limits
 use Rattle.paper.specs.Spread.{Join, mark, lower, joined, round}
-use Rattle.laws_paths.specs.Paths.{In, top, below, Beside, Path, stay, hop, set-cases}
+use Rattle.laws_paths.specs.Paths.{In, below, Beside, Path, stay, hop, set-cases}
 
 -- ---- complete
 
@@ -58,8 +57,11 @@ fold-near js m n p h b = go js m h (b .within)
         [ inl e ↦ omega (arith, l .0, ap (mark (joined m j)) (e .0), ap (mark m) (e .1)) | inr e ↦ omega (arith, l .1, ap (mark (joined m j)) (e .1), ap (mark m) (e .0)) ]
 
     go : (js : List Join) (m : List ℕ) → ((j : Join) → In j js → (j .one < length m) × (j .two < length m)) → In (b .join) js → mark (fold joined m js) n ≤ mark m p
-    go (k ∷ js) m h top = omega (arith, fold-falls js (joined m k) n, head m (h k top))
-    go (k ∷ js) m h (below i) = omega (arith, go js (joined m k) (λ l q. rw length-joined (h l (below q))) i, joined-falls m k p)
+    go [] m h i = absurd (List·Memᴰ·not-nil i)
+    go (k ∷ js) m h i = elim (List·Memᴰ·cases-cons i) [
+      | inl e ↦ omega (arith, fold-falls js (joined m k) n, rw e at (head m (h (b .join) i)))
+      | inr i ↦ omega (arith, go js (joined m k) (λ l q. rw length-joined (h l (below q))) i, joined-falls m k p)
+    ]
 
 -- the rounds, the last one outermost
 pub run-last : (js : List Join) (k i : ℕ) (m : List ℕ) → run (suc k) i (round js) m ≡ fold joined (run k i (round js) m) js

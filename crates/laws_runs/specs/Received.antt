@@ -9,7 +9,7 @@ use Rattle.paper.specs.Answers.{accepted}
 use Rattle.paper.specs.Rows.{Row, isLine, from, to}
 use Rattle.paper.specs.Areas.{Net, areaOf}
 use Rattle.paper.specs.Records.{countOf, offset}
-use Rattle.paper.specs.Legs.{End, Branch, Heard, heard}
+use Rattle.paper.specs.Legs.{End, Branch}
 use Rattle.paper.specs.Advance.{Memory, Advanced, written, advanceOf}
 use Rattle.paper.specs.Kept.{advance-refused}
 use Rattle.laws_facts.specs.Nets.{netIn, rowAt, area-of, net-sound}
@@ -17,7 +17,8 @@ use Rattle.laws_order.specs.Ring.{slot, Holds, holds-still, holds-sent}
 use Rattle.laws_local.specs.Sound.{Sound, sound}
 use Rattle.laws_local.specs.Owners.{keeper-of}
 use Rattle.laws_local.specs.Slots.{slotsAt, slotOf, some-slots, apart, sent, sent-other}
-use Rattle.laws_local.specs.Outcome.{stepOf, legsNow, voltsOf, Taken}
+use Rattle.laws_local.specs.Outcome.{stepOf, Taken}
+use Rattle.laws_demands.specs.Branches.{Now, now}
 use Rattle.laws_runs.specs.Runs.{Lent, FromReset, fromReset, after, accepts}
 use Rattle.laws_runs.specs.Moves.{fromWord, toWord, Inv, writes, took, call-is, moved, next, own-count, other-count}
 use Rattle.laws_runs.specs.Orders.{run-inv}
@@ -103,14 +104,7 @@ module _ (net : Words) (lent : Memory) (ok : Lent net lent) where
 
     -- its own area's step writes one slot of it
     module _ (m : Memory) (j : Inv net (ok .network) m) (c : ℕ) (t : Taken N c m (j .good)) where
-      abbrev k : ℕ
-      k = stepOf N c m
-
-      abbrev ears : List Heard
-      ears = heard N c k (m .froms) (m .tos)
-
-      abbrev v : Words
-      v = voltsOf N c k (legsNow N c m)
+      open Now (now N c m) using (k, ears, v)
 
       miss : (end : Branch → End) (r : ℕ) → r < slotsAt N i → r ≢ k % slotsAt N i → (w : Words) → word (sent N c k (m .records) ears v end w) (offset N i + r) ≡ word w (offset N i + r)
       miss end r l n = sent-other N c k (m .records) ears v end (offset N i + r)
