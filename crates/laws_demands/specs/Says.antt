@@ -22,7 +22,7 @@ pub record Next (net : Words) (a : ℕ) (m : Memory) : Type 0 where
   pub area : IsArea (netIn net) a
   pub undone : countOf (m .records) a < steps (netIn net .head)
 
--- "13 WAIT: a far area's count is below k - d": the line in place i, and none before it
+-- a line of the area waits, and none before it in the table
 pub record Late (net : Words) (a : ℕ) (m : Memory) (b : ℕ) : Type 0 where
   pub row : ℕ
   pub there : row < length (netIn net .rows)
@@ -45,14 +45,25 @@ module _ (net : Words) (a : ℕ) (m : Memory) where
 
   -- "Advancing: 9, 8, then 10 to 17"
   abbrev pub Says : Advance → Type 0
+  -- 9 STORE: "a lent length wrong"
   Says Store = fits net m ≡ false
+  -- 8 NETWORK: "lent network record not one the reader could write"
   Says Network = (fits net m ≡ true) × (isNetwork net ≡ false)
+  -- 10 STATE: "records not well formed"
   Says State = (fits net m ≡ true) × (isNetwork net ≡ true) × (wellFormed N (m .records) (m .froms) (m .tos) ≡ false)
+  -- 11 AREA: "no such area"
   Says Area = Judged net m × (IsArea N a → ⊥)
+  -- 12 DONE: "the area has taken all steps"
   Says Done = Judged net m × IsArea N a × (steps (N .head) ≤ countOf (m .records) a)
+  -- 13 WAIT: "a far area's count is below k - d"
   Says (Wait b) = Next net a m × Late net a m b
+  -- 14 FLOATING: "a free node has no path"
   Says (Floating n) = Ready net a m × Floats N a k (m .records) n
+  -- 15 RANGE: "a proposed voltage out of range"
   Says (Range n) = Ready net a m × AllPaths N a k m × OutOfRange N a k m n
+  -- 16 UNBALANCED: "the limit is passed at a node"
   Says (Unbalanced n) = Ready net a m × AllPaths N a k m × AllInRange N a k m × Unbalances N a k m n
+  -- 17 HISTORY: "a next history or sent value beyond 10^17"
   Says (History b) = Ready net a m × AllPaths N a k m × AllInRange N a k m × AllBalanced N a k m × FirstExceeds N a k m b
+  -- "an accepted advance answers the area's new count"
   Says (Took x) = Ready net a m × (x ≡ k) × AllPaths N a k m × AllInRange N a k m × AllBalanced N a k m × AllWithin N a k m

@@ -32,7 +32,7 @@ fields-there [] w p = omega arith
 fields-there (f ∷ fs) [] p = absurd (true≢false p)
 fields-there (f ∷ fs) (x ∷ w) p = let h = fields-there fs w (or-right (f .names && not (between (f .low) (f .high) x)) (outside true fs w) p) in omega arith
 
-tail-word : (r : Row) (i : ℕ) → word (tail r) i ≡ word r (suc i)
+pub tail-word : (r : Row) (i : ℕ) → word (tail r) i ≡ word r (suc i)
 tail-word [] i = refl
 tail-word (x ∷ r) i = refl
 

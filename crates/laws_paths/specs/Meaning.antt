@@ -78,7 +78,7 @@ pub record Grounded (fix : ℕ → Bool) (legs : List Leg) (n : ℕ) : Type 0 wh
   pub way : Linked (legJoins legs) n node
   pub ground : (node ≡ 0) ⊎ (fix node ≡ true)
 
-marks-length : (fix : ℕ → Bool) (nodes : ℕ) → length (marks fix nodes) ≡ suc nodes
+pub marks-length : (fix : ℕ → Bool) (nodes : ℕ) → length (marks fix nodes) ≡ suc nodes
 unfolding marks
 marks-length fix nodes = length-map (numbers 0 (suc nodes)) (λ n. cond (fix n) 0 n) ∙ length-numbers 0 (suc nodes)
 

@@ -6,7 +6,7 @@ use Rattle.whole.specs.Folds.{and-left, and-right, both, every-at}
 use Rattle.paper.specs.Limits as Limits
 use Rattle.paper.specs.Rows.{unknown, Row, Field, Kind, bytes, kinds, noKind, fieldsOf, kind, signed}
 use Rattle.paper.specs.Text.{TAB}
-use Rattle.laws_facts.specs.Fields.{noField, InRange, in-range}
+use Rattle.laws_facts.specs.Fields.{noField, InRange, in-range, tail-word}
 use Rattle.laws_facts.specs.Sound.{kind-is}
 use Rattle.laws_facts.specs.Passing.{Taken}
 use Rattle.laws_facts.specs.Layout.{arity-most}
@@ -46,10 +46,6 @@ arity-some k h = leb-true 1 _ (every-at (λ (x : Kind). leb 1 (length (x .fields
 words-of : (r : Row) → word r 0 ≡ pos (kind r) → 1 ≤ length (tail r) → r ≡ pos (kind r) ∷ tail r
 words-of [] e h = absurd (omega arith)
 words-of (x ∷ r) e h = ap (λ (y : ℤ). y ∷ r) e
-
-tail-word : (r : Row) (i : ℕ) → word (tail r) i ≡ word r (suc i)
-tail-word [] i = refl
-tail-word (x ∷ r) i = refl
 
 tail-most : (r : Row) (n : ℕ) → length r ≤ suc n → length (tail r) ≤ n
 tail-most [] n h = omega arith

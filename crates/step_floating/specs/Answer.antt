@@ -11,7 +11,7 @@ use Rattle.paper.specs.Spread.{Join, mark}
 use Rattle.paper.specs.Floating.{conducting, reached, legJoin, marks}
 use Rattle.paper.specs.Limits as Limits
 use Rattle.laws_paths.specs.Paths.{In, Beside, Path, stay, hop, spread-sound, Linked, set-cases}
-use Rattle.laws_paths.specs.Meaning.{legJoins}
+use Rattle.laws_paths.specs.Meaning.{legJoins, marks-length}
 use Rattle.laws_paths.specs.Rounds.{Inside}
 use Rattle.laws_paths.specs.Reached.{spread-complete}
 use Rattle.step_legs.specs.Wires.{legAt, legsIn, Wires}
@@ -19,7 +19,7 @@ use Rattle.step_legs.specs.Leaving.{legs-length, leg-is}
 use Rattle.step_legs.specs.Free.{Free, first-here}
 use Rattle.step_floating.specs.Search.{seen, reaches, loose, reach, calmer, around}
 use Rattle.step_floating.specs.Joins.{joins-all, leg-in}
-use Rattle.step_floating.specs.Marks.{marks-length, zero-any, zero-set, set-zero, weight, weight-set}
+use Rattle.step_floating.specs.Marks.{zero-any, zero-set, set-zero, weight, weight-set}
 
 abbrev pub start : List ℕ → List ℕ
 start free = marks (loose free) Limits.nodeEnd

@@ -1,17 +1,14 @@
 -- Marks by node: the first ones, what a node reached changes, and the sum that falls with it. Assumes nothing.
 use Rattle.whole.specs.Plain.{ℕ, zero, suc, _+_, _<_, _≡_, refl, sym, ap, _∙_, inl, inr, Bool, true, false, cond, not}
-use Rattle.whole.specs.Plain.{_&&_, List, [], _∷_, eqb, length, getD, set, length-set, length-map, replicate}
-use Rattle.whole.specs.Plain.{getD-replicate, ext-getD, arith, numbers, fold, any, sum}
+use Rattle.whole.specs.Plain.{_&&_, List, [], _∷_, eqb, length, getD, set, length-set, replicate, getD-replicate}
+use Rattle.whole.specs.Plain.{ext-getD, arith, numbers, fold, any, sum}
 use Rattle.whole.specs.Folds.{fold-keeps, getD-map, getD-numbers, length-numbers}
 use Rattle.whole.specs.Written.{fold-set}
 use Rattle.paper.specs.Limits as Limits
 use Rattle.paper.specs.Floating.{marks}
 use Rattle.laws_paths.specs.Paths.{set-cases}
+use Rattle.laws_paths.specs.Meaning.{marks-length}
 use Rattle.step_floating.specs.Search.{loose}
-
-pub marks-length : (fix : ℕ → Bool) (nodes : ℕ) → length (marks fix nodes) ≡ suc nodes
-unfolding marks
-marks-length fix nodes = length-map (numbers 0 (suc nodes)) (λ n. cond (fix n) 0 n) ∙ length-numbers 0 (suc nodes)
 
 -- ---- all reached, then the free nodes numbered one by one
 abbrev pub put : List ℕ → ℕ → List ℕ
