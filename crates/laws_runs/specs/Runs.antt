@@ -1,8 +1,7 @@
 -- A run: any list of area numbers, called one after the other from a reset, refused calls among them. Assumes nothing.
-use Rattle.whole.specs.Plain.{ℕ, _≡_, Bool, true, false, _&&_, List, [], _∷_, eqb, length, Words}
+use Rattle.whole.specs.Plain.{ℕ, _≡_, Bool, true, not, _&&_, List, [], _∷_, eqb, length, Words}
 use Rattle.paper.specs.declared.Advance.{Advance}
-use Rattle.paper.specs.declared.Advance.the-variants.{Took, Network, Store, State, Area, Done, Wait, Floating, Range, Unbalanced, History}
-use Rattle.paper.specs.Answers.{accepted}
+use Rattle.paper.specs.Answers.{accepted, advanceNumber}
 use Rattle.paper.specs.Network.{isNetwork}
 use Rattle.paper.specs.Areas.{Net}
 use Rattle.paper.specs.Advance.{Memory, advanceOf, fits}
@@ -46,14 +45,4 @@ taken net a w m = length (accepts net a w m)
 
 -- every answer but 13: what an area's own records and the far values that are sent already decide
 abbrev pub firm : Advance → Bool
-firm (Took k) = true
-firm Network = true
-firm Store = true
-firm State = true
-firm Area = true
-firm Done = true
-firm (Wait b) = false
-firm (Floating n) = true
-firm (Range n) = true
-firm (Unbalanced n) = true
-firm (History b) = true
+firm x = not (eqb (advanceNumber x) 13)
