@@ -45,7 +45,7 @@ done
 # refusals by name; what is accepted is 0
 while read -r name number; do
     expect "EMT_${name^^}" "$number"
-done < <(sed -nE 's/^(reading|resetting|advance|listing)Number \(?([A-Z]\.)?([A-Za-z]+)( [a-z]\))? = ([1-9][0-9]*)$/\3 \5/p' $specs/Answers.antt $specs/Pieces.antt | sort -u)
+done < <(sed -nE 's/^(reading|resetting|advance|listing)Number \(?([A-Z]\.)?([A-Za-z]+)(( [a-z])+\))? = ([1-9][0-9]*)$/\3 \6/p' $specs/Answers.antt $specs/Pieces.antt | sort -u)
 
 {
     echo '#include <emt.h>'

@@ -1,7 +1,7 @@
 // "When an answer is an enum, a definition gives this paper's number and values for each of its cases": the same in code.
 ghost use Rattle.whole.specs.Plain.{_≡_, _+_};
 ghost use Rattle.paper.specs.Answers.{readingNumber, readingLine, resettingNumber, advanceNumber, advancePlace, advanceCount};
-ghost use Rattle.paper.specs.Pieces.{listingNumber};
+ghost use Rattle.paper.specs.Pieces.{listingNumber, stopArea, stopNumber, stopPlace};
 use paper::Advance;
 use paper::Listing;
 use paper::Reading;
@@ -116,6 +116,48 @@ pub fn listing_number(answer: Listing) -> u64
         Listing::Store => 9,
         Listing::State => 10,
         Listing::More => 100,
-        Listing::Stopped => 101,
+        Listing::Stopped(_, _) => 101,
+    }
+}
+
+// The area whose refusal ended a listing; 0 where none did.
+pub fn stop_area(answer: Listing) -> u64
+    ensures { λ r. ⌜ r ≡ stopArea answer ⌝ }
+{
+    match answer {
+        Listing::Stopped(area, _) => area,
+        Listing::More => 0,
+        Listing::Done => 0,
+        Listing::Network => 0,
+        Listing::Store => 0,
+        Listing::State => 0,
+    }
+}
+
+// Its refusal's number.
+pub fn stop_number(answer: Listing) -> u64
+    ensures { λ r. ⌜ r ≡ stopNumber answer ⌝ }
+{
+    match answer {
+        Listing::Stopped(_, refusal) => advance_number(refusal),
+        Listing::More => 0,
+        Listing::Done => 0,
+        Listing::Network => 0,
+        Listing::Store => 0,
+        Listing::State => 0,
+    }
+}
+
+// The node or branch that its refusal carries.
+pub fn stop_place(answer: Listing) -> u64
+    ensures { λ r. ⌜ r ≡ stopPlace answer ⌝ }
+{
+    match answer {
+        Listing::Stopped(_, refusal) => advance_place(refusal),
+        Listing::More => 0,
+        Listing::Done => 0,
+        Listing::Network => 0,
+        Listing::Store => 0,
+        Listing::State => 0,
     }
 }

@@ -1,7 +1,5 @@
 -- Areas that have all taken as many steps. Assumes nothing.
-use Rattle.whole.specs.Plain.{ℕ, _+_, _-_, _≤_, _<_, _≡_, Bool, true, cond, List, eqb, length, eq-eqb, ne-eqb, eqb-true}
-use Rattle.whole.specs.Plain.{arith, Words, every, numbers}
-use Rattle.whole.specs.Folds.{every-at, length-numbers, getD-numbers}
+use Rattle.whole.specs.Plain.{ℕ, _≤_, _<_, _≡_, Bool, cond, List, eqb, eq-eqb, ne-eqb, arith, Words, every, numbers}
 use Rattle.paper.specs.Areas.{Net}
 use Rattle.paper.specs.Records.{countOf}
 use Rattle.paper.specs.Pieces.{stepsTaken, level}
@@ -29,9 +27,3 @@ module _ {N : Net} {plan : List (List ℕ)} {t : Totals} (o : Of N plan t) (recs
   pub level-is : level N recs ≡ every (tookAll recs (takenBy recs (t .areas) (t .steps))) (numbers 1 (t .areas))
   unfolding level stepsTaken
   level-is = rw (o .counts)
-
-pub took-at : (recs : Words) (areas k : ℕ) → every (tookAll recs k) (numbers 1 areas) ≡ true → (a : ℕ) → 1 ≤ a → a ≤ areas → countOf recs a ≡ k
-took-at recs areas k e a l h =
-    let i : a - 1 < length (numbers 1 areas) = rw length-numbers (omega arith) in
-    let m : 1 + (a - 1) ≡ a = omega arith in
-    eqb-true (countOf recs a) k (rw (getD-numbers 1 areas (a - 1) 0 (omega arith), m) at (every-at (tookAll recs k) (numbers 1 areas) 0 (a - 1) e i))

@@ -17,14 +17,14 @@ use Rattle.paper.specs.Pieces.{Listed, listed, Piece, writing, ended, stepPiece
 use Rattle.paper.specs.Pieces as Pieces
 use Rattle.laws_facts.specs.Nets.{netIn}
 use Rattle.laws_pieces.specs.Level.{Level}
-use Rattle.laws_pieces.specs.Steps.{run-ended, full, stopped, stepped}
+use Rattle.laws_pieces.specs.Steps.{run-ended, Refusal, full, stopped, stepped}
 use Rattle.laws_pieces.specs.Runs.{asRun, step-as, runFrom, run-from}
 
 -- what follows a piece: the next one where more is to list, nothing otherwise
 abbrev pub onward : Listing → List ℕ → List ℕ
 onward More rest = rest
 onward Done rest = []
-onward Stopped rest = []
+onward (Stopped a x) rest = []
 onward Network rest = []
 onward Store rest = []
 onward State rest = []
@@ -57,12 +57,21 @@ module _ (net : Words) (network : isNetwork net ≡ true) where
       ap (λ (x : Run). closing N (turns (suc (suc k)) last (stepRun net N) x)) (sym q)
       ∙ ap (closing N) (sym (rw (add-one (suc k)) at t)) ∙ run-from net N k m out
 
+  -- a last piece: all steps are taken, or after some lines an area was refused its step
+  pub data Over (l : Listed) : Type 0 where
+    all-done : l .answer ≡ Done → Over l
+    refused : (k : ℕ) (left : k < steps (N .head)) (lines : List ℕ) → Refusal net network k left lines l → Over l
+
+  pub none-follow : {l : Listed} → Over l → (rest : List ℕ) → onward (l .answer) rest ≡ []
+  none-follow (all-done e) rest = rw e
+  none-follow (refused k h lines r) rest = rw (r .is)
+
   module _ (room : ℕ) where
     -- what a piece from k steps on comes to, after the bytes `out`
     pub data Ends (k : ℕ) (m : Memory) (out : List ℕ) (l : Listed) : Type 0 where
       more : (k′ : ℕ) → l .answer ≡ More → Level net network k′ (l .after) → k ≤ k′ → k′ < steps (N .head) → (length out + Limits.stepBytes ≤ room → k < k′)
           → l .written ++ runFrom net N k′ (l .after) ≡ out ++ runFrom net N k m → Ends k m out l
-      whole : ((rest : List ℕ) → onward (l .answer) rest ≡ []) → l .written ≡ out ++ runFrom net N k m → Ends k m out l
+      whole : Over l → l .written ≡ out ++ runFrom net N k m → Ends k m out l
 
     after-step : {k : ℕ} {m m′ : Memory} {out out′ : List ℕ} {l : Listed} → out′ ++ runFrom net N (suc k) m′ ≡ out ++ runFrom net N k m → Ends (suc k) m′ out′ l → Ends k m out l
     after-step e (more k′ a v h b r w) = more k′ a v (omega arith) b (λ q. omega arith) (w ∙ e)
@@ -74,7 +83,7 @@ module _ (net : Words) (network : isNetwork net ≡ true) where
     ends zero k m out e v =
         let h : last ≤ suc k = omega arith in
         rw (turns-done (suc k) last (turnPiece net N room) (writing m out) h)
-        (whole (λ rest. refl) (ap (λ (l : List ℕ). out ++ l) (ap (closing N) (sym (turns-done (suc k) last (stepRun net N) (going m []) h)))))
+        (whole (all-done refl) (ap (λ (l : List ℕ). out ++ l) (ap (closing N) (sym (turns-done (suc k) last (stepRun net N) (going m []) h)))))
     ends (suc d) k m out e v =
         let t = turns-more (suc k) last (turnPiece net N room) (writing m out) (omega arith) in
         rw (rw (add-one (suc k)) at t)
@@ -84,6 +93,6 @@ module _ (net : Words) (network : isNetwork net ≡ true) where
           | yes x ↦ rw (le-leb (length out + Limits.stepBytes) room x) (elim (stepped net network k (omega arith) out m v) [
             | full m′ q v′ ↦ rw q (after-step (sym (run-from net N (suc k) m′ _) ∙ further k m out _ (omega arith) q) (ends d (suc k) m′ _ (omega arith) v′))
             | stopped l q y ↦ rw (q, turns-ended net N room (suc (suc k)) last l)
-                (whole (λ rest. rw y) (ap (closing N) (sym (run-over net N (suc (suc k)) last (l .written))) ∙ further k m out (ended l) (omega arith) q))
+                (whole (refused k (omega arith) out y) (ap (closing N) (sym (run-over net N (suc (suc k)) last (l .written))) ∙ further k m out (ended l) (omega arith) q))
           ])
         ])

@@ -18,7 +18,7 @@ use Rattle.paper.specs.Pieces.{Listed, Piece, writing, ended, wentOn, areaPiece
 abbrev pub ran : Listing → Bool
 ran More = true
 ran Done = true
-ran Stopped = true
+ran (Stopped a x) = true
 ran Network = false
 ran Store = false
 ran State = false

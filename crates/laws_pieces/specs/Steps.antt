@@ -8,8 +8,8 @@ use Rattle.paper.specs.Network.{isNetwork}
 use Rattle.paper.specs.Areas.{Net, areaCount}
 use Rattle.paper.specs.Answers.{accepted}
 use Rattle.paper.specs.Advance.{Memory, advanceOf}
-use Rattle.paper.specs.Listing.{stepLines}
-use Rattle.paper.specs.Pieces.{Listed, Piece, writing, ended, wentOn, areaPiece, fullStep, stepPiece}
+use Rattle.paper.specs.Listing.{stepLines, stopLine}
+use Rattle.paper.specs.Pieces.{Listed, listed, Piece, writing, ended, wentOn, areaPiece, fullStep, stepPiece}
 use Rattle.laws_facts.specs.Nets.{netIn}
 use Rattle.laws_pieces.specs.Level.{Partway, Level, level-start, level-end, leads-on}
 
@@ -24,10 +24,20 @@ module _ (net : Words) (network : isNetwork net ≡ true) where
   N = netIn net
 
   module _ (k : ℕ) (left : k < steps (N .head)) (out : List ℕ) where
+    -- area a was refused: those before it took the step
+    pub record Refusal (l : Listed) : Type 0 where
+      pub area : ℕ
+      pub now : Memory
+      pub least : 1 ≤ area
+      pub most : area ≤ areaCount N
+      pub part : Partway net network k area now
+      pub refused : accepted (advanceOf net area now .answer) ≡ false
+      pub is : let r = advanceOf net area now in l ≡ listed (Stopped area (r .answer)) (out ++ stopLine (suc k) area (r .answer)) (r .after)
+
     -- the areas' turns
     pub data Turned (s : Piece) : Type 0 where
       all-took : (m : Memory) → s ≡ writing m out → Level net network (suc k) m → Turned s
-      one-refused : (l : Listed) → s ≡ ended l → l .answer ≡ Stopped → Turned s
+      one-refused : (l : Listed) → s ≡ ended l → Refusal l → Turned s
 
     turned : (d a : ℕ) (m : Memory) → Partway net network k a m → 1 ≤ a → a + d ≡ suc (areaCount N) → Turned (run d a (areaPiece net (suc k)) (writing m out))
     unfolding run areaPiece
@@ -35,13 +45,14 @@ module _ (net : Words) (network : isNetwork net ≡ true) where
     turned (suc d) a m p one e =
         elim (accepted (advanceOf net a m .answer)) as (λ b. accepted (advanceOf net a m .answer) ≡ b → Turned (run d (suc a) (areaPiece net (suc k)) (wentOn (suc k) a out (advanceOf net a m) b))) [
           | true ↦ λ x. turned d (suc a) (advanceOf net a m .after) (leads-on net network k a m p one (omega arith) x) (omega arith) (omega arith)
-          | false ↦ λ x. one-refused _ (run-ended (areaPiece net (suc k)) (λ j x. refl) d (suc a) _) refl
+          | false ↦ λ x. one-refused _ (run-ended (areaPiece net (suc k)) (λ j x. refl) d (suc a) _)
+              (record { area = a; now = m; least = one; most = omega arith; part = p; refused = x; is = refl })
         ] refl
 
     -- the whole step
     pub data Stepped (s : Piece) : Type 0 where
       full : (m : Memory) → s ≡ writing m (out ++ stepLines N (m .records) (suc k)) → Level net network (suc k) m → Stepped s
-      stopped : (l : Listed) → s ≡ ended l → l .answer ≡ Stopped → Stepped s
+      stopped : (l : Listed) → s ≡ ended l → Refusal l → Stepped s
 
     pub stepped : (m : Memory) → Level net network k m → Stepped (stepPiece net N (suc k) (writing m out))
     unfolding stepPiece fullStep turns

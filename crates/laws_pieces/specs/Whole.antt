@@ -1,10 +1,11 @@
 -- T-pieces, of a whole run: from a reset, the pieces of at most as many calls as the study has steps are the listing. Assumes nothing.
-use Rattle.whole.specs.Plain.{ℕ, _+_, _-_, _≤_, _<_, _≡_, refl, sym, ap, _∙_, true, cond, List, [], _∷_, _++_}
+use Rattle.whole.specs.Plain.{ℕ, _+_, _-_, _≤_, _<_, _≡_, refl, sym, ap, _∙_, Bool, true, cond, not, List, [], _∷_, _++_}
 use Rattle.whole.specs.Plain.{append-nil, leb, eqb, pos, length, replicate, eq-eqb, ne-eqb, le-ltb, leb-true, le-trans}
 use Rattle.whole.specs.Plain.{ℕ-discrete, arith, Words, z, nat, every, numbers}
 use Rattle.paper.specs.declared.Reading.{Reading}
 use Rattle.paper.specs.declared.Reading.the-variants.{Read, Form, Node, Value, Travel, Double, Full, Size}
 use Rattle.paper.specs.declared.Reading.the-variants as R
+use Rattle.paper.specs.declared.Listing.the-variants.{State}
 use Rattle.whole.specs.Folds.{and-left, and-right, every-if, getD-numbers, length-numbers}
 use Rattle.paper.specs.Limits as Limits
 use Rattle.paper.specs.Rows.{bytes, steps}
@@ -16,14 +17,15 @@ use Rattle.paper.specs.Reading.{readOut, readOf}
 use Rattle.paper.specs.Advance.{Memory}
 use Rattle.paper.specs.Resetting.{fresh}
 use Rattle.paper.specs.Listing.{lineOf, runOf, listing, listingFrom}
-use Rattle.paper.specs.Pieces.{stepsTaken, level, pieceOf, onLevel, listOf}
+use Rattle.paper.specs.Pieces.{listed, stepsTaken, level, pieceOf, onLevel, listOf}
 use Rattle.laws_facts.specs.Nets.{netIn, net-sound}
 use Rattle.laws_stays.specs.Stays.{fresh-well, zero-word}
 use Rattle.laws_demands.specs.States.{long-fits, fresh-long}
 use Rattle.laws_spelling.specs.Networks.{network-exactly}
+use Rattle.laws_runs.specs.Moves.{Inv}
 use Rattle.laws_pieces.specs.Level.{Level}
 use Rattle.laws_pieces.specs.Runs.{runFrom}
-use Rattle.laws_pieces.specs.Calls.{onward, more, whole, ends}
+use Rattle.laws_pieces.specs.Calls.{onward, more, whole, none-follow, ends}
 use Rattle.laws_pieces.specs.Empty.{run-none}
 
 -- the pieces of repeated calls, each with the room that it is lent, until one is the last
@@ -46,7 +48,7 @@ module _ (net : Words) (network : isNetwork net ≡ true) where
   abbrev pub Stands : ℕ → Memory → Type 0
   Stands k m = stepsTaken N (m .records) ≡ k
 
-  some-stand : (k : ℕ) (m : Memory) → 1 ≤ areaCount N → Level net network k m → Stands k m
+  pub some-stand : (k : ℕ) (m : Memory) → 1 ≤ areaCount N → Level net network k m → Stands k m
   unfolding stepsTaken
   some-stand k m h v = rw (ne-eqb (areaCount N) 0 (λ e. omega arith)) (v .counts 1 (omega arith) h)
 
@@ -62,10 +64,13 @@ module _ (net : Words) (network : isNetwork net ≡ true) where
       let n : i < areaCount N = rw (length-numbers 1 (areaCount N)) at h in
       rw (getD-numbers 1 (areaCount N) i 0 n, e) (eq-eqb _ k (v .counts (1 + i) (omega arith) (omega arith))))
 
-  list-is : (k : ℕ) (m : Memory) (room : ℕ) → Level net network k m → Stands k m → Limits.stepBytes ≤ room → listOf net m room ≡ pieceOf net N m room
+  -- what is left to judge of a well-formed state: whether its areas are in step
+  pub list-by : (t : Bool) (m : Memory) (room : ℕ) → Inv net network m → Limits.stepBytes ≤ room → level N (m .records) ≡ t → listOf net m room ≡ cond (not t) (listed State [] m) (pieceOf net N m room)
   unfolding listOf onLevel
-  list-is k m room v e h =
-      rw (long-fits net m network (v .inv .long), le-ltb room Limits.stepBytes h, network, v .inv .good, levels k m v e)
+  list-by t m room v h e = rw (long-fits net m network (v .long), le-ltb room Limits.stepBytes h, network, v .good, e)
+
+  pub list-is : (k : ℕ) (m : Memory) (room : ℕ) → Level net network k m → Stands k m → Limits.stepBytes ≤ room → listOf net m room ≡ pieceOf net N m room
+  list-is k m room v e h = list-by true m room (v .inv) h (levels k m v e)
 
   -- where a step is left there are areas
   some-areas : (k : ℕ) (m : Memory) → Stands k m → k < steps (N .head) → 1 ≤ areaCount N
@@ -84,7 +89,7 @@ module _ (net : Words) (network : isNetwork net ≡ true) where
       (rw e (elim (ends net network room (steps (N .head) - k) k m [] (omega arith) v) [
         | more k′ a v′ ge lt on w ↦ let up : k < k′ = on (omega (arith, fit)) in
             rw (a, calls rooms k′ _ r′ v′ (some-stand k′ _ (some-areas k m e (omega arith)) v′) (omega arith) (omega arith) (omega arith)) w
-        | whole a w ↦ rw (a (pieced net rooms _), append-nil) w
+        | whole o w ↦ rw (none-follow net network o (pieced net rooms _), append-nil) w
       ]))
 
   fresh-level : Level net network 0 fresh

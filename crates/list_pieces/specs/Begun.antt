@@ -16,12 +16,12 @@ use Rattle.call_counts.specs.Counts.{CountsIn}
 use Rattle.call_counts.specs.Level.{takenBy, taken-is}
 use Rattle.call_state.specs.Judged.{Long}
 use Rattle.call_state.specs.Facts.{formed-counts, taken-end}
+use Rattle.list_digits.specs.Puts.{Puts}
 use Rattle.list_round.specs.declared.Step.{Step}
 use Rattle.list_round.specs.declared.Round.{Round}
+use Rattle.list_round.specs.declared.Round.the-variants.{Full}
 use Rattle.list_round.specs.Round.{InStep, AllTables, Starts, Ran, Runs}
-use Rattle.list_turn.specs.declared.Turn.{Turn}
-use Rattle.list_turn.specs.declared.Turn.the-variants.{On}
-use Rattle.list_turn.specs.Turned.{small, Listable, PutTurn, placeOf, Turned, turned}
+use Rattle.list_turn.specs.Turned.{roundBytes, small, Listable, Turned, turned}
 use Rattle.list_pieces.specs.Sofar.{Gives, Sofar, sofar-none, sofar-step}
 
 -- the step that follows k of them
@@ -94,15 +94,15 @@ module _ {net : Words} {plan owns : List (List ℕ)} {totals : Totals} {legs : L
       pub listable : length (m′ .records) ≡ Limits.recordWords → Listable plan totals (m′ .records) k q
       listable l = record { net = netIn net; of = b .of; long = l; left = left; small = λ e. rw (b .of .counts) (small (r .rounds .on e)) }
 
-      module _ {u : Turn} {c′ : List ℕ} (p : PutTurn (netIn net) (suc k) (m′ .records) q c at u c′) where
-        pub turned-so : Turned net k now u m′ c at c′
+      module _ {n : ℕ} {c′ : List ℕ} (p : Puts c at (roundBytes (netIn net) (suc k) (m′ .records) q) n c′) where
+        pub turned-so : Turned net k now q m′ c at n c′
         turned-so = turned (b .of .sound) left (r .rounds) p
 
-        pub along-next : at + Limits.stepBytes ≤ length out → u ≡ On (placeOf u) → {n : ℕ} → n ≡ placeOf u → Along net plan nodes sources m out owns″ legs″ f′ m′ n (k + 1) c′
-        along-next i e {n} w =
+        pub along-next : at + Limits.stepBytes ≤ length out → q ≡ Full → Along net plan nodes sources m out owns″ legs″ f′ m′ n (k + 1) c′
+        along-next i e =
             rw (add-one k)
             (record {
               tables = tables-later (suc (suc k)) (omega arith) (r .tables);
-              level = turned-so .on (placeOf u) e;
-              sofar = sofar-step net _ out (a .sofar) left i e w turned-so;
+              level = turned-so .on e;
+              sofar = sofar-step net _ out (a .sofar) left i e turned-so;
             })

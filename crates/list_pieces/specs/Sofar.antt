@@ -2,6 +2,7 @@
 use Rattle.whole.specs.Plain.{ℕ, suc, _+_, _≤_, _<_, _≡_, refl, sym, ap, _∙_, Bool, true, false, List, [], _∷_, _++_}
 use Rattle.whole.specs.Plain.{leb, pos, length, le-leb, lt-leb, arith, Words}
 use native.Mathlib.Numerals.{add-one}
+use Rattle.paper.specs.declared.Advance.{Advance}
 use Rattle.paper.specs.declared.Listing.{Listing}
 use Rattle.paper.specs.declared.Listing.the-variants.{More, Done, Stopped}
 use Rattle.whole.specs.Turns.{turns, turns-more, turns-done}
@@ -15,10 +16,10 @@ use Rattle.paper.specs.Pieces.{Listed, listed, Piece, writing, ended, stepPiece
 use Rattle.laws_facts.specs.Nets.{netIn}
 use Rattle.laws_pieces.specs.Calls.{turns-ended}
 use Rattle.list_digits.specs.Puts.{Puts, puts-none, puts-then}
-use Rattle.list_turn.specs.declared.Turn.{Turn}
-use Rattle.list_turn.specs.declared.Turn.the-variants.{On, Over}
+use Rattle.list_round.specs.declared.Round.{Round}
+use Rattle.list_round.specs.declared.Round.the-variants.{Full, Refused}
 use Rattle.list_step.specs.Bounds.{done-short}
-use Rattle.list_turn.specs.Turned.{placeOf, Turned}
+use Rattle.list_turn.specs.Turned.{Turned}
 use Rattle.list_turn.specs.Turned.{turnPiece as piece}
 
 -- what a call gives of l: an answer, a number of bytes, the buffer and memory
@@ -74,22 +75,22 @@ module _ (net : Words) (l : Listed) (out : List ℕ) where
       fits : leb (length (f .written) + Limits.stepBytes) (length out) ≡ true
       fits = le-leb (length (f .written) + Limits.stepBytes) (length out) (omega (arith, place))
 
-      pub sofar-step : {m′ : Memory} {b′ : List ℕ} {n : ℕ} {u : Turn} → u ≡ On (placeOf u) → n ≡ placeOf u → Turned net k m u m′ b at b′ → Sofar (suc k) m′ n b′
-      sofar-step {m′} {b′} {n} {u} e q t =
+      pub sofar-step : {m′ : Memory} {b′ : List ℕ} {n : ℕ} {u : Round} → u ≡ Full → Turned net k m u m′ b at n b′ → Sofar (suc k) m′ n b′
+      sofar-step {m′} e t =
           record {
             written = f .written ++ t .bytes;
-            puts = rw q (puts-then (f .puts) (t .puts));
-            leads = ap (pieceFrom (suc (suc k))) (sym (t .is (f .written) ∙ ap (λ (x : Turn). piece x m′ (f .written ++ t .bytes)) e)) ∙ turned true h fits;
-            room = omega (arith, q, t .puts .place, t .short);
+            puts = puts-then (f .puts) (t .puts);
+            leads = ap (pieceFrom (suc (suc k))) (sym (t .is (f .written) ∙ ap (λ (y : Round). piece y m′ (f .written ++ t .bytes)) e)) ∙ turned true h fits;
+            room = omega (arith, t .puts .place, t .short);
           }
 
-      pub sofar-over : {m′ : Memory} {b′ : List ℕ} {n : ℕ} {u : Turn} → u ≡ Over (placeOf u) → n ≡ placeOf u → Turned net k m u m′ b at b′ → Gives l out Stopped n b′ m′
+      pub sofar-over : {m′ : Memory} {b′ : List ℕ} {n : ℕ} {u : Round} {a : ℕ} {x : Advance} → u ≡ Refused a x → Turned net k m u m′ b at n b′ → Gives l out (Stopped a x) n b′ m′
       unfolding closing
-      sofar-over {m′} {b′} {n} {u} x q t =
-          let d = listed Stopped (f .written ++ t .bytes) m′ in
-          let p : stepPiece net N (suc k) (writing m (f .written)) ≡ ended d = t .is (f .written) ∙ ap (λ (y : Turn). piece y m′ (f .written ++ t .bytes)) x in
-          let e : d ≡ l = ap (closing N) (sym (turns-ended net N (length out) (suc (suc k)) last d)) ∙ ap (pieceFrom (suc (suc k))) (sym p) ∙ turned true h fits in
-          rw (← e) (record { answer = refl; puts = rw q (puts-then (f .puts) (t .puts)); fit = omega (arith, q, t .puts .place, t .short); memory = refl })
+      sofar-over {m′} {b′} {n} {u} {a} {x} e t =
+          let d = listed (Stopped a x) (f .written ++ t .bytes) m′ in
+          let p : stepPiece net N (suc k) (writing m (f .written)) ≡ ended d = t .is (f .written) ∙ ap (λ (y : Round). piece y m′ (f .written ++ t .bytes)) e in
+          let q : d ≡ l = ap (closing N) (sym (turns-ended net N (length out) (suc (suc k)) last d)) ∙ ap (pieceFrom (suc (suc k))) (sym p) ∙ turned true h fits in
+          rw (← q) (record { answer = refl; puts = puts-then (f .puts) (t .puts); fit = omega (arith, t .puts .place, t .short); memory = refl })
 
 -- nothing yet
 pub sofar-none : (net : Words) (m : Memory) (out : List ℕ) (k : ℕ) → stepsTaken (netIn net) (m .records) ≡ k → Limits.stepBytes ≤ length out → Sofar net (pieceOf net (netIn net) m (length out)) out k m 0 out

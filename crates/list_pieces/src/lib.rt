@@ -3,10 +3,9 @@ ghost use Rattle.whole.specs.Plain.{_≤_, _≡_, length};
 ghost use Rattle.whole.specs.Loans.{was, is};
 ghost use Rattle.paper.specs.Limits as Limits;
 ghost use Rattle.paper.specs.Lent.{before, after};
-ghost use Rattle.list_turn.specs.Turned.{placeOf};
 ghost use Rattle.list_pieces.specs.Begun.{stepOf, Beginning, Pieces};
+use list_round::Round;
 use list_round::Step;
-use list_turn::Turn;
 use paper::Listing;
 use paper::Room;
 use plan_own::Owns;
@@ -25,15 +24,6 @@ fn ended(answer: Listing, count: usize) -> Piece
     ensures { λ r. ⌜ r ≡ record { answer = answer; count = count } ⌝ }
 {
     Piece { answer, count }
-}
-
-fn place(turn: Turn) -> usize
-    ensures { λ r. ⌜ r ≡ placeOf turn ⌝ }
-{
-    match turn {
-        Turn::On(next) => next,
-        Turn::Over(next) => next,
-    }
 }
 
 // The step that follows the `taken` ones.
@@ -87,11 +77,10 @@ pub fn steps_on(
             tos,
             step,
         );
-        let turn = list_turn::put_turn(&pairs, plan, totals, records, k, round, out, at);
-        let next = place(turn);
-        let Turn::On(_) = turn else {
-            return ended(Listing::Stopped, next);
-        };
+        let next = list_turn::put_turn(&pairs, plan, totals, records, k, round, out, at);
+        if let Round::Refused(area, answer) = round {
+            return ended(Listing::Stopped(area, answer), next);
+        }
         at = next;
         k += 1;
     }

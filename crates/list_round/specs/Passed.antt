@@ -61,11 +61,11 @@ module _ {net : Words} {k a : ℕ} {m m′ : Memory} {r : Advance} (p : InPart n
   took-turns z h t out =
       turns-next a (suc (areaCount (netIn net))) (areaPiece net (suc k)) (writing m out) (writing m′ out) (z out) (omega arith) (sym (turn true h out)) (t out)
 
-  pub refused-turns : (z : List ℕ → Piece) → accepted r ≡ false → ((out : List ℕ) → turnsFrom net k a m out ≡ z out) → (out : List ℕ) → z out ≡ ended (listed Stopped (out ++ stopLine (suc k) a r) m′)
+  pub refused-turns : (z : List ℕ → Piece) → accepted r ≡ false → ((out : List ℕ) → turnsFrom net k a m out ≡ z out) → (out : List ℕ) → z out ≡ ended (listed (Stopped a r) (out ++ stopLine (suc k) a r) m′)
   unfolding turns areaPiece
   refused-turns z h t out =
       let n = suc (areaCount (netIn net)) in
-      let l = listed Stopped (out ++ stopLine (suc k) a r) m′ in
+      let l = listed (Stopped a r) (out ++ stopLine (suc k) a r) m′ in
       sym (t out) ∙ turns-more a n (areaPiece net (suc k)) (writing m out) (omega arith)
       ∙ ap (turns (a + 1) n (areaPiece net (suc k))) (turn false h out)
       ∙ run-ended (areaPiece net (suc k)) (λ b x. refl) (n - (a + 1)) (a + 1) l

@@ -26,7 +26,7 @@ pub record InStep (net : Words) (k : ℕ) (m : Memory) : Type 0 where
 -- after the bytes `out`, at step k
 abbrev pub roundPiece : ℕ → List ℕ → Memory → Round → Piece
 roundPiece k out m Full = writing m out
-roundPiece k out m (Refused a x) = ended (listed Stopped (out ++ stopLine k a x) m)
+roundPiece k out m (Refused a x) = ended (listed (Stopped a x) (out ++ stopLine k a x) m)
 
 -- step k + 1 of all areas, from memory m: what it answers and leaves
 pub record Rounds (net : Words) (k : ℕ) (m : Memory) (r : Round) (after : Memory) : Type 0 where

@@ -1,5 +1,5 @@
 -- A step of all areas and what it lists: its lines, or the stop line. Assumes nothing.
-use Rattle.whole.specs.Plain.{ℕ, suc, _+_, _-_, _≤_, _<_, _≡_, refl, sym, ap, _∙_, List, _++_, lit≤, length, le-trans}
+use Rattle.whole.specs.Plain.{ℕ, suc, _+_, _-_, _≤_, _<_, _≡_, refl, ap, _∙_, List, _++_, lit≤, length, le-trans}
 use Rattle.whole.specs.Plain.{arith, Words}
 use Rattle.paper.specs.declared.Listing.the-variants.{Stopped}
 use Rattle.paper.specs.Limits as Limits
@@ -18,8 +18,6 @@ use Rattle.list_step.specs.Bounds.{Small, stop-short, lines-short}
 use Rattle.list_round.specs.Round.{InStep, roundPiece, Rounds}
 use Rattle.list_round.specs.declared.Round.{Round}
 use Rattle.list_round.specs.declared.Round.the-variants.{Full, Refused}
-use Rattle.list_turn.specs.declared.Turn.{Turn}
-use Rattle.list_turn.specs.declared.Turn.the-variants.{On, Over}
 
 -- ---- a state in step has its words in range
 
@@ -43,16 +41,6 @@ abbrev pub roundBytes : Net → ℕ → Words → Round → List ℕ
 roundBytes N k recs Full = stepLines N recs k
 roundBytes N k recs (Refused a x) = stopLine k a x
 
--- the next place
-abbrev pub placeOf : Turn → ℕ
-placeOf (On n) = n
-placeOf (Over n) = n
-
--- whether the listing goes on
-abbrev pub turnOf : Round → ℕ → Turn
-turnOf Full n = On n
-turnOf (Refused a x) n = Over n
-
 -- where all areas took the step, the words that are listed are in range
 pub record Listable (plan : List (List ℕ)) (totals : Totals) (recs : Words) (k : ℕ) (r : Round) : Type 0 where
   pub net : Net
@@ -61,22 +49,18 @@ pub record Listable (plan : List (List ℕ)) (totals : Totals) (recs : Words) (k
   pub left : k < steps (net .head)
   pub small : r ≡ Full → Small (totals .nodes) (totals .rows) recs
 
-pub record PutTurn (N : Net) (k : ℕ) (recs : Words) (round : Round) (l : List ℕ) (at : ℕ) (r : Turn) (l′ : List ℕ) : Type 0 where
-  pub puts : Puts l at (roundBytes N k recs round) (placeOf r) l′
-  pub turn : r ≡ turnOf round (placeOf r)
-
 -- ---- the step's outcome
 
-abbrev pub turnPiece : Turn → Memory → List ℕ → Piece
-turnPiece (On n) m out = writing m out
-turnPiece (Over n) m out = ended (listed Stopped out m)
+abbrev pub turnPiece : Round → Memory → List ℕ → Piece
+turnPiece Full m out = writing m out
+turnPiece (Refused a x) m out = ended (listed (Stopped a x) out m)
 
-pub record Turned (net : Words) (k : ℕ) (m : Memory) (r : Turn) (after : Memory) (l : List ℕ) (at : ℕ) (l′ : List ℕ) : Type 0 where
+pub record Turned (net : Words) (k : ℕ) (m : Memory) (r : Round) (after : Memory) (l : List ℕ) (at n : ℕ) (l′ : List ℕ) : Type 0 where
   pub bytes : List ℕ
-  pub puts : Puts l at bytes (placeOf r) l′
+  pub puts : Puts l at bytes n l′
   pub short : length bytes ≤ 4128
   pub is : (out : List ℕ) → stepPiece net (netIn net) (suc k) (writing m out) ≡ turnPiece r after (out ++ bytes)
-  pub on : (n : ℕ) → r ≡ On n → InStep net (suc k) after
+  pub on : r ≡ Full → InStep net (suc k) after
 
 -- in either case it is short
 bytes-short : {N : Net} → NetSound N → {recs : Words} {k : ℕ} → k < steps (N .head) → (r : Round) → (r ≡ Full → Small (N .nodes) (length (N .rows)) recs) → length (roundBytes N (suc k) recs r) ≤ 4128
@@ -85,23 +69,19 @@ bytes-short s {recs} {k} h (Refused a x) f = le-trans (stop-short (suc k) a x) (
 
 -- ---- from the areas' turns and what was put
 
-lists : (N : Net) (k : ℕ) (out : List ℕ) (m : Memory) (r : Round) (n : ℕ) → fullStep N k (roundPiece k out m r) ≡ turnPiece (turnOf r n) m (out ++ roundBytes N k (m .records) r)
+lists : (N : Net) (k : ℕ) (out : List ℕ) (m : Memory) (r : Round) → fullStep N k (roundPiece k out m r) ≡ turnPiece r m (out ++ roundBytes N k (m .records) r)
 unfolding fullStep
-lists N k out m Full n = refl
-lists N k out m (Refused a x) n = refl
+lists N k out m Full = refl
+lists N k out m (Refused a x) = refl
 
-all-took : (r : Round) (p n : ℕ) → turnOf r p ≡ On n → r ≡ Full
-all-took Full p n e = refl
-all-took (Refused a x) p n e = let z : _≡_ {A = ℕ} 0 1 = cc in absurd (omega arith)
-
-pub turned : {net : Words} {k : ℕ} {m m′ : Memory} {q : Round} {l l′ : List ℕ} {at : ℕ} {r : Turn} → NetSound (netIn net) → k < steps (netIn net .head) → Rounds net k m q m′
-    → PutTurn (netIn net) (suc k) (m′ .records) q l at r l′ → Turned net k m r m′ l at l′
+pub turned : {net : Words} {k : ℕ} {m m′ : Memory} {r : Round} {l l′ : List ℕ} {at n : ℕ} → NetSound (netIn net) → k < steps (netIn net .head) → Rounds net k m r m′
+    → Puts l at (roundBytes (netIn net) (suc k) (m′ .records) r) n l′ → Turned net k m r m′ l at n l′
 unfolding stepPiece
-turned {net} {k} {m} {m′} {q} {l} {l′} {at} {r} s left d p =
+turned {net} {k} {m} {m′} {r} s left d p =
     record {
-      bytes = roundBytes (netIn net) (suc k) (m′ .records) q;
-      puts = p .puts;
-      short = bytes-short s left q (λ e. small (d .on e));
-      is = λ out. ap (fullStep (netIn net) (suc k)) (d .is out) ∙ rw (← p .turn) at (lists (netIn net) (suc k) out m′ q (placeOf r));
-      on = λ n e. d .on (all-took q (placeOf r) n (sym (p .turn) ∙ e));
+      bytes = roundBytes (netIn net) (suc k) (m′ .records) r;
+      puts = p;
+      short = bytes-short s left r (λ e. small (d .on e));
+      is = λ out. ap (fullStep (netIn net) (suc k)) (d .is out) ∙ lists (netIn net) (suc k) out m′ r;
+      on = d .on;
     }

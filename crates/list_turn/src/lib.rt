@@ -3,21 +3,16 @@ ghost use Rattle.whole.specs.Plain.{suc, _+_, _≤_, _≡_, length};
 ghost use Rattle.whole.specs.Loans.{was, is};
 ghost use Rattle.paper.specs.Limits as Limits;
 ghost use Rattle.paper.specs.Areas.{Net};
+ghost use Rattle.list_digits.specs.Puts.{Puts};
 ghost use Rattle.list_digits.specs.Pairs.{allPairs};
 ghost use Rattle.plan_net.specs.Of.{Of};
-ghost use Rattle.list_turn.specs.Turned.{Listable, PutTurn};
+ghost use Rattle.list_turn.specs.Turned.{roundBytes, Listable};
 use list_digits::Pairs;
 use list_round::Round;
 use plan_rows::Table;
 use plan_rows::Totals;
 
-// The next place in the buffer, and whether the listing goes on.
-pub enum Turn {
-    On(usize),
-    Over(usize),
-}
-
-// After the step that follows the `taken` ones; with the digits to look up.
+// After the step that follows the `taken` ones; with the digits to look up. Answers the next place in the buffer.
 pub fn put_turn(
     pairs: &Pairs,
     plan: &Table,
@@ -27,23 +22,19 @@ pub fn put_turn(
     round: Round,
     out: &mut [u8],
     at: usize,
-) -> Turn
+) -> usize
     requires { ⌜ (now pairs ≡ allPairs) × Listable (now plan) totals (now records) taken round ⌝ }
     requires { ⌜ at + Limits.stepBytes ≤ length (now out) ⌝ }
     ensures { λ r. ⌜ ((N : Net) → Of N (was plan) totals
-        → PutTurn N (suc taken) (was records) round (was out) at r (is out)) ⌝ }
+        → Puts (was out) at (roundBytes N (suc taken) (was records) round) r (is out)) ⌝ }
 {
     let step = (taken + 1) as u64;
     match round {
-        Round::Full => {
-            let next = list_step::put_step_by(pairs, plan, totals, records, step, out, at);
-            Turn::On(next)
-        }
+        Round::Full => list_step::put_step_by(pairs, plan, totals, records, step, out, at),
         Round::Refused(area, answer) => {
             let number = call_answers::advance_number(answer);
             let place = call_answers::advance_place(answer);
-            let next = list_ends::put_stop(out, at, step, area, number, place);
-            Turn::Over(next)
+            list_ends::put_stop(out, at, step, area, number, place)
         }
     }
 }

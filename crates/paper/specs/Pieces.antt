@@ -2,6 +2,7 @@
 -- the study is done. Assumes nothing.
 use Rattle.whole.specs.Plain.{ℕ, suc, _+_, _≡_, sym, _∙_, Bool, true, false, cond, not, _||_, List, [], _∷_, _++_, leb}
 use Rattle.whole.specs.Plain.{ltb, eqb, pos, length, drop, Words, every, numbers}
+use Rattle.paper.specs.declared.Advance.{Advance}
 use Rattle.paper.specs.declared.Listing.{Listing}
 use Rattle.paper.specs.declared.Listing.the-variants.{More, Done, Stopped, Network, Store, State}
 use Rattle.whole.specs.Turns.{turns}
@@ -10,7 +11,7 @@ use Rattle.paper.specs.Rows.{bytes, steps}
 use Rattle.paper.specs.Network.{isNetwork, tableOf}
 use Rattle.paper.specs.Areas.{Net, netOf, areaCount}
 use Rattle.paper.specs.Records.{countOf, wellFormed}
-use Rattle.paper.specs.Answers.{accepted}
+use Rattle.paper.specs.Answers.{advanceNumber, advancePlace, accepted}
 use Rattle.paper.specs.Advance.{Memory, Advanced, fits, advanceOf}
 use Rattle.paper.specs.Listing.{lineOf, stepLines, stopLine}
 
@@ -21,7 +22,26 @@ listingNumber Network = 8
 listingNumber Store = 9
 listingNumber State = 10
 listingNumber More = 100
-listingNumber Stopped = 101
+listingNumber (Stopped a x) = 101
+
+-- of the area that was refused; 0 where none was
+abbrev pub ofStop : (ℕ → Advance → ℕ) → Listing → ℕ
+ofStop f (Stopped a x) = f a x
+ofStop f More = 0
+ofStop f Done = 0
+ofStop f Network = 0
+ofStop f Store = 0
+ofStop f State = 0
+
+-- its number, the paper's number for its answer, and the node or branch that this carries
+abbrev pub stopArea : Listing → ℕ
+stopArea = ofStop (λ a x. a)
+
+abbrev pub stopNumber : Listing → ℕ
+stopNumber = ofStop (λ a x. advanceNumber x)
+
+abbrev pub stopPlace : Listing → ℕ
+stopPlace = ofStop (λ a x. advancePlace x)
 
 pub record Listed : Type 0 where
   pub answer : Listing
@@ -40,7 +60,7 @@ pub data Piece : Type 0 where
 -- the areas before a refused one have taken the step, and none of its lines are listed
 abbrev pub wentOn : ℕ → ℕ → List ℕ → Advanced → Bool → Piece
 wentOn k a out r true = writing (r .after) out
-wentOn k a out r false = ended (listed Stopped (out ++ stopLine k a (r .answer)) (r .after))
+wentOn k a out r false = ended (listed (Stopped a (r .answer)) (out ++ stopLine k a (r .answer)) (r .after))
 
 unfoldable pub areaPiece : Words → ℕ → ℕ → Piece → Piece
 areaPiece net k a (writing m out) = let r = advanceOf net a m in wentOn k a out r (accepted (r .answer))

@@ -1,15 +1,10 @@
 -- `list_pieces::steps_on` meets its contract. The invariant: of every network that the tables are of, all areas have taken k steps, what is listed so far
 -- stands in the buffer, and the steps that are left lead to the piece. Assumes nothing.
 use Rattle.whole.specs.Plain.{_+_, _-_, _≤_, _<_, _≡_, refl, ap, _∙_, [], length, getD-replicate, arith, Words}
-use denote.Enum.Declared.{tagOf}
 use Rattle.paper.specs.Advance.{memory}
 use Rattle.list_digits.specs.Puts.{puts-length}
 use Rattle.list_round.specs.Passed.{Lent}
-use Rattle.list_turn.specs.declared.Turn.{Turn}
-use Rattle.list_turn.specs.declared.Turn.the-variants.{On, Over}
-use Rattle.list_turn.proofs.Turn.{the-type}
 use Rattle.list_step.specs.Bounds.{done-short}
-use Rattle.list_turn.specs.Turned.{placeOf}
 use Rattle.list_pieces.specs.Sofar.{sofar-more, sofar-over, sofar-done}
 use Rattle.list_pieces.specs.Begun.{Begins, Along, all-steps, counts-in, taken-few, along-none, left, starts, ran, listable, turned-so, along-next}
 use Rattle.list_pieces.proofs.steps_on.Statement.{statement}
@@ -87,25 +82,20 @@ put-turn-requires c κs =
     let r = ran b a (below t) (t .step-of .ensures) (x .all-areas .ensures) in
     ((l .before .before .before .pairs .ensures, listable b a (below t) r (x .all-areas .kept .1 .1 .1 .1 .1 .1 .0 ∙ a .level .level .inv .long .records)), omega (arith, fits t, long l))
 
-abbrev round : tie.After-place Inv-loop μ-loop → tie.After-all-areas Inv-loop μ-loop
-round p = p .before .before .before .before .before .before .before .before .before .before .before
+abbrev round : tie.After-put-turn Inv-loop μ-loop → tie.After-all-areas Inv-loop μ-loop
+round p = p .before .before .before .before .before .before .before .before
 
-abbrev put : tie.After-place Inv-loop μ-loop → tie.After-put-turn Inv-loop μ-loop
-put p = p .before .before .before
+-- by whether an area was refused
+abbrev refused : tie.After-round Inv-loop μ-loop → tie.After-put-turn Inv-loop μ-loop
+refused r = r .before .before .before .before
 
--- by the tag of the turn
-on-tag : (r : Turn) → tagOf the-type r ≡ 0 → r ≡ On (placeOf r)
-on-tag (On n) e = refl
-on-tag (Over n) e = absurd (omega arith)
-
-over-tag : (r : Turn) → tagOf the-type r ≡ 1 → r ≡ Over (placeOf r)
-over-tag (On n) e = absurd (omega arith)
-over-tag (Over n) e = refl
+abbrev none-refused : tie.After-enum-told Inv-loop μ-loop → tie.After-put-turn Inv-loop μ-loop
+none-refused c = c .before .before .before .before
 
 returns-2 : tie.Need-returns-2 Inv-loop μ-loop
 returns-2 c =
-    let k = c .before .before in
-    let p = k .before in
+    let f = c .before .before in
+    let p = refused f in
     let x = round p in
     let t = before x in
     let l = loopOf t in
@@ -114,11 +104,11 @@ returns-2 c =
           let a = l .loop .inv .2 net b in
           let r = ran b a (below t) (t .step-of .ensures) (x .all-areas .ensures) in
           rw (c .ended2 .ensures)
-          (sofar-over net _ _ (a .sofar) (left b a (below t)) (fits t) (over-tag (put p .put-turn .result) (k .match .keys2)) (p .place .ensures) (turned-so b a (below t) r (put p .put-turn .ensures _ (b .of))));
+          (sofar-over net _ _ (a .sofar) (left b a (below t)) (fits t) (f .round .given .1) (turned-so b a (below t) r (p .put-turn .ensures _ (b .of))));
     }
 
 -- lengths after a step
-after : (p : tie.After-place Inv-loop μ-loop)
+after : (p : tie.After-put-turn Inv-loop μ-loop)
     → let y = round p .all-areas .last .1 in
     let s = start (loopOf (before (round p))) .args in
     Lent (s .legs .now) (memory (s .records .now) (s .froms .now) (s .tos .now)) (y .1 .0) (memory (y .1 .1 .1 .1 .1 .0) (y .1 .1 .1 .1 .1 .1 .0) (y .1 .1 .1 .1 .1 .1 .1 .0))
@@ -127,13 +117,12 @@ after p =
     let v = loopOf (before (round p)) .loop .inv .1 in
     record { legs = w .0 ∙ v .legs; records = w .1 .1 .1 .1 .0 ∙ v .records; froms = w .1 .1 .1 .1 .1 .0 ∙ v .froms; tos = w .1 .1 .1 .1 .1 .1 .0 ∙ v .tos }
 
-same-out : (p : tie.After-place Inv-loop μ-loop) → length (put p .put-turn .last .1 .1 .1 .1 .1 .1 .0) ≡ length (start (loopOf (before (round p))) .args .out .now)
-same-out p = put p .put-turn .kept .1 .1 .1 .1 .1 .1 .0 ∙ long (loopOf (before (round p)))
+same-out : (p : tie.After-put-turn Inv-loop μ-loop) → length (p .put-turn .last .1 .1 .1 .1 .1 .1 .0) ≡ length (start (loopOf (before (round p))) .args .out .now)
+same-out p = p .put-turn .kept .1 .1 .1 .1 .1 .1 .0 ∙ long (loopOf (before (round p)))
 
 loop-again : tie.Need-loop-again Inv-loop μ-loop
 loop-again c =
-    let k = c .before in
-    let p = k .before in
+    let p = none-refused c in
     let x = round p in
     let t = before x in
     let l = loopOf t in (
@@ -142,7 +131,7 @@ loop-again c =
       λ net b.
           let a = l .loop .inv .2 net b in
           let r = ran b a (below t) (t .step-of .ensures) (x .all-areas .ensures) in
-          along-next b a (below t) r (put p .put-turn .ensures _ (b .of)) (fits t) (on-tag (put p .put-turn .result) (k .match .keys1)) (p .place .ensures),
+          along-next b a (below t) r (p .put-turn .ensures _ (b .of)) (fits t) (c .enum-told .given .1),
     )
 
 -- ---- all steps are taken
@@ -180,18 +169,17 @@ steps-on-spec =
     (λ c κs. tt)
     all-areas-requires
     put-turn-requires
-    (λ c κs. tt)
     (λ c. c .match .keys1)
-    (λ c. c .match .keys2)
     (λ c κs. tt)
-    (λ c. after (c .before .before .before) .legs)
-    (λ c. after (c .before .before .before) .records)
-    (λ c. after (c .before .before .before) .froms)
-    (λ c. after (c .before .before .before) .tos)
-    (λ c. same-out (c .before .before .before))
+    (λ c. after (refused (c .before .before)) .legs)
+    (λ c. after (refused (c .before .before)) .records)
+    (λ c. after (refused (c .before .before)) .froms)
+    (λ c. after (refused (c .before .before)) .tos)
+    (λ c. same-out (refused (c .before .before)))
     returns-2
-    (λ c. let t = before (round (c .before .before)) in omega (arith, below t, few (start (loopOf t))))
-    (λ c. omega (arith, below (before (round (c .before .before)))))
+    (λ c. c .match .keys2)
+    (λ c. let t = before (round (none-refused c)) in omega (arith, below t, few (start (loopOf t))))
+    (λ c. omega (arith, below (before (round (none-refused c)))))
     loop-again
     put-done-requires
     (λ c κs. tt)

@@ -34,7 +34,7 @@ returns : tie.Need-returns
 returns c =
     let b = c .before .before in
     let m = b .before .before .before in
-    λ N o. rw (full m) (record { puts = rw (add-one (m .before .before .args .taken)) at (b .put-step-by .ensures N o); turn = refl })
+    λ N o. rw (full m) (rw (add-one (m .before .before .args .taken)) at (b .put-step-by .ensures N o))
 
 -- ---- the refused area and its answer
 abbrev area : tie.After-round → ℕ
@@ -58,9 +58,7 @@ returns-2 c =
     let n = p .before in
     let r = n .before .before in
     let s = r .before .before .before in
-    λ N o.
-    rw (r .round .given .1)
-    (record { puts = rw (add-one (s .args .taken), n .advance-number .ensures, p .advance-place .ensures) at (t .put-stop .ensures); turn = refl })
+    λ N o. rw (r .round .given .1) (rw (add-one (s .args .taken), n .advance-number .ensures, p .advance-place .ensures) at (t .put-stop .ensures))
 
 pub put-turn-spec : {M : Type 1} → statement M
 put-turn-spec =
