@@ -5,4 +5,5 @@ pub mod Calls
 pub mod Empty
 pub mod Whole
 pub mod Kept
+pub mod Again
 pub mod Examples
