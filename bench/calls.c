@@ -42,11 +42,12 @@ static uint64_t areas(void) {
 // Steps to LEAD by emt_list, which judges once: the study is taken to end there.
 static void lead(void) {
     static uint8_t out[1 << 16];
-    uint64_t written, answer;
+    uint64_t written, area, number, place, answer;
     int64_t steps = network[EMT_NETWORK_STEPS];
     network[EMT_NETWORK_STEPS] = LEAD;
     do
-        answer = emt_list(network, EMT_NETWORK_WORDS, ours.records, EMT_RECORD_WORDS, ours.froms, EMT_STORE_WORDS, ours.tos, EMT_STORE_WORDS, out, sizeof out, &written);
+        answer = emt_list(network, EMT_NETWORK_WORDS, ours.records, EMT_RECORD_WORDS, ours.froms, EMT_STORE_WORDS, ours.tos, EMT_STORE_WORDS, out, sizeof out, &written, &area,
+                          &number, &place);
     while (answer == EMT_MORE);
     if (answer) exit(1);
     network[EMT_NETWORK_STEPS] = steps;

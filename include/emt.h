@@ -2,7 +2,8 @@
  *
  * The caller lends all memory; the library allocates nothing and keeps nothing between calls. Lent pieces must not overlap.
  * Every call settles its answer and every lent word on all inputs: a wrong length, a damaged record or a damaged text is refused by a
- * number, and a refused call leaves all lent memory as it was (only *line, *place and *written are always written).
+ * number, and a refused call leaves all lent memory as it was. What is answered beside the number (*line, *place, *written, *area, *number)
+ * is always written.
  *
  * Units: voltage 0.1 V, current 0.1 nA, conductance nS, time ns. */
 #ifndef EMT_H
@@ -79,7 +80,7 @@ enum {
     EMT_UNBALANCED = 16, /* place: the node where the limit is passed */
     EMT_HISTORY = 17,    /* place: the branch whose next history or sent value is too large */
     EMT_MORE = 100,      /* emt_list: the buffer is full, more is to be listed */
-    EMT_STOPPED = 101    /* emt_list: an area refused its step; the last line listed says which and why */
+    EMT_STOPPED = 101    /* emt_list: an area refused its step; *area, *number and *place say which and why, and so does the last line listed */
 };
 
 /* Reads a study text into a network. Answers 0, or 1 to 7 or 9; *line is the faulty line from 1 (0 with 0, 7 and 9). */
@@ -95,9 +96,13 @@ uint64_t emt_advance(const int64_t *network, size_t network_len, int64_t *record
                      size_t froms_len, int64_t *tos, size_t tos_len, uint64_t area, uint64_t *place);
 
 /* Advances all areas in rising order, full step after full step, and lists each into out: the lines of emtrun. *written bytes
- * of out are written. Answers 0 when done, EMT_MORE, EMT_STOPPED, or 8 to 10. */
+ * of out are written. Answers 0 when done, EMT_MORE, EMT_STOPPED, or 8 to 10. With EMT_STOPPED *area is the area that was refused its
+ * step, *number the refusal, 14 to 17, and *place its node or branch; with any other answer the three are 0.
+ * After EMT_STOPPED nothing is undone: the areas before *area have taken the step. So where *area is 1 a further call answers the same
+ * again, lists the stop line alone and changes no lent word; else it answers EMT_STATE. emt_reset starts the study again. */
 uint64_t emt_list(const int64_t *network, size_t network_len, int64_t *records, size_t records_len, int64_t *froms,
-                  size_t froms_len, int64_t *tos, size_t tos_len, uint8_t *out, size_t out_len, uint64_t *written);
+                  size_t froms_len, int64_t *tos, size_t tos_len, uint8_t *out, size_t out_len, uint64_t *written,
+                  uint64_t *area, uint64_t *number, uint64_t *place);
 
 #ifdef __cplusplus
 }

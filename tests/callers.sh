@@ -1,5 +1,5 @@
 #!/usr/bin/env bash
-# The library as its customers link it: the two callers of examples/, and E1 to E10 through the compiled calls. LIBEMT=PATH takes this archive and makes none.
+# The library as its customers link it: the two callers of examples/, E1 to E10 through the compiled calls, and a listing that stops. LIBEMT=PATH takes this archive and makes none.
 # Closing line: N passed, M failed.
 set -u
 cd "$(dirname "$0")/.." || exit 1
@@ -26,13 +26,17 @@ else
 fi
 
 flags=(-std=c11 -Wall -Wextra -Werror)
-compile "$work/examples" tests/callers/examples.c "$archive" || stop "tests/callers/examples.c does not compile"
-run "$work/examples" >"$work/told"
-grep -v ' passed, ' "$work/told"
-line=$(tail -n 1 "$work/told")
-passed=${line%% *}
-failed=${line#*, }
-failed=${failed%% *}
+passed=0
+failed=0
+for program in examples stopped; do
+    compile "$work/$program" tests/callers/$program.c "$archive" || stop "tests/callers/$program.c does not compile"
+    run "$work/$program" >"$work/told"
+    grep -v ' passed, ' "$work/told"
+    line=$(grep -E '^[0-9]+ passed, [0-9]+ failed$' "$work/told") || stop "tests/callers/$program.c does not end"
+    passed=$((passed + ${line%% *}))
+    line=${line#*, }
+    failed=$((failed + ${line%% *}))
+done
 
 compile "$work/in_c" examples/caller.c "$archive" || stop "examples/caller.c does not compile"
 callers=in_c

@@ -15,16 +15,25 @@ pub const MORE: u64 = 100;
 /// Answered where an area refused its step; the last line listed tells which and why.
 pub const STOPPED: u64 = 101;
 
-/// Answers the number and how many bytes are listed; the bytes behind them stay as they were.
+/// What a call answers: its number, how many bytes are listed and, of an area that refused its step, the area,
+/// the refusal's number and its place, each 0 where none did.
+#[derive(Clone, Copy, PartialEq, Debug)]
+pub struct Listed {
+    pub number: u64,
+    pub written: u64,
+    pub stop: [u64; 3],
+}
+
+/// The bytes behind those that are listed stay as they were.
 pub fn list(
     words: &[i64],
     records: &mut [i64],
     froms: &mut [i64],
     tos: &mut [i64],
     out: &mut [u8],
-) -> (u64, u64) {
+) -> Listed {
     let (network, mut taken) = match listable(words, records, froms, tos, out) {
-        Err(stop) => return (stop.refusal.number(), 0),
+        Err(stop) => return Listed { number: stop.refusal.number(), written: 0, stop: [0; 3] },
         Ok(judged) => judged,
     };
     let mut piece = Piece { out, written: 0 };
@@ -37,7 +46,7 @@ pub fn list(
             let (number, place) = calls::advance(words, records, froms, tos, area as u64);
             if number != 0 {
                 piece.put(&listing::stop_line(taken, area, number, place));
-                return piece.answer(STOPPED);
+                return Listed { stop: [area as u64, number, place], ..piece.answer(STOPPED) };
             }
         }
         piece.put(&lent_step_lines(&network, taken, records));
@@ -100,7 +109,7 @@ impl Piece<'_> {
         self.written += lines.len();
     }
 
-    fn answer(&self, number: u64) -> (u64, u64) {
-        (number, self.written as u64)
+    fn answer(&self, number: u64) -> Listed {
+        Listed { number, written: self.written as u64, stop: [0; 3] }
     }
 }

@@ -7,7 +7,7 @@ use second::compare::lent::Lent;
 use second::compare::moves::random_state;
 use second::compare::studies;
 use second::compare::widest;
-use second::list::{self, MORE, STEP_ROOM, STOPPED};
+use second::list::{self, Listed, MORE, STEP_ROOM, STOPPED};
 use second::listing::listing_of;
 use second::network::Network;
 use second::reader::read_study;
@@ -31,12 +31,16 @@ fn advance(lent: &mut Lent, area: u64) -> (u64, u64) {
 
 /// The number and the lines listed into so many bytes; the bytes behind the lines must stay as they were.
 fn list(lent: &mut Lent, room: usize) -> (u64, String) {
+    let (told, lines) = list_told(lent, room);
+    (told.number, lines)
+}
+
+fn list_told(lent: &mut Lent, room: usize) -> (Listed, String) {
     let mut out = vec![b'?'; room];
-    let (number, written) =
-        list::list(&lent.network, &mut lent.records, &mut lent.froms, &mut lent.tos, &mut out);
-    let (lines, rest) = out.split_at(written as usize);
+    let told = list::list(&lent.network, &mut lent.records, &mut lent.froms, &mut lent.tos, &mut out);
+    let (lines, rest) = out.split_at(told.written as usize);
     assert!(rest.iter().all(|byte| *byte == b'?'));
-    (number, String::from_utf8(lines.to_vec()).expect("plain text"))
+    (told, String::from_utf8(lines.to_vec()).expect("plain text"))
 }
 
 fn words(lent: &Lent) -> [&Vec<i64>; 4] {
@@ -267,17 +271,21 @@ fn a_refused_area_stops_the_listing() {
     // Node 2, an area of its own, hangs at a switch that opens at step 2.
     let text = "study\t1000\t5\t0\nVS\t1\t9\t1\t0\nR\t1\t0\t1000\nSW\t2\t0\t1000\t1\t2\n";
     let mut lent = at_rest(text);
-    let (number, lines) = list(&mut lent, 65_536);
-    assert_eq!(number, STOPPED);
+    let (told, lines) = list_told(&mut lent, 65_536);
+    assert_eq!((told.number, told.stop), (STOPPED, [2, 14, 2]));
     assert_eq!(lines, listing_of(text.as_bytes()));
     assert!(lines.ends_with("i\t1\t2\t0\nstop\t2\t2\t14\t2\n"), "{lines}");
     // Area 1 keeps the step that it took, so the areas have no full step in common any more.
     assert_eq!(lent.records[..2], [2, 1]);
-    assert_eq!(list(&mut lent, 65_536), (10, String::new()));
+    assert_eq!(
+        list_told(&mut lent, 65_536),
+        (Listed { number: 10, written: 0, stop: [0; 3] }, String::new())
+    );
     // Where the first area is refused, the next call stops at the same place.
     let mut lent = at_rest("study\t1000\t9\t0\nVS\t1\t1000\t1\t0\nSW\t1\t2\t1000\t5\t10\n");
     for _ in 0..2 {
-        assert_eq!(list(&mut lent, STEP_ROOM), (STOPPED, "stop\t1\t1\t14\t2\n".to_string()));
+        let (told, lines) = list_told(&mut lent, STEP_ROOM);
+        assert_eq!((told.number, told.stop, lines.as_str()), (STOPPED, [1, 14, 2], "stop\t1\t1\t14\t2\n"));
     }
 }
 

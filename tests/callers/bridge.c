@@ -1,7 +1,7 @@
 // The compiled calls for a program that cannot link them. It writes a block of 64-bit words to standard input, their number before it, and the block
 // comes back from standard output as the call has left it. Word 0 is the call, numbered from 0 in the order of emt.h, and afterwards its answer; word 1
-// the area; word 2 the second answer; from word 3 on stand place and length of the network, the records, the two line stores, and the text or buffer,
-// whose length is in bytes. What is lent lies behind these, with words between that no call may change. Call 4 lists a text whole: in place of the block
+// the area; word 2 the second answer; words 3 to 5 area, number and place of a stop; from word 6 on stand place and length of the network, the records, the
+// two line stores, and the text or buffer, whose length is in bytes. What is lent lies behind these, with words between that no call may change. Call 4 lists a text whole: in place of the block
 // come back the number of bytes of its listing, and the listing.
 #include <emt.h>
 #include <inttypes.h>
@@ -11,8 +11,8 @@
 
 static int64_t *block;
 
-static int64_t *at(int which) { return block + block[3 + 2 * which]; }
-static size_t length(int which) { return (size_t)block[4 + 2 * which]; }
+static int64_t *at(int which) { return block + block[6 + 2 * which]; }
+static size_t length(int which) { return (size_t)block[7 + 2 * which]; }
 
 static int get(void *to, size_t bytes) {
     for (size_t done = 0; done < bytes;) {
@@ -41,7 +41,7 @@ static uint64_t call(void) {
     case 0: return emt_read(bytes, length(4), network, words, second);
     case 1: return emt_reset(network, words, records, r, froms, f, tos, t);
     case 2: return emt_advance(network, words, records, r, froms, f, tos, t, (uint64_t)block[1], second);
-    case 3: return emt_list(network, words, records, r, froms, f, tos, t, bytes, length(4), second);
+    case 3: return emt_list(network, words, records, r, froms, f, tos, t, bytes, length(4), second, second + 1, second + 2, second + 3);
     default: exit(1);
     }
 }
@@ -60,7 +60,7 @@ static uint8_t *piece_at(uint64_t end) {
 // What emtrun does. No call spells the `bad` line: it is spelled here. Memory is lent as the last text left it.
 static int list_text(void) {
     static int64_t network[EMT_NETWORK_WORDS], records[EMT_RECORD_WORDS], froms[EMT_STORE_WORDS], tos[EMT_STORE_WORDS];
-    uint64_t end = sizeof end, line, written;
+    uint64_t end = sizeof end, line, written, area, refusal, place;
     uint64_t number = emt_read((uint8_t *)at(4), length(4), network, EMT_NETWORK_WORDS, &line);
     if (number != EMT_ACCEPTED)
         end += (uint64_t)sprintf((char *)piece_at(end), "bad\t%" PRIu64 "\t%" PRIu64 "\n", line, number);
@@ -68,7 +68,8 @@ static int list_text(void) {
         return 0;
     else
         do {
-            number = emt_list(network, EMT_NETWORK_WORDS, records, EMT_RECORD_WORDS, froms, EMT_STORE_WORDS, tos, EMT_STORE_WORDS, piece_at(end), PIECE, &written);
+            number = emt_list(network, EMT_NETWORK_WORDS, records, EMT_RECORD_WORDS, froms, EMT_STORE_WORDS, tos, EMT_STORE_WORDS, piece_at(end), PIECE, &written, &area, &refusal,
+                              &place);
             end += written;
         } while (number == EMT_MORE);
     *(uint64_t *)listing = end - sizeof end;

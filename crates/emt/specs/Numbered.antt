@@ -1,11 +1,11 @@
--- The calls as C sees them: the paper's number for the answer, and beside it the line, the place or the count;
+-- The calls as C sees them: the paper's number for the answer, and beside it the line, the place or the count, or what stopped a listing;
 -- and T-one, that each contract leaves nothing open. Assumes nothing.
 use Rattle.whole.specs.Plain.{ℕ, _+_, _≡_, sym, _∙_, List, _++_, length, drop, Words}
 use Rattle.paper.specs.Answers.{readingNumber, readingLine, resettingNumber, advanceNumber, advancePlace, advanceCount}
 use Rattle.paper.specs.Reading.{readOf}
 use Rattle.paper.specs.Advance.{Memory, advanceOf}
 use Rattle.paper.specs.Resetting.{resetOf}
-use Rattle.paper.specs.Pieces.{listingNumber, listOf}
+use Rattle.paper.specs.Pieces.{listingNumber, stopArea, stopNumber, stopPlace, listOf}
 
 pub record ReadsBy (text : List ℕ) (net : Words) (number line : ℕ) (after : Words) : Type 0 where
   pub answer : number ≡ readingNumber (readOf text net .answer)
@@ -32,13 +32,23 @@ pub advance-by-one : (net : Words) (a : ℕ) (m : Memory) {x y l k : ℕ} {v w :
     → AdvancesBy net a m x l v → AdvancesBy net a m y k w → (x ≡ y) × ((l ≡ k) × (v ≡ w))
 advance-by-one net a m p q = (p .answer ∙ sym (q .answer), (p .place-of ∙ sym (q .place-of), p .memory ∙ sym (q .memory)))
 
-pub record ListsBy (net : Words) (m : Memory) (out : List ℕ) (number written : ℕ) (b : List ℕ) (after : Memory) : Type 0 where
-  pub answer : number ≡ listingNumber (listOf net m (length out) .answer)
+pub record ListsBy (net : Words) (m : Memory) (out : List ℕ) (answered written area number place : ℕ) (b : List ℕ) (after : Memory) : Type 0 where
+  pub answer : answered ≡ listingNumber (listOf net m (length out) .answer)
   pub count : written ≡ length (listOf net m (length out) .written)
+  pub area-of : area ≡ stopArea (listOf net m (length out) .answer)
+  pub number-of : number ≡ stopNumber (listOf net m (length out) .answer)
+  pub place-of : place ≡ stopPlace (listOf net m (length out) .answer)
   pub buffer : b ≡ listOf net m (length out) .written ++ drop (length (listOf net m (length out) .written)) out
   pub memory : after ≡ listOf net m (length out) .after
 
-pub list-by-one : (net : Words) (m : Memory) (out : List ℕ) {x y i j : ℕ} {a b : List ℕ} {v w : Memory}
-    → ListsBy net m out x i a v → ListsBy net m out y j b w → (x ≡ y) × ((i ≡ j) × ((a ≡ b) × (v ≡ w)))
-list-by-one net m out p q =
-    (p .answer ∙ sym (q .answer), (p .count ∙ sym (q .count), (p .buffer ∙ sym (q .buffer), p .memory ∙ sym (q .memory))))
+pub list-by-one : (net : Words) (m : Memory) (out : List ℕ) {x y i j c d e f g h : ℕ} {a b : List ℕ} {v w : Memory}
+    → ListsBy net m out x i c e g a v → ListsBy net m out y j d f h b w → (x ≡ y) × (i ≡ j) × (c ≡ d) × (e ≡ f) × (g ≡ h) × (a ≡ b) × (v ≡ w)
+list-by-one net m out p q = (
+  p .answer ∙ sym (q .answer),
+  p .count ∙ sym (q .count),
+  p .area-of ∙ sym (q .area-of),
+  p .number-of ∙ sym (q .number-of),
+  p .place-of ∙ sym (q .place-of),
+  p .buffer ∙ sym (q .buffer),
+  p .memory ∙ sym (q .memory),
+)

@@ -91,7 +91,8 @@ pub fn list(
     call_list::list(network, records, froms, tos, out)
 }
 
-// How many bytes are listed: it is written whatever the answer is.
+// How many bytes are listed; and where an area's refusal stopped the listing, the area, the refusal's number and its place, else 0: all four are written
+// whatever the answer is.
 #[no_mangle]
 pub extern "C" fn emt_list(
     network: &[i64],
@@ -100,12 +101,18 @@ pub extern "C" fn emt_list(
     tos: &mut [i64],
     out: &mut [u8],
     written: &mut u64,
+    area: &mut u64,
+    number: &mut u64,
+    place: &mut u64,
 ) -> u64
-    ensures { λ r. ⌜ ListsBy (was network) (before records froms tos) (was out) r (is written) (is out)
-        (after records froms tos) ⌝ }
+    ensures { λ r. ⌜ ListsBy (was network) (before records froms tos) (was out) r (is written) (is area) (is number)
+        (is place) (is out) (after records froms tos) ⌝ }
 {
     let piece = call_list::list(network, records, froms, tos, out);
     let answer = piece.answer;
     *written = piece.count as u64;
+    *area = call_answers::stop_area(answer);
+    *number = call_answers::stop_number(answer);
+    *place = call_answers::stop_place(answer);
     call_answers::listing_number(answer)
 }

@@ -2,20 +2,25 @@
 //! `EMT_BRIDGE` names its command; the words that go to and fro are told by tests/callers/bridge.c.
 
 use super::lent::Lendable;
+use crate::list::Listed;
 use std::io::{self, BufWriter, Read, Write};
 use std::ops::Range;
 use std::process::{Child, ChildStdin, ChildStdout, Command, Stdio};
 use std::sync::{Mutex, MutexGuard, OnceLock};
 
 const COMMAND: &str = "EMT_BRIDGE";
-/// Answers that no call gives. The first shows a call that leaves its second answer unwritten; the other
+/// Answers that no call gives. The first shows a call that leaves one beside its number unwritten; the other
 /// stands for the number where a word changed that was not lent for writing.
 const UNWRITTEN: u64 = 0xDEAD_BEEF_DEAD_BEEF;
 const TRESPASS: u64 = 999_999_999;
 
-/// Call, area and second answer, then place and length of five lent pieces.
-const HEAD_WORDS: usize = 3 + 2 * PIECES;
+/// Call, area, second answer and three of a stop, then place and length of five lent pieces.
+const HEAD_WORDS: usize = FIRST_PIECE + 2 * PIECES;
+const SECOND: usize = 2;
+const STOP: usize = 3;
+const FIRST_PIECE: usize = 6;
 const PIECES: usize = 5;
+const LIST: u64 = 3;
 const NETWORK: usize = 0;
 const BYTES: usize = 4;
 /// A request goes in one piece, so that the bridge wakes once.
@@ -33,11 +38,12 @@ pub fn read(text: &[u8], network: &mut [i64]) -> (u64, u64) {
     bridge.lend_bytes(text);
     bridge.call();
     bridge.take_words(NETWORK, network);
-    bridge.answer()
+    let told = bridge.answer(0);
+    (told.number, told.written)
 }
 
 pub fn reset(network: &[i64], records: &mut [i64], froms: &mut [i64], tos: &mut [i64]) -> u64 {
-    on_state(1, 0, network, [records, froms, tos], None).0
+    on_state(1, 0, network, [records, froms, tos], None).number
 }
 
 pub fn advance(
@@ -47,7 +53,8 @@ pub fn advance(
     tos: &mut [i64],
     area: u64,
 ) -> (u64, u64) {
-    on_state(2, area, network, [records, froms, tos], None)
+    let told = on_state(2, area, network, [records, froms, tos], None);
+    (told.number, told.written)
 }
 
 pub fn list(
@@ -56,17 +63,11 @@ pub fn list(
     froms: &mut [i64],
     tos: &mut [i64],
     out: &mut [u8],
-) -> (u64, u64) {
-    on_state(3, 0, network, [records, froms, tos], Some(out))
+) -> Listed {
+    on_state(LIST, 0, network, [records, froms, tos], Some(out))
 }
 
-fn on_state(
-    call: u64,
-    area: u64,
-    network: &[i64],
-    state: [&mut [i64]; 3],
-    out: Option<&mut [u8]>,
-) -> (u64, u64) {
+fn on_state(call: u64, area: u64, network: &[i64], state: [&mut [i64]; 3], out: Option<&mut [u8]>) -> Listed {
     let mut bridge = bridge();
     bridge.begin(call, area);
     bridge.lend_words(NETWORK, network);
@@ -83,7 +84,7 @@ fn on_state(
     if let Some(out) = out {
         bridge.take_bytes(out);
     }
-    bridge.answer()
+    bridge.answer(call)
 }
 
 pub struct Bridge {
@@ -137,7 +138,9 @@ impl Bridge {
         self.sent.resize(8 * HEAD_WORDS, 0);
         self.set(0, call);
         self.set(1, area);
-        self.set(2, UNWRITTEN);
+        for word in SECOND..FIRST_PIECE {
+            self.set(word, UNWRITTEN);
+        }
         self.guard(i64::GUARDS * 8);
     }
 
@@ -169,8 +172,8 @@ impl Bridge {
     /// Notes a piece of this length at the end of the block; answers with that end.
     fn place(&mut self, piece: usize, length: usize) -> usize {
         let start = self.sent.len();
-        self.set(3 + 2 * piece, (start / 8) as u64);
-        self.set(4 + 2 * piece, length as u64);
+        self.set(FIRST_PIECE + 2 * piece, (start / 8) as u64);
+        self.set(FIRST_PIECE + 2 * piece + 1, length as u64);
         start
     }
 
@@ -190,8 +193,8 @@ impl Bridge {
 
     /// Where a piece whose elements have so many bytes lies in the block.
     fn range(&self, piece: usize, size: usize) -> Range<usize> {
-        let start = 8 * word_of(&self.sent, 3 + 2 * piece) as usize;
-        start..start + size * word_of(&self.sent, 4 + 2 * piece) as usize
+        let start = 8 * word_of(&self.sent, FIRST_PIECE + 2 * piece) as usize;
+        start..start + size * word_of(&self.sent, FIRST_PIECE + 2 * piece + 1) as usize
     }
 
     fn take_words(&mut self, piece: usize, words: &mut [i64]) {
@@ -208,12 +211,19 @@ impl Bridge {
         self.sent[range].copy_from_slice(bytes);
     }
 
-    /// Number and second answer, once all that was lent for writing is taken.
-    fn answer(&mut self) -> (u64, u64) {
-        let (number, second) = (word_of(&self.back, 0), word_of(&self.back, 2));
+    /// All answers, once what was lent for writing is taken; `written` is the second one of any call. Only a
+    /// listing writes those of a stop.
+    fn answer(&mut self, call: u64) -> Listed {
+        let told = |word| word_of(&self.back, word);
+        let (number, written, stop) = (told(0), told(SECOND), [told(STOP), told(STOP + 1), told(STOP + 2)]);
         self.set(0, number);
-        self.set(2, second);
-        (if self.sent == self.back { number } else { TRESPASS }, second)
+        self.set(SECOND, written);
+        if call == LIST {
+            for (place, value) in stop.into_iter().enumerate() {
+                self.set(STOP + place, value);
+            }
+        }
+        Listed { number: if self.sent == self.back { number } else { TRESPASS }, written, stop }
     }
 }
 

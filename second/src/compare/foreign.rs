@@ -2,11 +2,12 @@
 //! declarations, as far as this build links it.
 
 use super::bridged;
+use crate::list::Listed;
 
 pub type ReadCall = fn(&[u8], &mut [i64]) -> (u64, u64);
 pub type ResetCall = fn(&[i64], &mut [i64], &mut [i64], &mut [i64]) -> u64;
 pub type AdvanceCall = fn(&[i64], &mut [i64], &mut [i64], &mut [i64], u64) -> (u64, u64);
-pub type ListCall = fn(&[i64], &mut [i64], &mut [i64], &mut [i64], &mut [u8]) -> (u64, u64);
+pub type ListCall = fn(&[i64], &mut [i64], &mut [i64], &mut [i64], &mut [u8]) -> Listed;
 
 /// A later call is compared only together with the earlier ones.
 #[derive(Clone, Copy)]
@@ -49,6 +50,9 @@ pub fn proved_calls() -> Option<Calls> {
 
 #[cfg(feature = "read")]
 mod linked {
+    #[cfg(feature = "list")]
+    use crate::list::Listed;
+
     extern "C" {
         fn emt_read(
             text: *const u8,
@@ -94,6 +98,9 @@ mod linked {
             out: *mut u8,
             out_len: usize,
             written: *mut u64,
+            area: *mut u64,
+            number: *mut u64,
+            place: *mut u64,
         ) -> u64;
     }
 
@@ -159,9 +166,10 @@ mod linked {
         froms: &mut [i64],
         tos: &mut [i64],
         out: &mut [u8],
-    ) -> (u64, u64) {
+    ) -> Listed {
         let mut written = UNWRITTEN;
-        // SAFETY: every pair comes from a slice, no two slices overlap, `written` is one word of our own.
+        let [mut area, mut refusal, mut place] = [UNWRITTEN; 3];
+        // SAFETY: every pair comes from a slice, no two slices overlap, the last four are words of our own.
         let number = unsafe {
             emt_list(
                 network.as_ptr(),
@@ -175,8 +183,11 @@ mod linked {
                 out.as_mut_ptr(),
                 out.len(),
                 &mut written,
+                &mut area,
+                &mut refusal,
+                &mut place,
             )
         };
-        (number, written)
+        Listed { number, written, stop: [area, refusal, place] }
     }
 }

@@ -4,7 +4,7 @@ use super::dice::Dice;
 use super::foreign::{AdvanceCall, ListCall, ReadCall, ResetCall};
 use super::tally::Difference;
 use crate::calls;
-use crate::list::{self, STEP_ROOM};
+use crate::list::{self, Listed, STEP_ROOM};
 use crate::state::{RECORD_WORDS, STORE_WORDS};
 use std::fmt::Display;
 
@@ -196,7 +196,7 @@ pub fn same_advance(call: AdvanceCall, lent: &mut Lent, area: u64) -> Result<(u6
 
 /// Asks both to list into the buffer; answers ours, with `lent` and `out` as we leave them, where everything
 /// agrees, the bytes behind the listing too.
-pub fn same_list(call: ListCall, lent: &mut Lent, out: &mut [u8]) -> Result<(u64, u64), Difference> {
+pub fn same_list(call: ListCall, lent: &mut Lent, out: &mut [u8]) -> Result<Listed, Difference> {
     let mut copies = Copies::of(lent);
     let mut buffer = Guarded::around(out);
     let theirs = call(
@@ -220,12 +220,15 @@ pub fn same_list(call: ListCall, lent: &mut Lent, out: &mut [u8]) -> Result<(u64
 }
 
 /// The answer, and what is listed from the line on in which the two part.
-fn shown_list(answer: (u64, u64), out: &[u8], same: usize) -> String {
-    let listed = &out[..out.len().min(answer.1 as usize)];
+fn shown_list(answer: Listed, out: &[u8], same: usize) -> String {
+    let listed = &out[..out.len().min(answer.written as usize)];
     let common = &listed[..same.min(listed.len())];
     let start = common.iter().rposition(|byte| *byte == b'\n').map_or(0, |place| place + 1);
     let lines = String::from_utf8_lossy(&listed[start..listed.len().min(start + 300)]).into_owned();
-    format!("number {}, {} bytes written; from byte {start} on:\n{lines}", answer.0, answer.1)
+    let Listed { number, written, stop: [area, refusal, place] } = answer;
+    format!(
+        "number {number}, {written} bytes written, stop {area} {refusal} {place}; from byte {start} on:\n{lines}"
+    )
 }
 
 /// The words that are not zero, with their places, as far as a reader would follow.

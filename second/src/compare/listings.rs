@@ -8,7 +8,7 @@ use super::moves::{self, Depth};
 use super::tally::{Difference, Tally};
 use super::widest;
 use crate::limits::Whole;
-use crate::list::{MORE, STEP_ROOM};
+use crate::list::{Listed, MORE, STEP_ROOM};
 use crate::listing;
 use crate::network::{Network, Study};
 use crate::reader;
@@ -91,7 +91,7 @@ impl<'a> ListAsker<'a> {
             let random = self.dice.roll().to_le_bytes();
             bytes.copy_from_slice(&random[..bytes.len()]);
         }
-        let (number, written) = same_list(self.list, &mut self.lent, &mut out)?;
+        let Listed { number, written, .. } = same_list(self.list, &mut self.lent, &mut out)?;
         self.tally.passed += 1;
         self.tally.count(format!("list: {number:2}"));
         out.truncate(written as usize);
