@@ -1,15 +1,23 @@
 #!/usr/bin/env bash
-# Every name on docs/PAPER.md stands where the page says. Its forms:
+# Every name on docs/PAPER.md and docs/EDITS.md stands where the page says, and docs/EDITS.md has a row for each must-fail edit, once. The forms:
 #   File: `name`, `name`     declared, or brought in, by crates/paper/specs/File.antt
 #   `crate::name`            a function, type or constant of crates/crate/src
 #   `crate::File::name`      declared by crates/crate/specs/File.antt
 #   `crates/..`, `tests/..`  a file
 # Braces hold several names, `crate::{name, name}`. The columns code and theorem hold names of their form alone, or a dash; the second
-# column of the table of slips holds edits of its must-fail folder.
+# column of the table of slips holds edits of its must-fail folder. A row of docs/EDITS.md begins with `crate/edit`.
 set -u
 cd "$(dirname "$0")/.." || exit 1
 
-awk '
+awk -v edits="$(ls crates/*/must-fail/*.edit)" '
+BEGIN {
+    n = split(edits, path, "\n")
+    for (i = 1; i <= n; i++) {
+        split(path[i], part, /[\/.]/)
+        rows[part[2] "/" part[4]] = 0
+    }
+}
+
 function tell(what) { print FILENAME ":" FNR ": " what; failed++ }
 function hold(known, name) { if (known) passed++; else tell("no " name) }
 function exists(path,    line) { return (getline line < path) >= 0 }
@@ -53,9 +61,9 @@ FILENAME ~ /\.antt$/ {
 
 /^\|/ {
     columns = split($0, cell, / *\| */)
-    if (cell[2] ~ /^the (paper|slip)$/) header = cell[3] "|" cell[4] "|" cell[5]
-    if (cell[2] ~ /^(the (paper|slip)|-+)$/) next
-    if (header == "definition|code|theorem") {
+    if (cell[2] ~ /^the (paper|slip|edit)$/) header = cell[2] "|" cell[3] "|" cell[4] "|" cell[5]
+    if (cell[2] ~ /^(the (paper|slip|edit)|-+)$/) next
+    if (header == "the paper|definition|code|theorem") {
         if (columns != 6) tell("not four columns")
         hold_form(cell[4], "^[a-z_0-9]+::[^:]+$")
         hold_form(cell[5], "^[a-z_0-9]+::[A-Z][A-Za-z]*::[^:]+$")
@@ -63,6 +71,11 @@ FILENAME ~ /\.antt$/ {
         edit = cell[3]
         gsub(/`/, "", edit)
         hold(exists(substr(header, RSTART, RLENGTH) "/" edit ".edit"), "edit " edit)
+    } else if (header ~ /^the edit/) {
+        edit = cell[2]
+        gsub(/`/, "", edit)
+        hold(edit in rows, "edit " edit)
+        rows[edit]++
     } else tell("a table of unknown columns")
 }
 
@@ -82,6 +95,8 @@ FILENAME ~ /\.antt$/ {
 }
 
 END {
+    FILENAME = "docs/EDITS.md"
+    for (edit in rows) hold(rows[edit] == 1, "row, or more than one, for " edit)
     print passed + 0 " passed, " failed + 0 " failed"
     exit failed > 0
-}' crates/*/src/*.rt crates/*/specs/*.antt docs/PAPER.md
+}' crates/*/src/*.rt crates/*/specs/*.antt docs/PAPER.md docs/EDITS.md
