@@ -1,4 +1,4 @@
--- "17 HISTORY: a next history or sent value beyond 10^17": the row that the step's search finds. Assumes nothing.
+-- 17 HISTORY: "a next history or sent value beyond 10^17": the row that the step's search finds. Assumes nothing.
 use Rattle.whole.specs.Plain.{ℕ, suc, _+_, _<_, _≡_, refl, sym, ap, _∙_, _≢_, _⊎_, inl, inr, Bool, true, false, cond}
 use Rattle.whole.specs.Plain.{not, _&&_, _||_, and-false, true≢false, [], eqb, leb, ℤ, pos, negℤ, natAbs, _+ℤ_, _-ℤ_}
 use Rattle.whole.specs.Plain.{_*ℤ_, zero-*ℤ, length, getD, ne-eqb, leb-false, lt-leb, ℕ-discrete, arith, Words, z, word}

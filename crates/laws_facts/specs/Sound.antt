@@ -15,7 +15,7 @@ use Rattle.laws_facts.specs.Fields.{InRange, in-range, field, Within, wi
 
 -- ---- the facts, by kind
 
--- `study`: "step length 1 to 10^6 ns", "steps 1 to 10^6", "balance limit 0 to 10^15"
+-- `study`: step length 1 to 10^6 ns, steps 1 to 10^6, balance limit 0 to 10^15
 pub record StudySound (h : Row) : Type 0 where
   pub stepIn : Within 1 Limits.stepLengthEnd (word h 1)
   pub stepsIn : Within 1 Limits.stepsEnd (word h 2)

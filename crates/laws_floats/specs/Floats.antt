@@ -12,7 +12,7 @@ use Rattle.laws_floats.specs.HasPath.{HasPath}
 use Rattle.laws_floats.specs.Legs.{legsIn}
 use Rattle.laws_floats.specs.Search.{sound, complete}
 
--- "14: a free node has no path"; "carry the lowest such node"
+-- 14: "a free node has no path"; "carry the lowest such node"
 pub record Floats (N : Net) (a k : ℕ) (recs : Words) (n : ℕ) : Type 0 where
   pub node : NodeOf N a n
   pub free : fixed N n ≡ false

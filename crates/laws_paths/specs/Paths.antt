@@ -1,4 +1,4 @@
--- "A path": what the rounds of `Spread` find out. The mark of a node is the first mark of some node that hangs together with it
+-- "a path": what the rounds of `Spread` find out. The mark of a node is the first mark of some node that hangs together with it
 -- (`spread-sound`); that it is at most that of each such node is `spread-complete` of Reached. Assumes nothing.
 use Rattle.whole.specs.Plain.{ℕ, zero, suc, _≡_, refl, ap, subst, _⊎_, inl, inr, List, [], _∷_, getD, set, decLe, arith}
 use Rattle.whole.specs.Plain.{fold}

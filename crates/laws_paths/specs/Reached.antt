@@ -1,4 +1,4 @@
--- "A path": a path need not be longer than there are nodes, so the rounds find every one. Assumes nothing.
+-- "a path": a path need not be longer than there are nodes, so the rounds find every one. Assumes nothing.
 use Rattle.whole.specs.Plain.{ℕ, zero, suc, _+_, _≤_, _<_, _≡_, refl, sym, _∙_, subst, _≢_, _⊎_, inl, inr, Bool, true}
 use Rattle.whole.specs.Plain.{false, not, _&&_, and-true, and-false, true≢false, List, eqb, ltb, length, eq-eqb, ne-eqb}
 use Rattle.whole.specs.Plain.{ltb-true, lt-ltb, ℕ-discrete, arith, count, numbers}

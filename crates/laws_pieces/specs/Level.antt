@@ -55,7 +55,7 @@ module _ (net : Words) (network : isNetwork net ≡ true) where
     any : (b : ℕ) → 1 ≤ b → b ≤ areaCount N → k ≤ countOf (m .records) b
     any b o q = elim (decLt b a) [ yes h ↦ omega (arith, p .past b o h q) | no h ↦ omega (arith, p .left b o (omega arith) q) ]
 
-    -- "T-fewest": every other area has taken k steps at least, and a line's delay is one at least
+    -- T-fewest: every other area has taken k steps at least, and a line's delay is one at least
     free : Free N a (suc k) (m .records)
     free i h l =
         let d : 1 ≤ delayAt N i = snd .travels i l in

@@ -119,7 +119,7 @@ module _ (N : Net) (m : Memory) (f : Formed N m) (s : NetSound N) (a k : ℕ) wh
       go false true false l b = (idle-ranged, idle-ranged)
       go false false o l b = (idle-ranged, idle-ranged)
 
--- ---- "17 HISTORY: a next history or sent value beyond 10^17"
+-- ---- 17 HISTORY: "a next history or sent value beyond 10^17"
 
 pub beyond-place : (v : Words) (i : ℕ) (bs : List Branch) → firstBeyond v i bs ≡ place (beyond v) i bs
 unfolding firstBeyond place

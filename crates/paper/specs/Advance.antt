@@ -79,7 +79,7 @@ abbrev pub finish : Net → ℕ → ℕ → Memory → Step → Advanced
 finish N a k m (stop x) = advanced x m
 finish N a k m (move bs v) = advanced (Took k) (written N a k bs v m)
 
--- "An advance depends on nothing but the network, its own area's records, the far counts and the far values it reads."
+-- "an advance depends on nothing but the network, its own area's records, the far counts and the far values it reads."
 unfoldable pub takeStep : Net → ℕ → ℕ → Memory → List Branch → Advanced
 takeStep N a k m bs = finish N a k m (solve N a k bs)
 

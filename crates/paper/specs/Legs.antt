@@ -123,6 +123,6 @@ current v l = through v l +ℤ l .h
 unfoldable pub echo : Words → Leg → ℤ
 echo v l = current v l +ℤ through v l
 
--- "L: next h is i + g·u"; "C: next h is -i - g·u"; LINE: "It then sends -(g·v + i)."
+-- L: "next h is i + g·u"; C: "next h is -i - g·u"; LINE: "It then sends -(g·v + i)."
 unfoldable pub passedOn : Words → Row → Leg → ℤ
 passedOn v r l = cond (isL r) (echo v l) (cond (isC r || isLine r) (negℤ (echo v l)) z)

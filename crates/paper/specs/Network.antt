@@ -1,5 +1,5 @@
 -- The network record: word 0 the step length, 1 the steps, 2 the limit, 3 the number of rows, 4 to 7 zero, and from word 8 on eight words for
--- each row, "all lines, sources among them", in table order; the rest zero. Nothing derived is kept. Assumes nothing.
+-- each row, sources among the branches, in table order; the rest zero. Nothing derived is kept. Assumes nothing.
 use Rattle.whole.specs.Plain.{ℕ, zero, suc, _+_, Bool, true, _&&_, Bool·beq, List, [], _∷_, _++_, tail, leb, eqb, ℤ}
 use Rattle.whole.specs.Plain.{pos, getD, length, take, drop, Words, z, word, nat, between, filled, empty, fold}
 use Rattle.whole.specs.Plain.{sameWords}

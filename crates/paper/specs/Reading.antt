@@ -40,7 +40,7 @@ linesOf text = let pieces = split LF text in closed (final [] pieces) (fold line
 
 -- ---- the answer
 
--- "The answer carries the line number"
+-- "the answer carries the line number"
 unfoldable pub faulty : ℕ → ℕ → Reading
 faulty l f =
     cond (eqb f 1) (Form l)

@@ -1,4 +1,4 @@
--- A line of the table as a row of words, kind first and then the fields "as in the text", and the table of kinds that the text, the
+-- A line of the table as a row of words, kind first and then the fields as in the text, and the table of kinds that the text, the
 -- refusals and the network record all go by. Assumes nothing.
 use Rattle.whole.specs.Plain.{ℕ, Bool, true, false, List, [], _∷_, eqb, ℤ, pos, negsuc, negℤ, ltZ, getD, length, Words}
 use Rattle.whole.specs.Plain.{z, word, nat}

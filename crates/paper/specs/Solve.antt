@@ -85,7 +85,7 @@ imbalance legs inject v p = total (λ l. cond (leaves p l) (current v l) z) legs
 unfoldable pub unbalanced : ℕ → List Leg → (ℕ → ℤ) → Words → List ℕ → ℕ
 unbalanced most legs inject v free = first (λ p. not (upTo most (imbalance legs inject v p))) free
 
--- ---- "17 HISTORY: a next history or sent value beyond 10^17"
+-- ---- 17 HISTORY: "a next history or sent value beyond 10^17"
 
 unfoldable pub beyond : Words → Branch → Bool
 beyond v b = not (upTo Limits.historyEnd (passedOn v (b .row) (b .fromEnd .wire)) && upTo Limits.historyEnd (passedOn v (b .row) (b .toEnd .wire)))
@@ -145,6 +145,6 @@ abbrev pub passing : Net → Step → Step
 passing N (stop x) = stop x
 passing N (move bs v) = historyStep N bs v
 
--- "14 to 17", in turn
+-- 14 to 17, in turn
 unfoldable pub solve : Net → ℕ → ℕ → List Branch → Step
 solve N a k bs = passing N (settling N a k bs)

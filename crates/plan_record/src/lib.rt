@@ -1,4 +1,4 @@
-// A network record by its rows, in table order: the words of row i are its kind and then its fields "as in the text".
+// A network record by its rows, in table order: the words of row i are its kind and then its fields as in the text.
 
 ghost use Rattle.whole.specs.Plain.{_<_, _≡_, true, pos, length, word, nat};
 ghost use Rattle.whole.specs.Loans.{was};

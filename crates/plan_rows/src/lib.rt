@@ -167,7 +167,7 @@ fn to_at(net: &[i64], i: usize, kind: usize) -> usize
     plan_record::number(net, i, 2)
 }
 
-// "nS, of one branch"; a source has none
+// in nS, of one branch; a source has none
 fn conductance_at(net: &[i64], i: usize, kind: usize, step: usize) -> usize
     requires { ⌜ (isNetwork (now net) ≡ true) × (i < length (netIn (now net) .rows)) ⌝ }
     requires { ⌜ (kind ≡ Rows.kind (rowAt (netIn (now net)) i)) × (step ≡ Areas.step (netIn (now net))) ⌝ }

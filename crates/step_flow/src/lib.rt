@@ -15,7 +15,7 @@ use paper::kinds;
 use step_legs::Line;
 use step_legs::Wire;
 
-// "L: next h is i + g·u"; "C: next h is -i - g·u"; LINE: "It then sends -(g·v + i)." Of i + g·u, by the row's kind.
+// L: "next h is i + g·u"; C: "next h is -i - g·u"; LINE: "It then sends -(g·v + i)." Of i + g·u, by the row's kind.
 fn passed_on(kind: usize, echo: i64) -> i64
     requires { ⌜ Small echo ⌝ }
     ensures { λ r. ⌜ r ≡ passedBy kind echo ⌝ }

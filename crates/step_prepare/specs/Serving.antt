@@ -29,7 +29,7 @@ use Rattle.step_prepare.specs.declared.Prepared.{Prepared}
 abbrev pub bares : Net → ℕ → ℕ → List Leg
 bares N a k = map (bareOfEnd N k) (ownEnds N a)
 
--- "14 FLOATING: a free node has no path": the lowest, or 0
+-- 14 FLOATING: "a free node has no path": the lowest, or 0
 abbrev pub floats : Net → ℕ → ℕ → ℕ
 floats N a k = floating (fixed N) (N .nodes) (freeOf N a) (bares N a k)
 

@@ -60,7 +60,7 @@ fn node_fault(row: [i64; 8]) -> bool
         | ((k == 4) & ((a == 0) | (b == 0)))
 }
 
-// "R, SW closed, LINE: 10^12 / mΩ. L: 10^9 · step / (2 · nH). C: 2·10^6 · pF / step."
+// "R, SW closed, LINE: 10^12 / mΩ."; "L: 10^9 · step / (2 · nH)."; "C: 2·10^6 · pF / step."
 pub fn conductance(step: u64, kind: usize, size: u64) -> u64
     requires { ⌜ Sized step kind size ⌝ }
     ensures { λ r. ⌜ r ≡ conductanceOf step kind size ⌝ }

@@ -1,4 +1,4 @@
-// The table of kinds: "study, R, L, C, LINE, SW, VS, IS", kinds 0 to 7. A kind's fields that name a node are its first.
+// The table of kinds: study, R, L, C, LINE, SW, VS, IS, kinds 0 to 7. A kind's fields that name a node are its first.
 ghost use Rattle.whole.specs.Plain.{_≤_, _<_, _+_, _≡_, length, between};
 ghost use Rattle.paper.specs.Rows.{fieldsOf};
 ghost use Rattle.text_kinds.specs.Table.{namesOf, lowsOf, highsOf, outsideFrom};
