@@ -4,14 +4,12 @@ use Rattle.whole.specs.Plain.{ℕ, zero, suc, _≤_, _<_, _≡_, refl, sym, ap,
 use Rattle.whole.specs.Plain.{_∷_, leb, ℤ, natAbs, length, getD, eqb-true, eq-eqb, leb-true, leb-false, le-leb, lt-leb}
 use Rattle.whole.specs.Plain.{not-true, not-false, arith, upTo}
 use lib.Ieee.{nan}
-use Rattle.paper.specs.declared.Rounded.{Rounded}
-use Rattle.paper.specs.declared.Rounded.the-variants.{Whole, Outside}
 use Rattle.whole.specs.Rising.{Rising, lowest-first, first-lowest}
 use Rattle.paper.specs.Rows.{limit}
 use Rattle.paper.specs.Areas.{Net, fixed, freeOf}
 use Rattle.paper.specs.Sources.{injected}
 use Rattle.paper.specs.Legs.{bothLegs}
-use Rattle.paper.specs.Doubles.{nearestOf}
+use Rattle.paper.specs.Doubles.{Voltage, CheckedVoltage, Good, Refused, nearestOf}
 use Rattle.paper.specs.Floating.{floating}
 use Rattle.paper.specs.Solve.{outOfRange, unbalanced, imbalance}
 use Rattle.paper.specs.Advance.{Memory}
@@ -29,62 +27,62 @@ use Rattle.laws_demands.specs.Balance.{imbalance-is}
 -- ---- the first that is out of range
 
 module _ where
-  abbrev Out : List Rounded → ℕ → Type 0
-  Out xs q = getD xs q Outside ≡ Outside
+  abbrev Out : List CheckedVoltage → ℕ → Type 0
+  Out xs q = getD xs q Refused ≡ Refused
 
-  whole-not : {x : ℤ} → Whole x ≡ Outside → ⊥
-  whole-not e = let q : _≡_ {A = ℕ} 0 1 = cc in omega arith
+  good-not : {x : Voltage} → Good x ≡ Refused → ⊥
+  good-not e = let q : _≡_ {A = ℕ} 0 1 = cc in omega arith
 
-  record OutFirst (ns : List ℕ) (xs : List Rounded) (n : ℕ) : Type 0 where
+  record OutFirst (ns : List ℕ) (xs : List CheckedVoltage) (n : ℕ) : Type 0 where
     place : ℕ
     inside : place < length ns
     node : n ≡ getD ns place 0
     out : Out xs place
     before : (p : ℕ) → p < place → Out xs p → ⊥
 
-  out-next : (x : ℤ) (m : ℕ) (ns : List ℕ) (xs : List Rounded) (n : ℕ) → OutFirst ns xs n → OutFirst (m ∷ ns) (Whole x ∷ xs) n
+  out-next : (x : Voltage) (m : ℕ) (ns : List ℕ) (xs : List CheckedVoltage) (n : ℕ) → OutFirst ns xs n → OutFirst (m ∷ ns) (Good x ∷ xs) n
   out-next x m ns xs n h = record { place = suc (h .place); inside = omega (arith, h .inside); node = h .node; out = h .out; before = before }
     where
-      before : (p : ℕ) → p < suc (h .place) → Out (Whole x ∷ xs) p → ⊥
-      before zero l e = whole-not e
+      before : (p : ℕ) → p < suc (h .place) → Out (Good x ∷ xs) p → ⊥
+      before zero l e = good-not e
       before (suc p) l e = h .before p (omega arith) e
 
-  out-first : (ns : List ℕ) (xs : List Rounded) (n : ℕ) → length xs ≡ length ns → outOfRange ns xs ≡ suc n → OutFirst ns xs (suc n)
+  out-first : (ns : List ℕ) (xs : List CheckedVoltage) (n : ℕ) → length xs ≡ length ns → outOfRange ns xs ≡ suc n → OutFirst ns xs (suc n)
   unfolding outOfRange
   out-first [] xs n l e = absurd (omega arith)
   out-first (m ∷ ns) [] n l e = absurd (omega arith)
-  out-first (m ∷ ns) (Whole x ∷ xs) n l e = out-next x m ns xs (suc n) (out-first ns xs n (omega arith) e)
-  out-first (m ∷ ns) (Outside ∷ xs) n l e = record { place = 0; inside = omega arith; node = sym e; out = refl; before = λ p h. absurd (omega arith) }
+  out-first (m ∷ ns) (Good x ∷ xs) n l e = out-next x m ns xs (suc n) (out-first ns xs n (omega arith) e)
+  out-first (m ∷ ns) (Refused ∷ xs) n l e = record { place = 0; inside = omega arith; node = sym e; out = refl; before = λ p h. absurd (omega arith) }
 
-  first-out : (ns : List ℕ) (xs : List Rounded) (n : ℕ) → length xs ≡ length ns → OutFirst ns xs n → outOfRange ns xs ≡ n
+  first-out : (ns : List ℕ) (xs : List CheckedVoltage) (n : ℕ) → length xs ≡ length ns → OutFirst ns xs n → outOfRange ns xs ≡ n
   unfolding outOfRange
   first-out [] xs n l h = absurd (omega (arith, h .inside))
   first-out (m ∷ ns) [] n l h = absurd (omega arith)
-  first-out (m ∷ ns) (Whole x ∷ xs) n l h = go (h .place) (h .inside) (h .node) (h .out) (h .before) (first-out ns xs n (omega arith))
+  first-out (m ∷ ns) (Good x ∷ xs) n l h = go (h .place) (h .inside) (h .node) (h .out) (h .before) (first-out ns xs n (omega arith))
     where
-      go : (q : ℕ) → q < length (m ∷ ns) → n ≡ getD (m ∷ ns) q 0 → Out (Whole x ∷ xs) q → ((p : ℕ) → p < q → Out (Whole x ∷ xs) p → ⊥) → (OutFirst ns xs n → outOfRange ns xs ≡ n) → outOfRange ns xs ≡ n
-      go zero i d o b ih = absurd (whole-not o)
+      go : (q : ℕ) → q < length (m ∷ ns) → n ≡ getD (m ∷ ns) q 0 → Out (Good x ∷ xs) q → ((p : ℕ) → p < q → Out (Good x ∷ xs) p → ⊥) → (OutFirst ns xs n → outOfRange ns xs ≡ n) → outOfRange ns xs ≡ n
+      go zero i d o b ih = absurd (good-not o)
       go (suc q) i d o b ih = ih (record { place = q; inside = omega arith; node = d; out = o; before = λ p l e. b (suc p) (omega arith) e })
-  first-out (m ∷ ns) (Outside ∷ xs) n l h = go (h .place) (h .node) (h .before)
+  first-out (m ∷ ns) (Refused ∷ xs) n l h = go (h .place) (h .node) (h .before)
     where
-      go : (q : ℕ) → n ≡ getD (m ∷ ns) q 0 → ((p : ℕ) → p < q → Out (Outside ∷ xs) p → ⊥) → m ≡ n
+      go : (q : ℕ) → n ≡ getD (m ∷ ns) q 0 → ((p : ℕ) → p < q → Out (Refused ∷ xs) p → ⊥) → m ≡ n
       go zero d b = sym d
       go (suc q) d b = absurd (b 0 (omega arith) refl)
 
-  none-out : (ns : List ℕ) (xs : List Rounded) → length xs ≡ length ns → ((q : ℕ) → q < length ns → Out xs q → ⊥) → outOfRange ns xs ≡ 0
+  none-out : (ns : List ℕ) (xs : List CheckedVoltage) → length xs ≡ length ns → ((q : ℕ) → q < length ns → Out xs q → ⊥) → outOfRange ns xs ≡ 0
   unfolding outOfRange
   none-out [] xs l h = refl
   none-out (m ∷ ns) [] l h = refl
-  none-out (m ∷ ns) (Whole x ∷ xs) l h = none-out ns xs (omega arith) (λ q i. h (suc q) (omega arith))
-  none-out (m ∷ ns) (Outside ∷ xs) l h = absurd (h 0 (omega arith) refl)
+  none-out (m ∷ ns) (Good x ∷ xs) l h = none-out ns xs (omega arith) (λ q i. h (suc q) (omega arith))
+  none-out (m ∷ ns) (Refused ∷ xs) l h = absurd (h 0 (omega arith) refl)
 
-  out-none : (b : ℕ) (ns : List ℕ) (xs : List Rounded) → Rising b ns → length xs ≡ length ns → outOfRange ns xs ≡ 0 → (q : ℕ) → q < length ns → Out xs q → ⊥
+  out-none : (b : ℕ) (ns : List ℕ) (xs : List CheckedVoltage) → Rising b ns → length xs ≡ length ns → outOfRange ns xs ≡ 0 → (q : ℕ) → q < length ns → Out xs q → ⊥
   unfolding outOfRange
   out-none b [] xs r l e q h = absurd (omega arith)
   out-none b (m ∷ ns) [] r l e q h = absurd (omega arith)
-  out-none b (m ∷ ns) (Whole x ∷ xs) r l e zero h = λ o. whole-not o
-  out-none b (m ∷ ns) (Whole x ∷ xs) r l e (suc q) h = out-none m ns xs (r .1) (omega arith) e q (omega arith)
-  out-none b (m ∷ ns) (Outside ∷ xs) r l e q h = absurd (omega (arith, r .0))
+  out-none b (m ∷ ns) (Good x ∷ xs) r l e zero h = λ o. good-not o
+  out-none b (m ∷ ns) (Good x ∷ xs) r l e (suc q) h = out-none m ns xs (r .1) (omega arith) e q (omega arith)
+  out-none b (m ∷ ns) (Refused ∷ xs) r l e q h = absurd (omega (arith, r .0))
 
 -- ---- what each refusal says of a step
 
@@ -97,11 +95,11 @@ pub record OutOfRange (N : Net) (a k : ℕ) (m : Memory) (n : ℕ) : Type 0 wher
   pub place : ℕ
   pub inside : place < length (freeOf N a)
   pub node : n ≡ getD (freeOf N a) place 0
-  pub out : nearestOf (getD (solution N a k m) place nan) ≡ Outside
-  pub lowest : (q : ℕ) → q < place → nearestOf (getD (solution N a k m) q nan) ≢ Outside
+  pub out : nearestOf (getD (solution N a k m) place nan) ≡ Refused
+  pub lowest : (q : ℕ) → q < place → nearestOf (getD (solution N a k m) q nan) ≢ Refused
 
 abbrev pub AllInRange : Net → ℕ → ℕ → Memory → Type 0
-AllInRange N a k m = (q : ℕ) → q < length (freeOf N a) → nearestOf (getD (solution N a k m) q nan) ≢ Outside
+AllInRange N a k m = (q : ℕ) → q < length (freeOf N a) → nearestOf (getD (solution N a k m) q nan) ≢ Refused
 
 -- 16 UNBALANCED: "the limit is passed at a node"; n is the lowest such free node
 pub record Unbalances (N : Net) (a k : ℕ) (m : Memory) (n : ℕ) : Type 0 where
@@ -129,7 +127,7 @@ module _ (N : Net) (a : ℕ) (m : Memory) (ok : Asked N a m) where
   same-length : length (rounded N a k (legsNow N a m)) ≡ length (freeOf N a)
   same-length = rounded-length N (ok .net) a k (legsNow N a m)
 
-  at-place : (q : ℕ) → q < length (freeOf N a) → getD (rounded N a k (legsNow N a m)) q Outside ≡ nearestOf (getD (solution N a k m) q nan)
+  at-place : (q : ℕ) → q < length (freeOf N a) → getD (rounded N a k (legsNow N a m)) q Refused ≡ nearestOf (getD (solution N a k m) q nan)
   at-place = rounded-at N (ok .net) a k (legsNow N a m)
 
   pub outside-out : (n : ℕ) → outside N a k (legsNow N a m) ≡ suc n → OutOfRange N a k m (suc n)

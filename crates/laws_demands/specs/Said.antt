@@ -3,14 +3,13 @@
 use Rattle.whole.specs.Plain.{ℕ, zero, suc, _+_, _-_, _≤_, _<_, _≡_, _≢_, true, false, cond, List, eqb, ℤ, pos, negℤ}
 use Rattle.whole.specs.Plain.{natAbs, _+ℤ_, _-ℤ_, _*ℤ_, length, getD, z, word, numbers, total}
 use lib.Ieee.{Float, nan}
-use Rattle.paper.specs.declared.Rounded.the-variants.{Whole}
 use Rattle.paper.specs.Rows.{isBranch, isR, isL, isC, isLine, isSwitch, isFixing, from, to, at, limit}
 use Rattle.paper.specs.Conductance.{conductance}
 use Rattle.paper.specs.Areas.{Net, areaOf, areaCount, rowArea, step, fixed, freeOf}
 use Rattle.paper.specs.Sources.{source, injected}
 use Rattle.paper.specs.Records.{countAt, voltAt, currentAt, toCurrentAt, historyAt, countOf, ownerOf}
 use Rattle.paper.specs.Legs.{Branch, bothLegs, heard, isOpen, legsOf}
-use Rattle.paper.specs.Doubles.{nearestOf}
+use Rattle.paper.specs.Doubles.{asVoltage, nearestOf}
 use Rattle.paper.specs.Elimination.{voltages}
 use Rattle.paper.specs.Solve.{system, stillOf}
 use Rattle.paper.specs.Advance.{Memory, written}
@@ -118,7 +117,7 @@ pub record Offered (N : Net) (a k : ℕ) (m n : Memory) : Type 0 where
   -- a fixed node has its source's value
   pub fixed-node : (p i : ℕ) → NodeOf N a p → i < length (N .rows) → isFixing (rowAt N i) ≡ true → at (rowAt N i) ≡ p → voltage N n p ≡ source N k (rowAt N i)
   -- a free node has the double of the stated elimination, rounded to the nearest whole number
-  pub free-node : (q : ℕ) → q < length (freeOf N a) → nearestOf (getD (solution N a k m) q nan) ≡ Whole (voltage N n (getD (freeOf N a) q 0))
+  pub free-node : (q : ℕ) → q < length (freeOf N a) → nearestOf (getD (solution N a k m) q nan) ≡ asVoltage (voltage N n (getD (freeOf N a) q 0))
   -- each branch of the area obeys its own equation
   pub plain : (i : ℕ) → i < length (N .rows) → isBranch (rowAt N i) ≡ true → isLine (rowAt N i) ≡ false → rowArea N (rowAt N i) ≡ a → Obeys N k m n i
   pub from-end : (i : ℕ) → i < length (N .rows) → isLine (rowAt N i) ≡ true → areaOf N (from (rowAt N i)) ≡ a

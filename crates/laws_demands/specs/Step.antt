@@ -1,7 +1,7 @@
 -- T-step: the step that 16 and 17 judge is the offer of the branch equations, and an accepted step writes it. Assumes nothing.
 use Rattle.whole.specs.Plain.{ℕ, _≡_, refl, sym, ap, _∙_, inr, getD, eq-eqb, Words, word}
 use Rattle.paper.specs.declared.Advance.the-variants.{Took}
-use Rattle.paper.specs.declared.Rounded.the-variants.{Whole}
+use Rattle.paper.specs.Doubles.{asVoltage}
 use Rattle.whole.specs.Folds.{and-left, and-right, both}
 use Rattle.whole.specs.Members.{among-at}
 use Rattle.paper.specs.Answers.{accepted}
@@ -35,7 +35,7 @@ module _ (N : Net) (a : ℕ) (m : Memory) (ok : Asked N a m) where
     next = refl;
     count = count-put N a k (m .records) ears v (snd N a m ok) (m .records) (ok .long .records) (ok .area .one) (ok .area .most);
     fixed-node = λ p i h l e q. volt p h ∙ fixed-volt N (ok .net) a k (legsNow N a m) p i h l (both e (eq-eqb (at (rowAt N i)) p q));
-    free-node = λ q h. free-whole N (ok .net) a k (legsNow N a m) (all-inside N a m ok r) q h ∙ ap Whole (sym (volt (getD (freeOf N a) q 0) (free-of N a (among-at (freeOf N a) q 0 h) .0)));
+    free-node = λ q h. free-whole N (ok .net) a k (legsNow N a m) (all-inside N a m ok r) q h ∙ ap asVoltage (sym (volt (getD (freeOf N a) q 0) (free-of N a (among-at (freeOf N a) q 0 h) .0)));
     plain = plain-obeys N a m ok;
     from-end = from-obeys N a m ok;
     to-end = to-obeys N a m ok;

@@ -5,8 +5,6 @@ use Rattle.whole.specs.Plain.{length, getD, set, length-set, take, length-map, 
 use Rattle.whole.specs.Plain.{getD-set-same, getD-set-other, getD-take, length-take-le, eq-eqb, arith, Words, z, word}
 use Rattle.whole.specs.Plain.{any, keep, numbers, first}
 use lib.Ieee.{Float, nan, fin}
-use Rattle.paper.specs.declared.Rounded.{Rounded}
-use Rattle.paper.specs.declared.Rounded.the-variants.{Whole, Outside}
 use Rattle.whole.specs.Folds.{getD-map, length-keep, count-le, length-numbers, none-at}
 use Rattle.whole.specs.TurnLaws.{downs-keeps}
 use Rattle.whole.specs.Members.{Among, top, below, among-at}
@@ -15,7 +13,7 @@ use Rattle.paper.specs.Faults.{fixes}
 use Rattle.paper.specs.Areas.{Net, areaOf, fixed, nodesOf, freeOf}
 use Rattle.paper.specs.Sources.{source, injected}
 use Rattle.paper.specs.Legs.{Branch, bothLegs}
-use Rattle.paper.specs.Doubles.{nearestOf}
+use Rattle.paper.specs.Doubles.{CheckedVoltage, Good, Refused, asVoltage, tenths-of, nearestOf}
 use Rattle.paper.specs.Elimination.{System, voltages, solved, rowSolved, eliminated}
 use Rattle.paper.specs.Solve.{system, proposed, settled, outOfRange, stillOf}
 use Rattle.laws_facts.specs.Nets.{NetSound, rowAt, held-is}
@@ -26,33 +24,32 @@ use Rattle.laws_local.specs.Outcome.{rounded, voltsOf}
 
 -- ---- the free nodes' values, put in their places
 
-settled-other : (ns : List ℕ) (xs : List Rounded) (v : Words) (p : ℕ) → (Among p ns → ⊥) → word (settled ns xs v) p ≡ word v p
+settled-other : (ns : List ℕ) (xs : List CheckedVoltage) (v : Words) (p : ℕ) → (Among p ns → ⊥) → word (settled ns xs v) p ≡ word v p
 unfolding settled
 settled-other [] xs v p h = refl
 settled-other (n ∷ ns) [] v p h = refl
-settled-other (n ∷ ns) (Whole x ∷ xs) v p h = settled-other ns xs (set v n x) p (λ q. h (below q)) ∙ getD-set-other v n p x z (λ e. h (top e))
-settled-other (n ∷ ns) (Outside ∷ xs) v p h = settled-other ns xs v p (λ q. h (below q))
+settled-other (n ∷ ns) (Good x ∷ xs) v p h = settled-other ns xs (set v n (x .tenths)) p (λ q. h (below q)) ∙ getD-set-other v n p (x .tenths) z (λ e. h (top e))
+settled-other (n ∷ ns) (Refused ∷ xs) v p h = settled-other ns xs v p (λ q. h (below q))
 
-settled-at : (b : ℕ) (ns : List ℕ) (xs : List Rounded) (v : Words) (q : ℕ) (x : ℤ) → Rising b ns → q < length ns → q < length xs → getD xs q Outside ≡ Whole x
+settled-at : (b : ℕ) (ns : List ℕ) (xs : List CheckedVoltage) (v : Words) (q : ℕ) (x : ℤ) → Rising b ns → q < length ns → q < length xs → getD xs q Refused ≡ asVoltage x
     → getD ns q 0 < length v → word (settled ns xs v) (getD ns q 0) ≡ x
 unfolding settled
 settled-at b [] xs v q x r h l e s = absurd (omega arith)
 settled-at b (n ∷ ns) [] v q x r h l e s = absurd (omega arith)
-settled-at b (n ∷ ns) (Whole y ∷ xs) v zero x r h l e s =
-    let same : y ≡ x = cc in
-    settled-other ns xs (set v n y) n (λ i. omega (arith, rising-over n ns (r .1) i)) ∙ getD-set-same v n y z s ∙ same
-settled-at b (n ∷ ns) (Outside ∷ xs) v zero x r h l e s = let q : _≡_ {A = ℕ} 0 1 = cc in absurd (omega arith)
-settled-at b (n ∷ ns) (Whole y ∷ xs) v (suc q) x r h l e s = settled-at n ns xs (set v n y) q x (r .1) (omega arith) (omega arith) e (rw (length-set v n y) s)
-settled-at b (n ∷ ns) (Outside ∷ xs) v (suc q) x r h l e s = settled-at n ns xs v q x (r .1) (omega arith) (omega arith) e s
+settled-at b (n ∷ ns) (Good y ∷ xs) v zero x r h l e s =
+    settled-other ns xs (set v n (y .tenths)) n (λ i. omega (arith, rising-over n ns (r .1) i)) ∙ getD-set-same v n (y .tenths) z s ∙ tenths-of e
+settled-at b (n ∷ ns) (Refused ∷ xs) v zero x r h l e s = let q : _≡_ {A = ℕ} 0 1 = cc in absurd (omega arith)
+settled-at b (n ∷ ns) (Good y ∷ xs) v (suc q) x r h l e s = settled-at n ns xs (set v n (y .tenths)) q x (r .1) (omega arith) (omega arith) e (rw (length-set v n (y .tenths)) s)
+settled-at b (n ∷ ns) (Refused ∷ xs) v (suc q) x r h l e s = settled-at n ns xs v q x (r .1) (omega arith) (omega arith) e s
 
 -- no answer 15: each is a whole number
-in-range : (ns : List ℕ) (xs : List Rounded) (b : ℕ) → Rising b ns → outOfRange ns xs ≡ 0 → (q : ℕ) → q < length ns → q < length xs → (x : ℤ) × (getD xs q Outside ≡ Whole x)
+in-range : (ns : List ℕ) (xs : List CheckedVoltage) (b : ℕ) → Rising b ns → outOfRange ns xs ≡ 0 → (q : ℕ) → q < length ns → q < length xs → (x : ℤ) × (getD xs q Refused ≡ asVoltage x)
 unfolding outOfRange
 in-range [] xs b r e q h l = absurd (omega arith)
 in-range (n ∷ ns) [] b r e q h l = absurd (omega arith)
-in-range (n ∷ ns) (Whole x ∷ xs) b r e zero h l = (x, refl)
-in-range (n ∷ ns) (Whole x ∷ xs) b r e (suc q) h l = in-range ns xs n (r .1) e q (omega arith) (omega arith)
-in-range (n ∷ ns) (Outside ∷ xs) b r e q h l = absurd (omega (arith, r .0))
+in-range (n ∷ ns) (Good x ∷ xs) b r e zero h l = (x .tenths, refl)
+in-range (n ∷ ns) (Good x ∷ xs) b r e (suc q) h l = in-range ns xs n (r .1) e q (omega arith) (omega arith)
+in-range (n ∷ ns) (Refused ∷ xs) b r e q h l = absurd (omega (arith, r .0))
 
 -- ---- one that passes
 
@@ -92,10 +89,10 @@ module _ (N : Net) (s : NetSound N) (a k : ℕ) (bs : List Branch) where
   rounded-length = length-map (take (length (freeOf N a)) x) nearestOf ∙ length-take-le (length (freeOf N a)) x enough
 
   -- the free nodes' values are the doubles, rounded
-  pub rounded-at : (q : ℕ) → q < length (freeOf N a) → getD (rounded N a k bs) q Outside ≡ nearestOf (getD x q nan)
+  pub rounded-at : (q : ℕ) → q < length (freeOf N a) → getD (rounded N a k bs) q Refused ≡ nearestOf (getD x q nan)
   unfolding proposed
   rounded-at q h =
-      getD-map nearestOf (take (length (freeOf N a)) x) q nan Outside (rw (length-take-le (length (freeOf N a)) x enough) h)
+      getD-map nearestOf (take (length (freeOf N a)) x) q nan Refused (rw (length-take-le (length (freeOf N a)) x enough) h)
       ∙ ap nearestOf (getD-take (length (freeOf N a)) x q nan h)
 
   abbrev v : Words
@@ -118,17 +115,17 @@ module _ (N : Net) (s : NetSound N) (a k : ℕ) (bs : List Branch) where
       ∙ still-at N s a k p (omega (arith, n .high, s .nodeMost))
       ∙ rw (eq-eqb (areaOf N p) a (n .area)) (held-is N s k p i h e)
 
-  pub free-volt : (q : ℕ) (y : ℤ) → q < length (freeOf N a) → nearestOf (getD x q nan) ≡ Whole y → word v (getD (freeOf N a) q 0) ≡ y
+  pub free-volt : (q : ℕ) (y : ℤ) → q < length (freeOf N a) → nearestOf (getD x q nan) ≡ asVoltage y → word v (getD (freeOf N a) q 0) ≡ y
   free-volt q y h e =
       settled-at 0 (freeOf N a) (rounded N a k bs) (stillOf N a k) q y (free-rising N a) h (rw rounded-length h) (rounded-at q h ∙ e)
       (rw (still-length N s a k) (omega (arith, free-of N a (among-at (freeOf N a) q 0 h) .0 .high, s .nodeMost)))
 
   -- no answer 15: each free node's double is in range, and its voltage is the double rounded
-  pub free-whole : outOfRange (freeOf N a) (rounded N a k bs) ≡ 0 → (q : ℕ) → q < length (freeOf N a) → nearestOf (getD x q nan) ≡ Whole (word v (getD (freeOf N a) q 0))
+  pub free-whole : outOfRange (freeOf N a) (rounded N a k bs) ≡ 0 → (q : ℕ) → q < length (freeOf N a) → nearestOf (getD x q nan) ≡ asVoltage (word v (getD (freeOf N a) q 0))
   free-whole e q h =
       let p = in-range (freeOf N a) (rounded N a k bs) 0 (free-rising N a) e q h (rw rounded-length h) in
-      let w : nearestOf (getD x q nan) ≡ Whole (p .0) = sym (rounded-at q h) ∙ p .1 in
-      w ∙ ap Whole (sym (free-volt q (p .0) h w))
+      let w : nearestOf (getD x q nan) ≡ asVoltage (p .0) = sym (rounded-at q h) ∙ p .1 in
+      w ∙ ap asVoltage (sym (free-volt q (p .0) h w))
 
 -- ---- the first of some numbers, each over 0: none passes exactly where it is 0
 

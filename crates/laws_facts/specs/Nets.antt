@@ -33,7 +33,7 @@ pub record NetSound (N : Net) : Type 0 where
   pub rowMost : length (N .rows) ≤ Limits.rowEnd
   pub branchMost : count isBranch (N .rows) ≤ Limits.branchEnd
   pub sourceMost : count isSource (N .rows) ≤ Limits.sourceEnd
-  pub slotMost : slotCount N ≤ Limits.slotEnd
+  pub slotMost : slotCount N ≤ Limits.storeWords
   pub once : (i j n : ℕ) → i < length (N .rows) → j < length (N .rows) → fixes n (rowAt N i) ≡ true → fixes n (rowAt N j) ≡ true → i ≡ j
   pub areaLength : length (N .areas) ≡ suc (N .nodes)
   pub areaGround : areaOf N 0 ≡ 0

@@ -41,7 +41,7 @@ module _ (h : Row) (rows : List Row) (e : passes (h ∷ rows) ≡ true) where
   record Room (i : ℕ) : Type 0 where
     branch : (isBranch (rowAt i) && leb Limits.branchEnd (count isBranch (take i rows))) ≡ false
     source : (isSource (rowAt i) && leb Limits.sourceEnd (count isSource (take i rows))) ≡ false
-    slot : ltb Limits.slotEnd (sum (slots h) (take i rows) + slots h (rowAt i)) ≡ false
+    slot : ltb Limits.storeWords (sum (slots h) (take i rows) + slots h (rowAt i)) ≡ false
 
   room : (i : ℕ) → i < length rows → Room i
   unfolding fullFault
@@ -55,8 +55,8 @@ module _ (h : Row) (rows : List Row) (e : passes (h ∷ rows) ≡ true) where
   pub source-most : count isSource rows ≤ Limits.sourceEnd
   source-most = rw take-length at (count-room [] isSource Limits.sourceEnd rows (λ i k. room i k .source) (length rows) (omega arith))
 
-  pub slot-most : sum (slots h) rows ≤ Limits.slotEnd
-  slot-most = rw take-length at (sum-room [] (slots h) Limits.slotEnd rows (λ i k. room i k .slot) (length rows) (omega arith))
+  pub slot-most : sum (slots h) rows ≤ Limits.storeWords
+  slot-most = rw take-length at (sum-room [] (slots h) Limits.storeWords rows (λ i k. room i k .slot) (length rows) (omega arith))
 
   pub row-most : length rows ≤ Limits.rowEnd
   row-most =

@@ -3,7 +3,7 @@ use Rattle.whole.specs.Plain.{ℕ, zero, suc, _≤_, _<_, _≡_, refl, sym, ap,
 use Rattle.whole.specs.Plain.{List, leb, leb-true, leb-false, Words}
 use Rattle.paper.specs.declared.Advance.{Advance}
 use Rattle.paper.specs.declared.Advance.the-variants.{Took, Area, Done, Wait, Floating, Range, Unbalanced, History}
-use Rattle.paper.specs.declared.Rounded.{Rounded}
+use Rattle.paper.specs.Doubles.{CheckedVoltage}
 use Rattle.whole.specs.Folds.{and-left, and-right}
 use Rattle.paper.specs.Answers.{accepted}
 use Rattle.paper.specs.Rows.{steps, limit}
@@ -22,7 +22,7 @@ module _ (N : Net) (a k : ℕ) (bs : List Branch) where
   abbrev pub lone : ℕ
   lone = floating (fixed N) (N .nodes) (freeOf N a) (bothLegs bs)
 
-  abbrev pub rounded : List Rounded
+  abbrev pub rounded : List CheckedVoltage
   rounded = proposed (bothLegs bs) (freeOf N a) (stillOf N a k) (injected N k)
 
   abbrev pub outside : ℕ

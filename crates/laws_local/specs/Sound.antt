@@ -13,7 +13,7 @@ pub record Sound (N : Net) : Type 0 where
   pub rows : length (N .rows) ≤ Limits.rowEnd
   pub nodes : N .nodes ≤ Limits.nodeEnd
   pub areas : areaCount N ≤ Limits.nodeEnd
-  pub slots : slotCount N ≤ Limits.slotEnd
+  pub slots : slotCount N ≤ Limits.storeWords
   -- "No line ends on ground", and a travel time is a step at least
   pub from-area : (i : ℕ) → isLine (rowAt N i) ≡ true → 1 ≤ areaOf N (from (rowAt N i))
   pub to-area : (i : ℕ) → isLine (rowAt N i) ≡ true → 1 ≤ areaOf N (to (rowAt N i))

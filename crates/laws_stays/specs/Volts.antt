@@ -3,14 +3,12 @@
 use Rattle.whole.specs.Plain.{ℕ, _≤_, _≡_, refl, sym, Bool, true, false, cond, List, [], _∷_, map, ℤ, natAbs, length}
 use Rattle.whole.specs.Plain.{set, take, arith, Words, word}
 use lib.Ieee.{Float}
-use Rattle.paper.specs.declared.Rounded.{Rounded}
-use Rattle.paper.specs.declared.Rounded.the-variants.{Whole, Outside}
 use Rattle.whole.specs.Members.{Among, top, below, map-among}
 use Rattle.paper.specs.Limits as Limits
 use Rattle.paper.specs.Areas.{Net, freeOf}
 use Rattle.paper.specs.Sources.{injected}
 use Rattle.paper.specs.Legs.{Leg, Branch, bothLegs}
-use Rattle.paper.specs.Doubles.{inRange, wholeOf, nearestOf}
+use Rattle.paper.specs.Doubles.{CheckedVoltage, Good, Refused, inRange, wholeOf, asVoltage, tenths-of, nearestOf}
 use Rattle.paper.specs.Elimination.{voltages}
 use Rattle.paper.specs.Solve.{system, proposed, settled, stillOf}
 use Rattle.laws_facts.specs.Nets.{NetSound}
@@ -19,12 +17,12 @@ use Rattle.laws_volts.specs.Still.{still-end}
 use Rattle.laws_local.specs.Outcome.{rounded, voltsOf}
 
 -- a double that is rounded
-nearest-size : (x : Float) (v : ℤ) → nearestOf x ≡ Whole v → natAbs v ≤ Limits.voltageEnd
+nearest-size : (x : Float) (v : ℤ) → nearestOf x ≡ asVoltage v → natAbs v ≤ Limits.voltageEnd
 unfolding nearestOf
 nearest-size x v e = go (inRange x) refl e
   where
-    go : (b : Bool) → inRange x ≡ b → cond b (Whole (wholeOf x)) Outside ≡ Whole v → natAbs v ≤ Limits.voltageEnd
-    go true r e = let q : wholeOf x ≡ v = cc in rw q at (whole-most x r)
+    go : (b : Bool) → inRange x ≡ b → cond b (asVoltage (wholeOf x)) Refused ≡ asVoltage v → natAbs v ≤ Limits.voltageEnd
+    go true r e = rw (tenths-of e) at (whole-most x r)
     go false r e = let q : _≡_ {A = ℕ} 0 1 = cc in absurd (omega arith)
 
 -- ---- all voltages of a step
@@ -32,17 +30,17 @@ nearest-size x v e = go (inRange x) refl e
 abbrev pub AllVolts : Words → Type 0
 AllVolts v = (j : ℕ) → natAbs (word v j) ≤ Limits.voltageEnd
 
-settled-volts : (ns : List ℕ) (xs : List Rounded) (v : Words) → ((x : ℤ) → Among (Whole x) xs → natAbs x ≤ Limits.voltageEnd) → AllVolts v → AllVolts (settled ns xs v)
+settled-volts : (ns : List ℕ) (xs : List CheckedVoltage) (v : Words) → ((x : ℤ) → Among (asVoltage x) xs → natAbs x ≤ Limits.voltageEnd) → AllVolts v → AllVolts (settled ns xs v)
 unfolding settled
 settled-volts [] xs v h p = p
 settled-volts (n ∷ ns) [] v h p = p
-settled-volts (n ∷ ns) (Whole x ∷ xs) v h p = settled-volts ns xs (set v n x) (λ y q. h y (below q)) (λ j. set-end v n j Limits.voltageEnd x (h x (top refl)) (p j))
-settled-volts (n ∷ ns) (Outside ∷ xs) v h p = settled-volts ns xs v (λ y q. h y (below q)) p
+settled-volts (n ∷ ns) (Good x ∷ xs) v h p = settled-volts ns xs (set v n (x .tenths)) (λ y q. h y (below q)) (λ j. set-end v n j Limits.voltageEnd (x .tenths) (h (x .tenths) (top refl)) (p j))
+settled-volts (n ∷ ns) (Refused ∷ xs) v h p = settled-volts ns xs v (λ y q. h y (below q)) p
 
-mapped-volts : (xs : List Float) (x : ℤ) → Among (Whole x) (map nearestOf xs) → natAbs x ≤ Limits.voltageEnd
+mapped-volts : (xs : List Float) (x : ℤ) → Among (asVoltage x) (map nearestOf xs) → natAbs x ≤ Limits.voltageEnd
 mapped-volts xs x q = let c = map-among nearestOf xs q in nearest-size (c .source) x (sym (c .gives))
 
-proposed-volts : (legs : List Leg) (free : List ℕ) (still : Words) (inject : ℕ → ℤ) (x : ℤ) → Among (Whole x) (proposed legs free still inject) → natAbs x ≤ Limits.voltageEnd
+proposed-volts : (legs : List Leg) (free : List ℕ) (still : Words) (inject : ℕ → ℤ) (x : ℤ) → Among (asVoltage x) (proposed legs free still inject) → natAbs x ≤ Limits.voltageEnd
 unfolding proposed
 proposed-volts legs free still inject = mapped-volts (take (length free) (voltages (length free) (system legs free still inject)))
 

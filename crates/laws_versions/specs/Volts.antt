@@ -3,7 +3,7 @@
 use Rattle.whole.specs.Plain.{ℕ, zero, suc, _+_, _-_, _≤_, _<_, _≡_, refl, sym, ap, _∙_, _≢_, _⊎_, inl, inr, Bool, true}
 use Rattle.whole.specs.Plain.{false, _||_, true≢false, List, [], _∷_, List·Memᴰ·cases-cons, List·Memᴰ·not-nil, ℤ, _+ℤ_}
 use Rattle.whole.specs.Plain.{length, getD, eqb-true, eq-eqb, decLt, arith}
-use Rattle.paper.specs.declared.Rounded.the-variants.{Whole}
+use Rattle.paper.specs.Doubles.{tenths-of}
 use Rattle.whole.specs.Folds.{and-left, and-right, none-if}
 use Rattle.whole.specs.Members.{Among}
 use Rattle.whole.specs.Places.{place, place-none, place-least}
@@ -44,9 +44,7 @@ module _ (N : Net) (s : NetSound N) (a k : ℕ) (m n n′ : Memory) (S : Offered
   free-one : (p : ℕ) → NodeOf N a p → fixed N p ≡ false → voltage N n p ≡ voltage N n′ p
   free-one p h f =
       let q = among-place (freeOf N a) (of-free N a p h f) in
-      let e : Whole (voltage N n (getD (freeOf N a) (q .0) 0)) ≡ Whole (voltage N n′ (getD (freeOf N a) (q .0) 0)) = sym (S .free-node (q .0) (q .1)) ∙ S′ .free-node (q .0) (q .1) in
-      let same : voltage N n (getD (freeOf N a) (q .0) 0) ≡ voltage N n′ (getD (freeOf N a) (q .0) 0) = cc in
-      rw (q .2) at same
+      rw (q .2) at (tenths-of (sym (S .free-node (q .0) (q .1)) ∙ S′ .free-node (q .0) (q .1)))
 
   pub volt-one : (p : ℕ) → NodeOf N a p → voltage N n p ≡ voltage N n′ p
   volt-one p h = go (fixed N p) refl

@@ -3,8 +3,7 @@ use Rattle.whole.specs.Plain.{ℕ, Bool, true, false, cond, _&&_, List, leb, eq
 use Rattle.whole.specs.Plain.{every, upTo}
 use lib.Ieee.{Float}
 use Rattle.whole.specs.Rounding.{nearest}
-use Rattle.paper.specs.declared.Rounded.{Rounded}
-use Rattle.paper.specs.declared.Rounded.the-variants.{Whole, Outside}
+use Rattle.paper.specs.Doubles.{CheckedVoltage, Good, Refused}
 use Rattle.step_factors.specs.Factored.{factored, substituted}
 
 -- an answer, and what is written where it is yes
@@ -24,9 +23,9 @@ partOf a b = cond (ltZ (pos 0) b) (quotZ a b) (pos 0)
 abbrev pub out : {A : Type 0} → Bool → A → Out A
 out b a = record { yes = b; value = a }
 
-unfoldable pub rounded : ℤ → Rounded → Out ℤ
-rounded old (Whole v) = out true v
-rounded old Outside = out false old
+unfoldable pub rounded : ℤ → CheckedVoltage → Out ℤ
+rounded old (Good v) = out true (v .tenths)
+rounded old Refused = out false old
 
 -- the solution where n rows fit, from the factors of the matrix
 unfoldable pub solution : List (List Float) → List Float → ℕ → List Float → Out (List Float)

@@ -3,7 +3,10 @@ ghost use Rattle.whole.specs.Plain.{_≡_};
 ghost use Rattle.whole.specs.Loans.{was, is};
 ghost use Rattle.paper.specs.Doubles.{double, nearestOf};
 ghost use Rattle.num_c.specs.Outcomes.{wordsJudged, quotientOf, partOf, out, rounded, solution};
-use paper::Rounded;
+use num_quantity::CheckedVoltage;
+use paper::Node;
+use step_factors::ByFree;
+use step_factors::Matrix;
 
 #[no_mangle]
 pub extern "C" fn numbers_all_within(xs: &[i64], most: i64) -> bool
@@ -49,25 +52,21 @@ pub extern "C" fn numbers_nearest(x: f64, whole: &mut i64) -> bool
 {
     let r = num_double::nearest(x);
     match r {
-        Rounded::Whole(v) => {
+        CheckedVoltage::Good(good) => {
+            let v = good.tenths;
             *whole = v;
             true
         }
-        Rounded::Outside => false,
+        CheckedVoltage::Refused => false,
     }
 }
 
 // Whether n is at most 32; if so, x has the solution of the first n rows, and from its place n on the words of rights.
 #[no_mangle]
-pub extern "C" fn numbers_solve(
-    a: &[[f64; 32]; 32],
-    rights: &[f64; 32],
-    n: usize,
-    x: &mut [f64; 32],
-) -> bool
+pub extern "C" fn numbers_solve(a: &Matrix, rights: &ByFree, n: usize, x: &mut ByFree) -> bool
     ensures { λ r. ⌜ out r (is x) ≡ solution (was a) (was rights) n (was x) ⌝ }
 {
-    if 32 < n {
+    if (Node::MAX as usize) < n {
         return false;
     }
     let mut factors = *a;

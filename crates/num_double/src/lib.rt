@@ -5,8 +5,8 @@ ghost use Rattle.whole.specs.Rounding.{nearest};
 ghost use Rattle.paper.specs.Doubles.{double, inRange, wholeOf, nearestOf};
 ghost use Rattle.paper.specs.Limits.{voltageEnd};
 ghost use Rattle.num_double.specs.Halves.{UpTo};
-use paper::Rounded;
-use paper::Voltage;
+use num_quantity::CheckedVoltage;
+use num_quantity::Voltage;
 
 // "the double of q, times 2^32, plus the double of r": both casts and the product are exact, and the sum is rounded.
 pub fn to_double(x: i64) -> f64
@@ -34,15 +34,17 @@ fn to_whole(x: f64) -> i64
     }
 }
 
-// x to the nearest whole number, halves away from zero, where it is within the voltage range.
-pub fn nearest(x: f64) -> Rounded
+// A double as a voltage: x to the nearest whole number, halves away from zero, and refused where it is outside the voltage range.
+pub fn nearest(x: f64) -> CheckedVoltage
     ensures { λ r. ⌜ r ≡ nearestOf x ⌝ }
 {
     let most = Voltage::MAX as f64;
     if -most <= x {
         if x <= most {
-            return Rounded::Whole(to_whole(x));
+            return CheckedVoltage::Good(Voltage {
+                tenths: to_whole(x),
+            });
         }
     }
-    Rounded::Outside
+    CheckedVoltage::Refused
 }

@@ -1,13 +1,6 @@
-// "The limits belong to the quantity they limit and are named once": each quantity of document 01 with its unit and its ends, and the constructor that
-// refuses a number outside them.
-ghost use mathlib.Core.Path.{_≡_};
-ghost use Rattle.num_quantity.specs.Checked.{between, checked};
-
-fn within(low: i64, high: i64, x: i64) -> bool
-    ensures { λ r. ⌜ r ≡ between low high x ⌝ }
-{
-    low <= x && x <= high
-}
+// "The limits belong to the quantity they limit and are named once": each quantity of document 01 with its unit and its ends. What is worked out becomes a
+// quantity by a constructor that refuses a number outside them; a voltage, which is worked out in doubles, does so by `num_double::nearest`.
+ghost use Rattle.whole.specs.Plain.{_≡_, _&&_, cond, leb, between};
 
 // 0.1 V
 pub struct Voltage {
@@ -23,22 +16,11 @@ impl Voltage {
     pub const MAX: i64 = 20_000_000;
 
     pub const MIN: i64 = -Voltage::MAX;
-
-    pub fn new(x: i64) -> CheckedVoltage
-        ensures { λ r. do
-          ⌜ r ≡ checked (← ⟦Voltage::MIN⟧ .entry) (← ⟦Voltage::MAX⟧ .entry)
-              (λ y. CheckedVoltage.Good (record { tenths = y })) CheckedVoltage.Refused x ⌝ }
-    {
-        if within(Voltage::MIN, Voltage::MAX, x) {
-            return CheckedVoltage::Good(Voltage { tenths: x });
-        }
-        CheckedVoltage::Refused
-    }
 }
 
 // nS, of one branch
 pub struct Conductance {
-    pub nanos: i64,
+    pub nanos: u64,
 }
 
 pub enum CheckedConductance {
@@ -47,16 +29,16 @@ pub enum CheckedConductance {
 }
 
 impl Conductance {
-    pub const MAX: i64 = 1_000_000_000;
+    pub const MAX: u64 = 1_000_000_000;
 
-    pub const MIN: i64 = 1;
+    pub const MIN: u64 = 1;
 
-    pub fn new(x: i64) -> CheckedConductance
+    pub fn new(x: u64) -> CheckedConductance
         ensures { λ r. do
-          ⌜ r ≡ checked (← ⟦Conductance::MIN⟧ .entry) (← ⟦Conductance::MAX⟧ .entry)
-              (λ y. CheckedConductance.Good (record { nanos = y })) CheckedConductance.Refused x ⌝ }
+          ⌜ r ≡ cond (leb (← ⟦Conductance::MIN⟧ .entry) x && leb x (← ⟦Conductance::MAX⟧ .entry))
+              (CheckedConductance.Good (record { nanos = x })) CheckedConductance.Refused ⌝ }
     {
-        if within(Conductance::MIN, Conductance::MAX, x) {
+        if (Conductance::MIN <= x) & (x <= Conductance::MAX) {
             return CheckedConductance::Good(Conductance { nanos: x });
         }
         CheckedConductance::Refused
@@ -80,10 +62,10 @@ impl History {
 
     pub fn new(x: i64) -> CheckedHistory
         ensures { λ r. do
-          ⌜ r ≡ checked (← ⟦History::MIN⟧ .entry) (← ⟦History::MAX⟧ .entry)
-              (λ y. CheckedHistory.Good (record { value = y })) CheckedHistory.Refused x ⌝ }
+          ⌜ r ≡ cond (between (← ⟦History::MIN⟧ .entry) (← ⟦History::MAX⟧ .entry) x)
+              (CheckedHistory.Good (record { value = x })) CheckedHistory.Refused ⌝ }
     {
-        if within(History::MIN, History::MAX, x) {
+        if (History::MIN <= x) & (x <= History::MAX) {
             return CheckedHistory::Good(History { value: x });
         }
         CheckedHistory::Refused
@@ -91,163 +73,58 @@ impl History {
 }
 
 // 0.1 nA, of one branch end
-pub struct Current {
-    pub value: i64,
-}
-
-pub enum CheckedCurrent {
-    Good(Current),
-    Refused,
-}
+pub struct Current;
 
 impl Current {
     pub const MAX: i64 = 140_000_000_000_000_000;
 
     pub const MIN: i64 = -Current::MAX;
-
-    pub fn new(x: i64) -> CheckedCurrent
-        ensures { λ r. do
-          ⌜ r ≡ checked (← ⟦Current::MIN⟧ .entry) (← ⟦Current::MAX⟧ .entry)
-              (λ y. CheckedCurrent.Good (record { value = y })) CheckedCurrent.Refused x ⌝ }
-    {
-        if within(Current::MIN, Current::MAX, x) {
-            return CheckedCurrent::Good(Current { value: x });
-        }
-        CheckedCurrent::Refused
-    }
 }
 
 // 0.1 nA, into a node
-pub struct Injection {
-    pub value: i64,
-}
-
-pub enum CheckedInjection {
-    Good(Injection),
-    Refused,
-}
+pub struct Injection;
 
 impl Injection {
     pub const MAX: i64 = 2_000_000_000_000_000;
 
     pub const MIN: i64 = -Injection::MAX;
-
-    pub fn new(x: i64) -> CheckedInjection
-        ensures { λ r. do
-          ⌜ r ≡ checked (← ⟦Injection::MIN⟧ .entry) (← ⟦Injection::MAX⟧ .entry)
-              (λ y. CheckedInjection.Good (record { value = y })) CheckedInjection.Refused x ⌝ }
-    {
-        if within(Injection::MIN, Injection::MAX, x) {
-            return CheckedInjection::Good(Injection { value: x });
-        }
-        CheckedInjection::Refused
-    }
 }
 
 // 0 is ground
-pub struct Node {
-    pub number: i64,
-}
-
-pub enum CheckedNode {
-    Good(Node),
-    Refused,
-}
+pub struct Node;
 
 impl Node {
     pub const MAX: i64 = 32;
 
     pub const MIN: i64 = 0;
 
-    pub fn new(x: i64) -> CheckedNode
-        ensures { λ r. do
-          ⌜ r ≡ checked (← ⟦Node::MIN⟧ .entry) (← ⟦Node::MAX⟧ .entry)
-              (λ y. CheckedNode.Good (record { number = y })) CheckedNode.Refused x ⌝ }
-    {
-        if within(Node::MIN, Node::MAX, x) {
-            return CheckedNode::Good(Node { number: x });
-        }
-        CheckedNode::Refused
-    }
+    // how many words a table by node has, ground's among them
+    pub const PLACES: usize = Node::MAX as usize + 1;
 }
 
 // ns
-pub struct StepLength {
-    pub nanos: i64,
-}
-
-pub enum CheckedStepLength {
-    Good(StepLength),
-    Refused,
-}
+pub struct StepLength;
 
 impl StepLength {
     pub const MAX: i64 = 1_000_000;
 
     pub const MIN: i64 = 1;
-
-    pub fn new(x: i64) -> CheckedStepLength
-        ensures { λ r. do
-          ⌜ r ≡ checked (← ⟦StepLength::MIN⟧ .entry) (← ⟦StepLength::MAX⟧ .entry)
-              (λ y. CheckedStepLength.Good (record { nanos = y })) CheckedStepLength.Refused x ⌝ }
-    {
-        if within(StepLength::MIN, StepLength::MAX, x) {
-            return CheckedStepLength::Good(StepLength { nanos: x });
-        }
-        CheckedStepLength::Refused
-    }
 }
 
 // how many steps a study has
-pub struct Steps {
-    pub count: i64,
-}
-
-pub enum CheckedSteps {
-    Good(Steps),
-    Refused,
-}
+pub struct Steps;
 
 impl Steps {
     pub const MAX: i64 = 1_000_000;
 
     pub const MIN: i64 = 1;
-
-    pub fn new(x: i64) -> CheckedSteps
-        ensures { λ r. do
-          ⌜ r ≡ checked (← ⟦Steps::MIN⟧ .entry) (← ⟦Steps::MAX⟧ .entry)
-              (λ y. CheckedSteps.Good (record { count = y })) CheckedSteps.Refused x ⌝ }
-    {
-        if within(Steps::MIN, Steps::MAX, x) {
-            return CheckedSteps::Good(Steps { count: x });
-        }
-        CheckedSteps::Refused
-    }
 }
 
 // 0.1 nA, what the currents leaving a node may miss its injection by
-pub struct Balance {
-    pub most: i64,
-}
-
-pub enum CheckedBalance {
-    Good(Balance),
-    Refused,
-}
+pub struct Balance;
 
 impl Balance {
     pub const MAX: i64 = 1_000_000_000_000_000;
 
     pub const MIN: i64 = 0;
-
-    pub fn new(x: i64) -> CheckedBalance
-        ensures { λ r. do
-          ⌜ r ≡ checked (← ⟦Balance::MIN⟧ .entry) (← ⟦Balance::MAX⟧ .entry)
-              (λ y. CheckedBalance.Good (record { most = y })) CheckedBalance.Refused x ⌝ }
-    {
-        if within(Balance::MIN, Balance::MAX, x) {
-            return CheckedBalance::Good(Balance { most: x });
-        }
-        CheckedBalance::Refused
-    }
 }

@@ -57,7 +57,7 @@ unfoldable pub fullFault : Row → List Row → Row → Bool
 fullFault head before r =
     (isBranch r && leb Limits.branchEnd (count isBranch before))
     || (isSource r && leb Limits.sourceEnd (count isSource before))
-    || ltb Limits.slotEnd (sum (slots head) before + slots head r)
+    || ltb Limits.storeWords (sum (slots head) before + slots head r)
 
 -- "in it 1 to 6 in turn": the number of the first fault, or 0
 unfoldable pub lineFault : Row → List Row → Row → ℕ

@@ -6,8 +6,6 @@ use native.Mathlib.Numerals.{add-one}
 use Rattle.paper.specs.declared.Advance.{Advance}
 use Rattle.paper.specs.declared.Advance.the-variants.{Took, State, Area, Done, Wait, Floating, Range, Unbalanced, History}
 use Rattle.paper.specs.declared.Advance.the-variants as A
-use Rattle.paper.specs.declared.Rounded.{Rounded}
-use Rattle.paper.specs.declared.Rounded.the-variants.{Whole, Outside}
 use Rattle.whole.specs.Folds.{and-left, count-append, count-next, length-numbers, getD-map, getD-numbers}
 use Rattle.whole.specs.Members.{Among, top, below, keep-among, numbers-among, first-among}
 use Rattle.paper.specs.Rows.{Row, kinds, kind, branchKind, limit, isBranch, isLine, steps}
@@ -18,6 +16,7 @@ use Rattle.paper.specs.Records.{countOf, historyAt, wellFormed}
 use Rattle.paper.specs.Legs.{Leg, Branch, branch, otherEnd, Heard, heard, legsOf, legsBy, conducts, lineLegs, plainLegs, bothLegs, passedOn}
 use Rattle.paper.specs.Sources.{injected}
 use Rattle.paper.specs.Floating.{floating}
+use Rattle.paper.specs.Doubles.{CheckedVoltage, Good, Refused}
 use Rattle.paper.specs.Solve.{Step, stop, move, solve, settling, passing, solvedStep, rangeStep, balanceStep, historyStep, andFloating, andRange, andBalance, andHistory, settled, stillOf, outOfRange, unbalanced, beyond, firstBeyond}
 use Rattle.paper.specs.Advance.{Memory, Advanced, finish, takeStep, ready, orWait, waitsFor, firstLate, onNext, onNet, fits, advanceOf}
 use Rattle.paper.specs.Kept.{either}
@@ -53,12 +52,12 @@ unfolding freeOf
 free-in N a i = node-in N a (keep-among _ (nodesOf N a) i .among)
 
 -- the first of the free nodes out of range is one of them
-range-among : (ns : List ℕ) (xs : List Rounded) {n : ℕ} → outOfRange ns xs ≡ suc n → Among (suc n) ns
+range-among : (ns : List ℕ) (xs : List CheckedVoltage) {n : ℕ} → outOfRange ns xs ≡ suc n → Among (suc n) ns
 unfolding outOfRange
 range-among [] xs e = absurd (omega arith)
 range-among (m ∷ ns) [] e = absurd (omega arith)
-range-among (m ∷ ns) (Whole v ∷ xs) e = below (range-among ns xs e)
-range-among (m ∷ ns) (Outside ∷ xs) e = top (sym e)
+range-among (m ∷ ns) (Good v ∷ xs) e = below (range-among ns xs e)
+range-among (m ∷ ns) (Refused ∷ xs) e = top (sym e)
 
 -- ---- branches
 
@@ -198,7 +197,7 @@ module _ (N : Net) (a k : ℕ) (bs : List Branch) (rows : Rows-of N bs) where
       go zero e = rows
       go (suc n) e = free-in N a (first-among _ (freeOf N a) e .0)
 
-  range-in : (still : Words) (xs : List Rounded) → Stopped N (rangeStep N a k bs still xs)
+  range-in : (still : Words) (xs : List CheckedVoltage) → Stopped N (rangeStep N a k bs still xs)
   unfolding rangeStep Stopped
   range-in still xs = go (outOfRange (freeOf N a) xs) refl
     where

@@ -47,7 +47,7 @@ abbrev pub anInjecting : Class
 anInjecting = record { branch = false; source = true; fixing = false }
 
 abbrev pub node : Field
-node = record { names = true; low = z; high = pos Limits.nodeEnd }
+node = record { names = true; low = pos Limits.nodeLow; high = pos Limits.nodeEnd }
 
 abbrev pub number : ℕ → ℕ → Field
 number low high = record { names = false; low = pos low; high = pos high }
@@ -69,14 +69,14 @@ kindOf s c f = record { spelt = bytes s; class = c; fields = f }
 unfoldable pub kinds : List Kind
 unfolding bytes
 kinds =
-    kindOf "study" aHead (number 1 Limits.stepLengthEnd ∷ number 1 Limits.stepsEnd ∷ number 0 Limits.limitEnd ∷ [])
+    kindOf "study" aHead (number Limits.stepLengthLow Limits.stepLengthEnd ∷ number Limits.stepsLow Limits.stepsEnd ∷ number Limits.limitLow Limits.limitEnd ∷ [])
     ∷ kindOf "R" aBranch (node ∷ node ∷ ohmic ∷ [])
-    ∷ kindOf "L" aBranch (node ∷ node ∷ number 1 Limits.henryEnd ∷ [])
-    ∷ kindOf "C" aBranch (node ∷ node ∷ number 1 Limits.faradEnd ∷ [])
-    ∷ kindOf "LINE" aBranch (node ∷ node ∷ ohmic ∷ number 1 Limits.travelEnd ∷ [])
-    ∷ kindOf "SW" aBranch (node ∷ node ∷ ohmic ∷ number 1 Limits.openEnd ∷ number 1 Limits.openEnd ∷ [])
-    ∷ kindOf "VS" aFixing (node ∷ peakTo Limits.voltageEnd ∷ number 1 Limits.startEnd ∷ number 0 Limits.riseEnd ∷ [])
-    ∷ kindOf "IS" anInjecting (node ∷ peakTo Limits.injectionEnd ∷ number 1 Limits.startEnd ∷ number 0 Limits.riseEnd ∷ [])
+    ∷ kindOf "L" aBranch (node ∷ node ∷ number Limits.henryLow Limits.henryEnd ∷ [])
+    ∷ kindOf "C" aBranch (node ∷ node ∷ number Limits.faradLow Limits.faradEnd ∷ [])
+    ∷ kindOf "LINE" aBranch (node ∷ node ∷ ohmic ∷ number Limits.travelLow Limits.travelEnd ∷ [])
+    ∷ kindOf "SW" aBranch (node ∷ node ∷ ohmic ∷ number Limits.closeLow Limits.openEnd ∷ number Limits.closeLow Limits.openEnd ∷ [])
+    ∷ kindOf "VS" aFixing (node ∷ peakTo Limits.voltageEnd ∷ number Limits.startLow Limits.startEnd ∷ number Limits.riseLow Limits.riseEnd ∷ [])
+    ∷ kindOf "IS" anInjecting (node ∷ peakTo Limits.injectionEnd ∷ number Limits.startLow Limits.startEnd ∷ number Limits.riseLow Limits.riseEnd ∷ [])
     ∷ []
 
 -- the number of a word that is none of these

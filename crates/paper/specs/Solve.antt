@@ -3,8 +3,6 @@ use Rattle.whole.specs.Plain.{ℕ, zero, suc, Bool, false, cond, not, _&&_, Lis
 use Rattle.whole.specs.Plain.{_*ℤ_, set, length, replicate, take, Words, z, word, upTo, filled, first, fold, total}
 use lib.Ieee.{Float, fin}
 use Rattle.paper.specs.declared.Equation.{Equation}
-use Rattle.paper.specs.declared.Rounded.{Rounded}
-use Rattle.paper.specs.declared.Rounded.the-variants.{Whole, Outside}
 use Rattle.paper.specs.declared.Advance.{Advance}
 use Rattle.paper.specs.declared.Advance.the-variants.{Floating, Range, Unbalanced, History}
 use Rattle.paper.specs.Limits as Limits
@@ -14,7 +12,7 @@ use Rattle.paper.specs.Sources.{held, injected}
 use Rattle.paper.specs.Legs.{Leg, Branch, bothLegs, current, passedOn}
 use Rattle.paper.specs.Floating.{floating}
 use Rattle.paper.specs.Elimination.{System, sys, voltages}
-use Rattle.paper.specs.Doubles.{double, nearestOf}
+use Rattle.paper.specs.Doubles.{CheckedVoltage, Good, Refused, double, nearestOf}
 
 -- ---- the equations
 
@@ -54,24 +52,24 @@ system legs free still inject =
 -- ---- the voltages
 
 -- "Each x within the voltage range goes to the nearest whole number, halves away from zero"
-unfoldable pub proposed : List Leg → List ℕ → Words → (ℕ → ℤ) → List Rounded
+unfoldable pub proposed : List Leg → List ℕ → Words → (ℕ → ℤ) → List CheckedVoltage
 proposed legs free still inject = map nearestOf (take (length free) (voltages (length free) (system legs free still inject)))
 
 -- "one that isn't within it, not-a-number included, is RANGE": the lowest such node, or 0
-abbrev pub outOf : Rounded → ℕ → ℕ → ℕ
-outOf (Whole v) n rest = rest
-outOf Outside n rest = n
+abbrev pub outOf : CheckedVoltage → ℕ → ℕ → ℕ
+outOf (Good v) n rest = rest
+outOf Refused n rest = n
 
-unfoldable pub outOfRange : List ℕ → List Rounded → ℕ
+unfoldable pub outOfRange : List ℕ → List CheckedVoltage → ℕ
 outOfRange [] xs = 0
 outOfRange (n ∷ ns) [] = 0
 outOfRange (n ∷ ns) (x ∷ xs) = outOf x n (outOfRange ns xs)
 
-abbrev pub settle : Words → ℕ → Rounded → Words
-settle v n (Whole x) = set v n x
-settle v n Outside = v
+abbrev pub settle : Words → ℕ → CheckedVoltage → Words
+settle v n (Good x) = set v n (x .tenths)
+settle v n Refused = v
 
-unfoldable pub settled : List ℕ → List Rounded → Words → Words
+unfoldable pub settled : List ℕ → List CheckedVoltage → Words → Words
 settled [] xs v = v
 settled (n ∷ ns) [] v = v
 settled (n ∷ ns) (x ∷ xs) v = settled ns xs (settle v n x)
@@ -118,7 +116,7 @@ abbrev pub andRange : Step → ℕ → Step
 andRange next zero = next
 andRange next (suc n) = stop (Range (suc n))
 
-unfoldable pub rangeStep : Net → ℕ → ℕ → List Branch → Words → List Rounded → Step
+unfoldable pub rangeStep : Net → ℕ → ℕ → List Branch → Words → List CheckedVoltage → Step
 rangeStep N a k bs still xs = andRange (balanceStep N a k bs (settled (freeOf N a) xs still)) (outOfRange (freeOf N a) xs)
 
 unfoldable pub solvedStep : Net → ℕ → ℕ → List Branch → Words → Step

@@ -1,6 +1,6 @@
 // The ends of the study text's fields, how much of each thing there may be, and how long what is lent is. The definitions' numbers (specs/Limits)
 // are held to these constants once, by the functions at the end: that is all they promise.
-ghost use Rattle.whole.specs.Plain.{_≡_, pos};
+ghost use Rattle.whole.specs.Plain.{_+_, _≡_, pos, negℤ};
 ghost use Rattle.paper.specs.Limits as Limits;
 use num_quantity::Balance;
 use num_quantity::Conductance;
@@ -13,9 +13,7 @@ use num_quantity::Steps;
 use num_quantity::Voltage;
 
 // mΩ, of R, LINE and SW
-pub struct Ohms {
-    pub unit: u8,
-}
+pub struct Ohms;
 
 impl Ohms {
     pub const MIN: i64 = 1_000;
@@ -24,9 +22,7 @@ impl Ohms {
 }
 
 // nH
-pub struct Henries {
-    pub unit: u8,
-}
+pub struct Henries;
 
 impl Henries {
     pub const MIN: i64 = 1;
@@ -35,9 +31,7 @@ impl Henries {
 }
 
 // pF
-pub struct Farads {
-    pub unit: u8,
-}
+pub struct Farads;
 
 impl Farads {
     pub const MIN: i64 = 1;
@@ -46,9 +40,7 @@ impl Farads {
 }
 
 // ns, of a line
-pub struct Travel {
-    pub unit: u8,
-}
+pub struct Travel;
 
 impl Travel {
     pub const MIN: i64 = 1;
@@ -57,9 +49,7 @@ impl Travel {
 }
 
 // the step at which a switch closes or opens
-pub struct Switching {
-    pub unit: u8,
-}
+pub struct Switching;
 
 impl Switching {
     pub const MIN: i64 = 1;
@@ -68,9 +58,7 @@ impl Switching {
 }
 
 // the first step of a source
-pub struct Start {
-    pub unit: u8,
-}
+pub struct Start;
 
 impl Start {
     pub const MIN: i64 = 1;
@@ -79,9 +67,7 @@ impl Start {
 }
 
 // how many steps a source takes to its peak
-pub struct Rise {
-    pub unit: u8,
-}
+pub struct Rise;
 
 impl Rise {
     pub const MIN: i64 = 0;
@@ -89,20 +75,15 @@ impl Rise {
     pub const MAX: i64 = 1_000;
 }
 
-pub struct Room {
-    pub unit: u8,
-}
+// how many of each a study may have, and how many words or bytes of each are lent
+pub struct Room;
 
 impl Room {
     pub const BRANCHES: usize = 64;
 
     pub const SOURCES: usize = 16;
 
-    pub const ROWS: usize = 80;
-
-    pub const NODES: usize = 32;
-
-    pub const SLOTS: usize = 4_096;
+    pub const ROWS: usize = Room::BRANCHES + Room::SOURCES;
 
     pub const TEXT: usize = 65_536;
 
@@ -117,26 +98,41 @@ impl Room {
 }
 
 pub fn quantities_agree()
+    ensures { λ _. do ⌜ (← ⟦Voltage::MIN⟧ .entry) ≡ negℤ (pos Limits.voltageEnd) ⌝ }
     ensures { λ _. do ⌜ (← ⟦Voltage::MAX⟧ .entry) ≡ pos Limits.voltageEnd ⌝ }
-    ensures { λ _. do ⌜ (← ⟦Conductance::MIN⟧ .entry) ≡ pos Limits.conductanceLow ⌝ }
-    ensures { λ _. do ⌜ (← ⟦Conductance::MAX⟧ .entry) ≡ pos Limits.conductanceEnd ⌝ }
+    ensures { λ _. do ⌜ (← ⟦History::MIN⟧ .entry) ≡ negℤ (pos Limits.historyEnd) ⌝ }
     ensures { λ _. do ⌜ (← ⟦History::MAX⟧ .entry) ≡ pos Limits.historyEnd ⌝ }
+    ensures { λ _. do ⌜ (← ⟦Current::MIN⟧ .entry) ≡ negℤ (pos Limits.currentEnd) ⌝ }
     ensures { λ _. do ⌜ (← ⟦Current::MAX⟧ .entry) ≡ pos Limits.currentEnd ⌝ }
+    ensures { λ _. do ⌜ (← ⟦Injection::MIN⟧ .entry) ≡ negℤ (pos Limits.injectionEnd) ⌝ }
     ensures { λ _. do ⌜ (← ⟦Injection::MAX⟧ .entry) ≡ pos Limits.injectionEnd ⌝ }
+    ensures { λ _. do ⌜ (← ⟦Conductance::MIN⟧ .entry) ≡ Limits.conductanceLow ⌝ }
+    ensures { λ _. do ⌜ (← ⟦Conductance::MAX⟧ .entry) ≡ Limits.conductanceEnd ⌝ }
+    ensures { λ _. do ⌜ (← ⟦Node::MIN⟧ .entry) ≡ pos Limits.nodeLow ⌝ }
     ensures { λ _. do ⌜ (← ⟦Node::MAX⟧ .entry) ≡ pos Limits.nodeEnd ⌝ }
+    ensures { λ _. do ⌜ (← ⟦Node::PLACES⟧ .entry) ≡ Limits.nodeEnd + 1 ⌝ }
+    ensures { λ _. do ⌜ (← ⟦StepLength::MIN⟧ .entry) ≡ pos Limits.stepLengthLow ⌝ }
     ensures { λ _. do ⌜ (← ⟦StepLength::MAX⟧ .entry) ≡ pos Limits.stepLengthEnd ⌝ }
+    ensures { λ _. do ⌜ (← ⟦Steps::MIN⟧ .entry) ≡ pos Limits.stepsLow ⌝ }
     ensures { λ _. do ⌜ (← ⟦Steps::MAX⟧ .entry) ≡ pos Limits.stepsEnd ⌝ }
+    ensures { λ _. do ⌜ (← ⟦Balance::MIN⟧ .entry) ≡ pos Limits.limitLow ⌝ }
     ensures { λ _. do ⌜ (← ⟦Balance::MAX⟧ .entry) ≡ pos Limits.limitEnd ⌝ }
 {}
 
 pub fn fields_agree()
     ensures { λ _. do ⌜ (← ⟦Ohms::MIN⟧ .entry) ≡ pos Limits.ohmsLow ⌝ }
     ensures { λ _. do ⌜ (← ⟦Ohms::MAX⟧ .entry) ≡ pos Limits.ohmsEnd ⌝ }
+    ensures { λ _. do ⌜ (← ⟦Henries::MIN⟧ .entry) ≡ pos Limits.henryLow ⌝ }
     ensures { λ _. do ⌜ (← ⟦Henries::MAX⟧ .entry) ≡ pos Limits.henryEnd ⌝ }
+    ensures { λ _. do ⌜ (← ⟦Farads::MIN⟧ .entry) ≡ pos Limits.faradLow ⌝ }
     ensures { λ _. do ⌜ (← ⟦Farads::MAX⟧ .entry) ≡ pos Limits.faradEnd ⌝ }
+    ensures { λ _. do ⌜ (← ⟦Travel::MIN⟧ .entry) ≡ pos Limits.travelLow ⌝ }
     ensures { λ _. do ⌜ (← ⟦Travel::MAX⟧ .entry) ≡ pos Limits.travelEnd ⌝ }
+    ensures { λ _. do ⌜ (← ⟦Switching::MIN⟧ .entry) ≡ pos Limits.closeLow ⌝ }
     ensures { λ _. do ⌜ (← ⟦Switching::MAX⟧ .entry) ≡ pos Limits.openEnd ⌝ }
+    ensures { λ _. do ⌜ (← ⟦Start::MIN⟧ .entry) ≡ pos Limits.startLow ⌝ }
     ensures { λ _. do ⌜ (← ⟦Start::MAX⟧ .entry) ≡ pos Limits.startEnd ⌝ }
+    ensures { λ _. do ⌜ (← ⟦Rise::MIN⟧ .entry) ≡ pos Limits.riseLow ⌝ }
     ensures { λ _. do ⌜ (← ⟦Rise::MAX⟧ .entry) ≡ pos Limits.riseEnd ⌝ }
 {}
 
@@ -144,8 +140,6 @@ pub fn room_agrees()
     ensures { λ _. do ⌜ (← ⟦Room::BRANCHES⟧ .entry) ≡ Limits.branchEnd ⌝ }
     ensures { λ _. do ⌜ (← ⟦Room::SOURCES⟧ .entry) ≡ Limits.sourceEnd ⌝ }
     ensures { λ _. do ⌜ (← ⟦Room::ROWS⟧ .entry) ≡ Limits.rowEnd ⌝ }
-    ensures { λ _. do ⌜ (← ⟦Room::NODES⟧ .entry) ≡ Limits.nodeEnd ⌝ }
-    ensures { λ _. do ⌜ (← ⟦Room::SLOTS⟧ .entry) ≡ Limits.slotEnd ⌝ }
     ensures { λ _. do ⌜ (← ⟦Room::TEXT⟧ .entry) ≡ Limits.textEnd ⌝ }
     ensures { λ _. do ⌜ (← ⟦Room::NETWORK⟧ .entry) ≡ Limits.networkWords ⌝ }
     ensures { λ _. do ⌜ (← ⟦Room::RECORDS⟧ .entry) ≡ Limits.recordWords ⌝ }

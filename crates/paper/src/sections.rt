@@ -2,18 +2,20 @@
 // currents, the to-end currents and the histories. From END on no word is used.
 ghost use Rattle.whole.specs.Plain.{_≡_};
 ghost use Rattle.paper.specs.Records.{counts, voltages, currents, toCurrents, histories, sectionsEnd};
+use crate::limits::Room;
+use num_quantity::Node;
 
 pub const COUNTS: usize = 0;
 
-pub const VOLTS: usize = 32;
+pub const VOLTS: usize = COUNTS + Node::MAX as usize;
 
-pub const CURRENTS: usize = 64;
+pub const CURRENTS: usize = VOLTS + Node::MAX as usize;
 
-pub const TO_CURRENTS: usize = 144;
+pub const TO_CURRENTS: usize = CURRENTS + Room::ROWS;
 
-pub const HISTORIES: usize = 224;
+pub const HISTORIES: usize = TO_CURRENTS + Room::ROWS;
 
-pub const END: usize = 304;
+pub const END: usize = HISTORIES + Room::ROWS;
 
 fn sections_agree()
     ensures { λ _. do ⌜ (← ⟦COUNTS⟧ .entry) ≡ counts .start ⌝ }

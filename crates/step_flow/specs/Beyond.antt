@@ -1,7 +1,11 @@
 -- 17: what the legs pass on, against the end of a history, line by line; and as a search over the wires. Assumes nothing.
-use Rattle.whole.specs.Plain.{ℕ, suc, _+_, _≤_, _<_, _≡_, refl, Bool, true, false, cond, not, List, [], _∷_, map}
-use Rattle.whole.specs.Plain.{length, getD, drop, drop-of-length-le, drop-cons, arith, Words, upTo}
+use Rattle.whole.specs.Plain.{ℕ, suc, _+_, _-_, _≤_, _<_, _≡_, refl, Bool, true, false, cond, not, List, [], _∷_, map}
+use Rattle.whole.specs.Plain.{length, getD, drop, drop-of-length-le, drop-cons, arith, Words, upTo, between, ℤ, pos, negsuc, negℤ, leb, and-true, sym, _∙_}
 use native.Mathlib.Numerals.{add-one}
+use lib.Dec.{leb·suc-suc}
+use Rattle.num_quantity.specs.declared.History.{History}
+use Rattle.num_quantity.specs.declared.CheckedHistory.{CheckedHistory}
+use Rattle.num_quantity.specs.declared.CheckedHistory.the-variants.{Good, Refused}
 use Rattle.paper.specs.Limits as Limits
 use Rattle.paper.specs.Legs.{echo}
 use Rattle.step_legs.specs.declared.Wire.{Wire}
@@ -14,6 +18,28 @@ beyondLine l = not (upTo Limits.historyEnd (passedIn l))
 unfoldable pub firstRow : List Words → ℕ
 firstRow [] = 0
 firstRow (l ∷ legs) = let r = firstRow legs in cond (beyondLine l) (suc (wireIn l .row)) r
+
+-- ---- what the constructor of a history answers tells of the end
+
+between-ends : (m : ℕ) (x : ℤ) → between (negsuc m) (pos (suc m)) x ≡ upTo (suc m) x
+unfolding between upTo
+between-ends m (pos n) = refl
+between-ends m (negsuc n) = and-true (leb n m) ∙ sym (leb·suc-suc n m)
+
+module _ (x : ℤ) (r : CheckedHistory) (e : r ≡ cond (between (negℤ (pos Limits.historyEnd)) (pos Limits.historyEnd) x) (Good (record { value = x })) Refused) where
+  pub taken-near : (h : History) → r ≡ Good h → upTo Limits.historyEnd x ≡ true
+  taken-near h f = by-test (upTo Limits.historyEnd x) refl
+    where
+      by-test : (t : Bool) → upTo Limits.historyEnd x ≡ t → t ≡ true
+      by-test true g = refl
+      by-test false g = let d : r ≡ Refused = rw (between-ends (Limits.historyEnd - 1) x, g) at e in let k : _≡_ {A = ℕ} 0 1 = cc in absurd (omega arith)
+
+  pub refused-far : r ≡ Refused → upTo Limits.historyEnd x ≡ false
+  refused-far f = by-test (upTo Limits.historyEnd x) refl
+    where
+      by-test : (t : Bool) → upTo Limits.historyEnd x ≡ t → t ≡ false
+      by-test true g = let d : r ≡ Good (record { value = x }) = rw (between-ends (Limits.historyEnd - 1) x, g) at e in let k : _≡_ {A = ℕ} 0 1 = cc in absurd (omega arith)
+      by-test false g = refl
 
 -- ---- from line j on
 module _ (legs : List Words) (j : ℕ) (h : j < length legs) where

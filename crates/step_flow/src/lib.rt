@@ -10,7 +10,9 @@ ghost use Rattle.step_legs.specs.Free.{Free};
 ghost use Rattle.step_flow.specs.Flown.{Small, passedBy, foundOf, keeping, flown};
 ghost use Rattle.step_flow.specs.Past.{Near, firstPast};
 ghost use Rattle.step_flow.specs.Beyond.{firstRow};
-use paper::History;
+use num_quantity::CheckedHistory;
+use num_quantity::History;
+use paper::Node;
 use paper::kinds;
 use step_legs::Line;
 use step_legs::Wire;
@@ -36,7 +38,7 @@ struct Found {
 }
 
 // i = g·u + h and i + g·u, by one product
-fn carried(l: Wire, v: &[i64; 33]) -> Found
+fn carried(l: Wire, v: &[i64; Node::PLACES]) -> Found
     requires { ⌜ Carries l × Volts (now v) ⌝ }
     ensures { λ r. ⌜ r ≡ foundOf (was v) l ⌝ }
 {
@@ -58,12 +60,12 @@ fn keep(legs: &mut [Line], j: usize, f: Found)
 }
 
 // Each leg's current and what it passes on, into its line; by node, the currents that leave it.
-pub fn flow(legs: &mut [Line], v: &[i64; 33]) -> [i64; 33]
+pub fn flow(legs: &mut [Line], v: &[i64; Node::PLACES]) -> [i64; Node::PLACES]
     requires { ⌜ Sized (now legs) × Volts (now v) ⌝ }
     ensures { λ r. ⌜ Sums (current (was v)) (legsIn (was legs)) r ⌝ }
     ensures { λ _. ⌜ is legs ≡ map (flown (was v)) (was legs) ⌝ }
 {
-    let mut sums = [0; 33];
+    let mut sums = [0; Node::PLACES];
     let mut j = 0;
     while j < legs.len() {
         let l = step_legs::leg_at(legs, j);
@@ -77,7 +79,12 @@ pub fn flow(legs: &mut [Line], v: &[i64; 33]) -> [i64; 33]
 
 // "At each free node the exact whole-number sum of currents leaving, minus injection, has magnitude at most the limit.": the lowest at which it has
 // not, or 0.
-pub fn balance(sums: &[i64; 33], inject: &[i64; 33], free: &[usize], limit: i64) -> usize
+pub fn balance(
+    sums: &[i64; Node::PLACES],
+    inject: &[i64; Node::PLACES],
+    free: &[usize],
+    limit: i64,
+) -> usize
     requires { ⌜ Near (now sums) (now inject) × Free (now free) × T (nonNeg limit) ⌝ }
     ensures { λ r. ⌜ r ≡ firstPast (nat limit) (was sums) (was inject) (was free) ⌝ }
 {
@@ -101,10 +108,9 @@ pub fn first_beyond(legs: &[Line]) -> usize
     let mut j = 0;
     while j < legs.len() {
         let w = legs[j];
-        let ok = whole::within(w[8], History::MAX);
-        if !ok {
+        let CheckedHistory::Good(_) = History::new(w[8]) else {
             return w[2] as usize + 1;
-        }
+        };
         j += 1;
     }
     0

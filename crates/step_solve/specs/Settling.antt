@@ -4,36 +4,34 @@ use Rattle.whole.specs.Plain.{length, take, drop, length-set, length-map, drop-
 use Rattle.whole.specs.Plain.{length-take-le, arith, Words}
 use native.Mathlib.Numerals.{add-one}
 use lib.Ieee.{Float, nan}
-use Rattle.paper.specs.declared.Rounded.{Rounded}
-use Rattle.paper.specs.declared.Rounded.the-variants.{Whole, Outside}
 use Rattle.whole.specs.Folds.{getD-map}
 use Rattle.paper.specs.Limits as Limits
-use Rattle.paper.specs.Doubles.{inRange, wholeOf, nearestOf}
+use Rattle.paper.specs.Doubles.{CheckedVoltage, Refused, inRange, wholeOf, asVoltage, nearestOf}
 use Rattle.paper.specs.Solve.{outOf, outOfRange, settle, settled}
 use Rattle.laws_volts.specs.Range.{whole-most, set-end}
 use Rattle.step_legs.specs.Free.{Free}
 use Rattle.step_legs.specs.Shares.{Volts}
 
 -- 15 with its node, or the voltages
-pub record Solved (free : List ℕ) (xs : List Rounded) (still v : Words) (r : ℕ) : Type 0 where
+pub record Solved (free : List ℕ) (xs : List CheckedVoltage) (still v : Words) (r : ℕ) : Type 0 where
   pub answer : r ≡ outOfRange free xs
   pub volts : r ≡ 0 → v ≡ settled free xs still
 
-abbrev pub rounded : ℕ → List Float → List Rounded
+abbrev pub rounded : ℕ → List Float → List CheckedVoltage
 rounded n xs = map nearestOf (take n xs)
 
 -- what a rounding tells of the range
-pub in-range : (x : Float) (y : ℤ) → nearestOf x ≡ Whole y → inRange x ≡ true
+pub in-range : (x : Float) (y : ℤ) → nearestOf x ≡ asVoltage y → inRange x ≡ true
 unfolding nearestOf
 in-range x y e = elim (inRange x) as (λ t. inRange x ≡ t → inRange x ≡ true) [
   | true ↦ λ f. f
-  | false ↦ λ f. let d : _≡_ {A = Rounded} Outside (Whole y) = rw f at e in let k : _≡_ {A = ℕ} 0 1 = cc in absurd (omega arith)
+  | false ↦ λ f. let d : _≡_ {A = CheckedVoltage} Refused (asVoltage y) = rw f at e in let k : _≡_ {A = ℕ} 0 1 = cc in absurd (omega arith)
 ] refl
 
-pub out-of-range : (x : Float) → nearestOf x ≡ Outside → inRange x ≡ false
+pub out-of-range : (x : Float) → nearestOf x ≡ Refused → inRange x ≡ false
 unfolding nearestOf
 out-of-range x e = elim (inRange x) as (λ t. inRange x ≡ t → inRange x ≡ false) [
-  | true ↦ λ f. let d : _≡_ {A = Rounded} (Whole (wholeOf x)) Outside = rw f at e in let k : _≡_ {A = ℕ} 0 1 = cc in absurd (omega arith)
+  | true ↦ λ f. let d : _≡_ {A = CheckedVoltage} (asVoltage (wholeOf x)) Refused = rw f at e in let k : _≡_ {A = ℕ} 0 1 = cc in absurd (omega arith)
   | false ↦ λ f. f
 ] refl
 
@@ -43,14 +41,14 @@ pub record SettledTo (free : List ℕ) (xs : List Float) (still v : Words) (i : 
   pub volts : settled free (rounded (length free) xs) still ≡ settled (drop i free) (drop i (rounded (length free) xs)) v
 
 module _ {free : List ℕ} (f : Free free) (xs : List Float) (long : length free ≤ length xs) where
-  abbrev ys : List Rounded
+  abbrev ys : List CheckedVoltage
   ys = rounded (length free) xs
 
   rounded-more : (i : ℕ) → i < length free → drop i ys ≡ nearestOf (getD xs i nan) ∷ drop (i + 1) ys
   rounded-more i h =
       let k : i < length ys = omega (arith, length-map (take (length free) xs) nearestOf ∙ length-take-le (length free) xs long) in
       let m : i < length (take (length free) xs) = omega (arith, length-take-le (length free) xs long) in
-      drop-cons ys i Outside k ∙ rw (add-one i, getD-map nearestOf (take (length free) xs) i nan Outside m, getD-take (length free) xs i nan h)
+      drop-cons ys i Refused k ∙ rw (add-one i, getD-map nearestOf (take (length free) xs) i nan Refused m, getD-take (length free) xs i nan h)
 
   free-more : (i : ℕ) → i < length free → drop i free ≡ getD free i 0 ∷ drop (i + 1) free
   free-more i h = rw (add-one i, drop-cons free i 0)
@@ -61,24 +59,24 @@ module _ {free : List ℕ} (f : Free free) (xs : List Float) (long : length free
     unfolding outOfRange
     heads = rw (free-more i h, rounded-more i h)
 
-    near-in : inRange (getD xs i nan) ≡ true → nearestOf (getD xs i nan) ≡ Whole (wholeOf (getD xs i nan))
+    near-in : inRange (getD xs i nan) ≡ true → nearestOf (getD xs i nan) ≡ asVoltage (wholeOf (getD xs i nan))
     unfolding nearestOf
     near-in e = rw e
 
-    near-out : inRange (getD xs i nan) ≡ false → nearestOf (getD xs i nan) ≡ Outside
+    near-out : inRange (getD xs i nan) ≡ false → nearestOf (getD xs i nan) ≡ Refused
     unfolding nearestOf
     near-out e = rw e
 
     pub settled-more : {v′ : Words} → inRange (getD xs i nan) ≡ true → v′ ≡ settle v (getD free i 0) (nearestOf (getD xs i nan)) → SettledTo free xs still v′ (i + 1)
     unfolding settled
     settled-more e w = record {
-      answer = s .answer ∙ heads ∙ ap (λ (x : Rounded). outOf x (getD free i 0) (outOfRange (drop (i + 1) free) (drop (i + 1) ys))) (near-in e);
+      answer = s .answer ∙ heads ∙ ap (λ (x : CheckedVoltage). outOf x (getD free i 0) (outOfRange (drop (i + 1) free) (drop (i + 1) ys))) (near-in e);
       volts = s .volts ∙ (rw (free-more i h, rounded-more i h)) ∙ ap (settled (drop (i + 1) free) (drop (i + 1) ys)) (sym w);
     }
 
     pub settled-out : {v′ : Words} → inRange (getD xs i nan) ≡ false → Solved free ys still v′ (getD free i 0)
     settled-out e = record {
-      answer = sym (s .answer ∙ heads ∙ ap (λ (x : Rounded). outOf x (getD free i 0) (outOfRange (drop (i + 1) free) (drop (i + 1) ys))) (near-out e));
+      answer = sym (s .answer ∙ heads ∙ ap (λ (x : CheckedVoltage). outOf x (getD free i 0) (outOfRange (drop (i + 1) free) (drop (i + 1) ys))) (near-out e));
       volts = λ d. absurd (omega (arith, f .above i h));
     }
 
@@ -92,7 +90,7 @@ module _ {free : List ℕ} (f : Free free) (xs : List Float) (long : length free
 -- ---- the voltages are in the range
 settle-volts : (v : Words) (n : ℕ) (x : Float) → Volts v → Volts (settle v n (nearestOf x))
 unfolding nearestOf
-settle-volts v n x s = elim (inRange x) as (λ t. inRange x ≡ t → Volts (settle v n (cond t (Whole (wholeOf x)) Outside))) [
+settle-volts v n x s = elim (inRange x) as (λ t. inRange x ≡ t → Volts (settle v n (cond t (asVoltage (wholeOf x)) Refused))) [
   | true ↦ λ e. record { long = length-set v n (wholeOf x) ∙ s .long; end = λ k. set-end v n k Limits.voltageEnd (wholeOf x) (whole-most x e) (s .end k) }
   | false ↦ λ e. s
 ] refl

@@ -2,6 +2,7 @@
 // refusal 15 with the lowest node whose double is outside the range.
 ghost use Rattle.whole.specs.Plain.{_+_, _≤_, _<_, _≡_, map, length, word};
 ghost use Rattle.whole.specs.Loans.{was, is};
+ghost use Rattle.paper.specs.Limits as Limits;
 ghost use Rattle.paper.specs.Doubles.{inRange, nearestOf};
 ghost use Rattle.paper.specs.Solve.{settle, proposed};
 ghost use Rattle.step_legs.specs.Wires.{legsIn, Sized};
@@ -13,16 +14,18 @@ ghost use Rattle.step_factors.specs.Positions.{bare};
 ghost use Rattle.step_factors.specs.Proposed.{matrixOf};
 ghost use Rattle.step_solve.specs.Rights.{Near, Rights};
 ghost use Rattle.step_solve.specs.Settling.{Solved, rounded};
-use paper::Rounded;
+use num_quantity::CheckedVoltage;
+use paper::Node;
+use step_factors::ByFree;
 use step_factors::Matrix;
 use step_legs::Line;
 
 // by node, what its legs would draw with the node at 0
-fn draws(legs: &[Line], still: &[i64; 33]) -> [i64; 33]
+fn draws(legs: &[Line], still: &[i64; Node::PLACES]) -> [i64; Node::PLACES]
     requires { ⌜ Sized (now legs) × Volts (now still) ⌝ }
     ensures { λ r. ⌜ Sums (drawn (was still)) (legsIn (was legs)) r ⌝ }
 {
-    let mut sums = [0; 33];
+    let mut sums = [0; Node::PLACES];
     let mut j = 0;
     while j < legs.len() {
         let l = step_legs::leg_at(legs, j);
@@ -34,11 +37,11 @@ fn draws(legs: &[Line], still: &[i64; 33]) -> [i64; 33]
 }
 
 // "The right side is injection minus histories .. plus conductance times fixed neighbour voltages, summed in whole numbers"
-fn right_sides(free: &[usize], inject: &[i64; 33], drawn: &[i64; 33]) -> [f64; 32]
+fn right_sides(free: &[usize], inject: &[i64; Node::PLACES], drawn: &[i64; Node::PLACES]) -> ByFree
     requires { ⌜ Free (now free) × Near (now inject) (now drawn) ⌝ }
     ensures { λ r. ⌜ Rights (length (was free)) (was free) (was inject) (was drawn) r ⌝ }
 {
-    let mut b = [0.0; 32];
+    let mut b = [0.0; Node::MAX as usize];
     let mut i = 0;
     while i < free.len() {
         let p = free[i];
@@ -50,23 +53,24 @@ fn right_sides(free: &[usize], inject: &[i64; 33], drawn: &[i64; 33]) -> [f64; 3
 }
 
 // node p's voltage from its double, and whether it is within the range
-fn put(v: &mut [i64; 33], p: usize, x: f64) -> bool
-    requires { ⌜ p < 33 ⌝ }
+fn put(v: &mut [i64; Node::PLACES], p: usize, x: f64) -> bool
+    requires { ⌜ p < Limits.nodeEnd + 1 ⌝ }
     ensures { λ r. ⌜ r ≡ inRange x ⌝ }
     ensures { λ _. ⌜ is v ≡ settle (was v) p (nearestOf x) ⌝ }
 {
     let near = num_double::nearest(x);
     match near {
-        Rounded::Whole(y) => {
+        CheckedVoltage::Good(good) => {
+            let y = good.tenths;
             v[p] = y;
             true
         }
-        Rounded::Outside => false,
+        CheckedVoltage::Refused => false,
     }
 }
 
 // "Each x within the voltage range goes to the nearest whole number .. one that isn't within it, not-a-number included, is RANGE."
-fn put_all(xs: &[f64; 32], free: &[usize], v: &mut [i64; 33]) -> usize
+fn put_all(xs: &ByFree, free: &[usize], v: &mut [i64; Node::PLACES]) -> usize
     requires { ⌜ Free (now free) × (length (now free) ≤ length (now xs)) ⌝ }
     ensures { λ r. ⌜ Solved (was free) (rounded (length (was free)) (was xs)) (was v) (is v) r ⌝ }
 {
@@ -86,13 +90,13 @@ fn put_all(xs: &[f64; 32], free: &[usize], v: &mut [i64; 33]) -> usize
 pub fn solve(
     legs: &[Line],
     free: &[usize],
-    inject: &[i64; 33],
+    inject: &[i64; Node::PLACES],
     a: &Matrix,
     base: usize,
-    v: &mut [i64; 33],
+    v: &mut [i64; Node::PLACES],
 ) -> usize
     requires { ⌜ Sized (now legs) × Volts (now v) × InjectsWithin (now inject) × Free (now free) ⌝ }
-    requires { ⌜ base + length (now free) ≤ 32 ⌝ }
+    requires { ⌜ base + length (now free) ≤ Limits.nodeEnd ⌝ }
     requires { ⌜ Serves base (length (now free)) (matrixOf (map bare (legsIn (now legs))) (now free)) (now a) ⌝ }
     ensures { λ r. ⌜ Solved (was free) (proposed (legsIn (was legs)) (was free) (was v) (λ p. word (was inject) p))
         (was v) (is v) r ⌝ }

@@ -4,6 +4,11 @@ use Rattle.whole.specs.Plain.{true≢false, false≢true, List, [], _∷_, tail
 use Rattle.whole.specs.Plain.{nonNeg, length, ne-eqb, eqb-true, le-trans, div-le-self, arith, Words, word, nat, between}
 use Rattle.whole.specs.Plain.{count}
 use Rattle.whole.specs.Folds.{or-left}
+use Rattle.whole.specs.Truths.{or-false, or-true}
+use Rattle.num_quantity.specs.declared.Conductance.{Conductance}
+use Rattle.num_quantity.specs.declared.CheckedConductance.{CheckedConductance}
+use Rattle.num_quantity.specs.declared.CheckedConductance.the-variants.{Good, Refused}
+use Rattle.paper.specs.Limits as Limits
 use Rattle.paper.specs.Rows.{bytes, kinds, kind, fieldsOf, branchKind, sourceKind, isStudy, isBranch, stepLength, from, to, closes, opens, travel}
 use Rattle.paper.specs.Classes.{kind-count}
 use Rattle.paper.specs.Conductance.{conductance, ofOhms, ofHenries, ofFarads}
@@ -81,11 +86,27 @@ module _ (w : Words) (few : 6 ≤ length w) (known : kind w < 8) {k : ℕ} (e : 
       let n : isBranch w ≡ false = rw (← e) (sym p ∙ q) in
       rw (o, n, ne-eqb (kind w) 5 (λ (f : kind w ≡ 5). true≢false (sym (ap branchKind f) ∙ n)))
 
-  pub value-is : (step : ℕ) {br : Bool} {g shut opened size : ℕ} → outside false (fieldsOf (kind w)) (tail w) ≡ false → br ≡ branchKind k → br ≡ true
-      → size ≡ nat (word w 3) → g ≡ conductanceOf step k size → shut ≡ closes w → opened ≡ opens w
-      → ((eqb k 5 && leb opened shut) || not (leb 1 g && leb g 1000000000)) ≡ valueFault (headOf step) w
-  unfolding valueFault conductance ofOhms ofHenries ofFarads conductanceOf
-  value-is step o p q r s t u = let b : isBranch w ≡ true = rw (← e) (sym p ∙ q) in rw (o, b, s, r, t, u, e)
+  -- of a branch whose fields are in range, by what the constructor of its conductance answers
+  module _ (step : ℕ) {br : Bool} {g size : ℕ} {made : CheckedConductance} (o : outside false (fieldsOf (kind w)) (tail w) ≡ false) (p : br ≡ branchKind k) (q : br ≡ true)
+      (r : size ≡ nat (word w 3)) (s : g ≡ conductanceOf step k size)
+      (m : made ≡ cond (leb Limits.conductanceLow g && leb g Limits.conductanceEnd) (Good (record { nanos = g })) Refused) where
+    value-by : (t : Bool) → (leb Limits.conductanceLow g && leb g Limits.conductanceEnd) ≡ t → ((eqb k 5 && leb (opens w) (closes w)) || not t) ≡ valueFault (headOf step) w
+    unfolding valueFault conductance ofOhms ofHenries ofFarads conductanceOf
+    value-by t f = let b : isBranch w ≡ true = rw (← e) (sym p ∙ q) in rw (o, b, ← f, s, r, e)
+
+    pub value-refused : made ≡ Refused → true ≡ valueFault (headOf step) w
+    value-refused f = by-test (leb Limits.conductanceLow g && leb g Limits.conductanceEnd) refl
+      where
+        by-test : (t : Bool) → (leb Limits.conductanceLow g && leb g Limits.conductanceEnd) ≡ t → true ≡ valueFault (headOf step) w
+        by-test true h = let d : made ≡ Good (record { nanos = g }) = rw h at m in let n : _≡_ {A = ℕ} 0 1 = cc in absurd (omega arith)
+        by-test false h = sym (or-true (eqb k 5 && leb (opens w) (closes w))) ∙ value-by false h
+
+    pub value-taken : {shut opened : ℕ} {c : Conductance} → made ≡ Good c → shut ≡ closes w → opened ≡ opens w → (eqb k 5 && leb opened shut) ≡ valueFault (headOf step) w
+    value-taken {shut} {opened} f u v = by-test (leb Limits.conductanceLow g && leb g Limits.conductanceEnd) refl
+      where
+        by-test : (t : Bool) → (leb Limits.conductanceLow g && leb g Limits.conductanceEnd) ≡ t → (eqb k 5 && leb opened shut) ≡ valueFault (headOf step) w
+        by-test true h = rw (u, v) (sym (or-false (eqb k 5 && leb (opens w) (closes w))) ∙ value-by true h)
+        by-test false h = let d : made ≡ Refused = rw h at m in let n : _≡_ {A = ℕ} 0 1 = cc in absurd (omega arith)
 
   -- the size of a branch, for its conductance
   pub sized : (step : ℕ) {br : Bool} {size : ℕ} → 1 ≤ step → step ≤ 1000000 → outside false (fieldsOf (kind w)) (tail w) ≡ false → br ≡ branchKind k → br ≡ true

@@ -16,7 +16,7 @@ pub record Held (s : Seen) : Type 0 where
   pub short : s .step ≤ Limits.stepLengthEnd
   pub branches : s .branches ≤ Limits.branchEnd
   pub sources : s .sources ≤ Limits.sourceEnd
-  pub slots : s .slots ≤ Limits.slotEnd
+  pub slots : s .slots ≤ Limits.storeWords
 
 abbrev pub nothingSeen : Seen
 nothingSeen = record { step = 1; branches = 0; sources = 0; slots = 0; fixed = replicate 33 false }
@@ -40,7 +40,7 @@ unfoldable pub seenFull : Seen → Words → Bool
 seenFull s w =
     (isBranch w && leb Limits.branchEnd (s .branches))
     || (isSource w && leb Limits.sourceEnd (s .sources))
-    || ltb Limits.slotEnd (s .slots + slots (headOf (s .step)) w)
+    || ltb Limits.storeWords (s .slots + slots (headOf (s .step)) w)
 
 unfoldable pub seenFault : Seen → Words → ℕ
 seenFault s w =

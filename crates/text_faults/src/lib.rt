@@ -1,12 +1,15 @@
 // What may be wrong with a row whose spelling is right, after the rows before it: refusals 2 to 6. One function, for the reader's lines and for the rows of a
 // lent network record.
 ghost use Rattle.whole.specs.Plain.{_≤_, _<_, _+_, _*_, _≡_, false, true, cond, natAbs, getD, word};
+ghost use Rattle.paper.specs.Limits as Limits;
 ghost use Rattle.paper.specs.Rows.{kind, isStudy, stepLength};
 ghost use Rattle.paper.specs.Faults as Faults;
 ghost use Rattle.text_faults.specs.Seen.{headOf, Held, conductanceOf, seenDouble, seenFull, seenFault};
 ghost use Rattle.text_faults.specs.Seen.{fixedAfter};
 ghost use Rattle.text_faults.specs.Seen.{seenAfter, nothingSeen, Sized};
-use paper::Conductance;
+use num_quantity::CheckedConductance;
+use num_quantity::Conductance;
+use paper::Node;
 use paper::Room;
 
 // What the rows before tell: the study's step length, how many branches and sources there are, the line slots of one end, and the nodes with a VS.
@@ -15,7 +18,7 @@ pub struct Seen {
     pub branches: usize,
     pub sources: usize,
     pub slots: usize,
-    pub fixed: [bool; 33],
+    pub fixed: [bool; Node::PLACES],
 }
 
 // Before the study's row, whose faults go by no step length.
@@ -27,7 +30,7 @@ pub fn nothing_seen() -> Seen
         branches: 0,
         sources: 0,
         slots: 0,
-        fixed: [false; 33],
+        fixed: [false; Node::PLACES],
     }
 }
 
@@ -76,7 +79,7 @@ pub fn conductance(step: u64, kind: usize, size: u64) -> u64
 
 // 3 VALUE: "a field, or its conductance, out of range"; SW: "1 ≤ close < open"
 fn value_fault(step: u64, row: [i64; 8]) -> bool
-    requires { ⌜ (kind row < 8) × ((1 ≤ step) × (step ≤ 1000000)) ⌝ }
+    requires { ⌜ (kind row < 8) × ((Limits.stepLengthLow ≤ step) × (step ≤ Limits.stepLengthEnd)) ⌝ }
     ensures { λ r. ⌜ r ≡ Faults.valueFault (headOf step) row ⌝ }
 {
     let k = kind_of(row);
@@ -86,11 +89,12 @@ fn value_fault(step: u64, row: [i64; 8]) -> bool
     if !paper::kinds::is_branch(k) {
         return false;
     }
-    let g = conductance(step, k, field(row, 3));
+    let CheckedConductance::Good(_) = Conductance::new(conductance(step, k, field(row, 3))) else {
+        return true;
+    };
     let close = field(row, 4);
     let open = field(row, 5);
-    ((k == 5) & (open <= close))
-        | !((Conductance::MIN as u64 <= g) & (g <= Conductance::MAX as u64))
+    (k == 5) & (open <= close)
 }
 
 // 4 TRAVEL: "travel not a multiple of the step"
@@ -102,10 +106,10 @@ fn travel_fault(step: u64, row: [i64; 8]) -> bool
     (kind_of(row) == 4) & !(travel % step == 0)
 }
 
-fn fixed_at(fixed: [bool; 33], node: u64) -> bool
+fn fixed_at(fixed: [bool; Node::PLACES], node: u64) -> bool
     ensures { λ r. ⌜ r ≡ getD fixed node false ⌝ }
 {
-    if node < 33 {
+    if node < Node::PLACES as u64 {
         let n = node as usize;
         return fixed[n];
     }
@@ -140,7 +144,7 @@ fn full_fault(seen: Seen, row: [i64; 8]) -> bool
     let k = kind_of(row);
     (paper::kinds::is_branch(k) & (Room::BRANCHES <= seen.branches))
         | (paper::kinds::is_source(k) & (Room::SOURCES <= seen.sources))
-        | (Room::SLOTS < seen.slots + slots_of(seen.step, row))
+        | (Room::STORE < seen.slots + slots_of(seen.step, row))
 }
 
 // "in it 1 to 6 in turn": the number of a row's first fault, or 0.
@@ -186,14 +190,14 @@ fn step_after(step: u64, row: [i64; 8]) -> u64
 }
 
 // "A node with a VS is fixed"
-fn fixed_after(fixed: [bool; 33], row: [i64; 8]) -> [bool; 33]
+fn fixed_after(fixed: [bool; Node::PLACES], row: [i64; 8]) -> [bool; Node::PLACES]
     requires { ⌜ kind row < 8 ⌝ }
     ensures { λ r. ⌜ r ≡ fixedAfter fixed row ⌝ }
 {
     let mut next = fixed;
     let node = field(row, 1);
     if paper::kinds::is_fixing(kind_of(row)) {
-        if node < 33 {
+        if node < Node::PLACES as u64 {
             let n = node as usize;
             next[n] = true;
         }

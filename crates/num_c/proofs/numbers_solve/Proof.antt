@@ -17,4 +17,4 @@ returns-2 c =
     rw (c .substitute .ensures, f .factor .ensures, le-leb (t .before .args .n) 32 (t .if1 .left))
 
 pub numbers-solve-spec : {M : Type 1} → statement M
-numbers-solve-spec = tie.close (tie.spec returns (λ c κs. search needs) (λ c κs. search needs) returns-2)
+numbers-solve-spec = tie.close (tie.spec (λ c. search needs) returns (λ c κs. search needs) (λ c κs. search needs) returns-2)

@@ -1,9 +1,12 @@
 -- `step_flow::first_beyond` meets its contract. The invariant: the legs that are left lead to the answer. Assumes nothing.
-use Rattle.whole.specs.Plain.{_-_, _≤_, _≡_, refl, sym, ap, _∙_, not, [], getD, length, drop, arith, word}
+use Rattle.whole.specs.Plain.{_-_, _≤_, _≡_, refl, sym, ap, _∙_, true, false, cond, [], getD, length, drop, arith, pos, negℤ, Words, word, between}
 use borrow.Author.Needs.{needs}
 use Rattle.whole.specs.Int.{read64}
 use Rattle.whole.specs.Index.{index}
-use Rattle.step_flow.specs.Beyond.{beyondLine, firstRow, row-hit, row-pass, row-none}
+use Rattle.num_quantity.specs.declared.History.{History}
+use Rattle.num_quantity.specs.declared.CheckedHistory.the-variants.{Good, Refused}
+use Rattle.paper.specs.Limits.{historyEnd}
+use Rattle.step_flow.specs.Beyond.{taken-near, refused-far, beyondLine, firstRow, row-hit, row-pass, row-none}
 use Rattle.step_flow.proofs.first_beyond.Statement.{statement}
 use Rattle.step_flow.proofs.first_beyond.Tie as tie
 
@@ -14,31 +17,46 @@ abbrev μ-loop : tie.MeasureT-loop
 μ-loop legs j₀ j = length legs - j
 
 -- the test, of the line that the table has
-tested : (c : tie.After-within Inv-loop μ-loop) → let t = c .before .before .before .before in not (c .within .result) ≡ beyondLine (getD (t .before .args .legs .now) (t .loop .j) [])
-unfolding beyondLine
-tested c =
-    let t = c .before .before .before .before in
-    ap not (simp (read64 (word (getD (t .before .args .legs .now) (t .loop .j) []) 8) (c .before .within-arg .given)) at (c .within .ensures))
+module _ (c : tie.After-new Inv-loop μ-loop) where
+  abbrev line : Words
+  line = let t = c .before .before .before .before in getD (t .before .args .legs .now) (t .loop .j) []
+
+  made : c .new .result ≡ cond (between (negℤ (pos historyEnd)) (pos historyEnd) (word line 8)) (Good (record { value = word line 8 })) Refused
+  made = simp (read64 (word line 8) (c .before .new-arg .given)) at (c .new .ensures)
+
+  near : (h : History) → c .new .result ≡ Good h → beyondLine line ≡ false
+  unfolding beyondLine
+  near h f = rw (taken-near (word line 8) _ made h f)
+
+  far : c .new .result ≡ Refused → beyondLine line ≡ true
+  unfolding beyondLine
+  far f = rw (refused-far (word line 8) _ made f)
+
+enum-told : tie.Need-enum-told Inv-loop μ-loop
+enum-told c = search needs
+
+enum-told-2 : tie.Need-enum-told-2 Inv-loop μ-loop
+enum-told-2 c = search needs
 
 cast-result : tie.Need-cast-result Inv-loop μ-loop
 cast-result c =
-    let t = c .before .before .before .before .before .before in
+    let t = c .before .before .before .before .before .before .before in
     index _ _ (c .result .given) (t .before .pre .number (t .loop .j) 2 (omega arith) (omega arith))
 
 add-result : tie.Need-add-result Inv-loop μ-loop
 add-result c =
-    let t = c .before .before .before .before .before .before in
+    let t = c .before .before .before .before .before .before .before in
     rw (read64 _ (c .result .given)) (omega (arith, t .before .pre .wired (t .loop .j) (omega arith) .row-end))
 
 returns : tie.Need-returns Inv-loop μ-loop
 returns c =
-    let t = c .before .before .before .before .before .before in
-    rw (read64 _ (c .result .given)) (sym (row-hit (t .before .args .legs .now) (t .loop .j) (omega arith) (sym (tested (c .before .before)) ∙ c .before .if1 .taken)) ∙ t .loop .inv .1)
+    let t = c .before .before .before .before .before .before .before in
+    rw (read64 _ (c .result .given)) (sym (row-hit (t .before .args .legs .now) (t .loop .j) (omega arith) (far (c .before .before .before) (c .before .enum-told2 .given .1))) ∙ t .loop .inv .1)
 
 loop-again : tie.Need-loop-again Inv-loop μ-loop
 loop-again c =
-    let t = c .before .before .before .before .before in
-    (omega arith, row-pass (t .before .args .legs .now) (t .loop .j) (omega arith) (sym (tested (c .before)) ∙ c .if1 .left) ∙ t .loop .inv .1)
+    let t = c .before .before .before .before .before .before in
+    (omega arith, row-pass (t .before .args .legs .now) (t .loop .j) (omega arith) (near (c .before .before) _ (c .enum-told .given .1)) ∙ t .loop .inv .1)
 
 returns-2 : tie.Need-returns-2 Inv-loop μ-loop
 returns-2 c = let t = c .before in sym (row-none (t .before .args .legs .now) (t .loop .j) (omega arith)) ∙ t .loop .inv .1
@@ -53,7 +71,9 @@ first-beyond-spec =
     (λ c. omega arith)
     (λ c. omega arith)
     (λ c. search needs)
-    (λ c κs. tt)
+    (λ c κs. search needs)
+    enum-told
+    enum-told-2
     (λ c. search needs)
     cast-result
     add-result

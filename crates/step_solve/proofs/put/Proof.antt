@@ -1,9 +1,7 @@
 -- `step_solve::put` meets its contract. Assumes nothing.
 use Rattle.whole.specs.Plain.{sym, _∙_}
 use borrow.Author.Needs.{needs}
-use mir.Syntax.{w64}
-use mir.Val.{SFits}
-use mir.Facts.{toZ-ofZ}
+use Rattle.whole.specs.Int.{read64}
 use Rattle.step_solve.specs.Settling.{in-range, out-of-range}
 use Rattle.step_solve.proofs.put.Statement.{statement}
 use Rattle.step_solve.proofs.put.Tie as tie
@@ -25,10 +23,10 @@ enum-told c = search needs
 
 returns : tie.Need-returns
 returns c =
-    let s = c .before .before .before .before in
-    let e = sym (c .before .before .before .nearest .ensures) ∙ c .before .near .given .1 in
-    let f : SFits w64 (c .before .near .given .0 .0) = search needs in
-    (sym (in-range (s .args .x) (c .before .near .given .0 .0) e), rw (toZ-ofZ f, e))
+    let s = c .before .before .before .before .before in
+    let e = sym (c .before .before .before .before .nearest .ensures) ∙ c .before .before .near .given .1 in
+    let y = c .before .before .near .given .0 .0 .tenths in
+    (sym (in-range (s .args .x) y e), rw (read64 y (c .struct-told .given .0 .1), e))
 
 returns-2 : tie.Need-returns-2
 returns-2 c =

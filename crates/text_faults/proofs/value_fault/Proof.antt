@@ -1,6 +1,11 @@
 use borrow.Author.Needs.{needs}
-use Rattle.whole.specs.Plain.{_∙_, sym, not-true, not-false, arith}
-use Rattle.text_faults.specs.Laws.{fields-fit, values-are, value-out, value-none, value-is, sized}
+use Rattle.whole.specs.Plain.{ℕ, _≡_, _∙_, sym, true, false, _&&_, tail, leb, eqb, not-true, not-false, arith}
+use Rattle.num_quantity.specs.declared.Conductance.{Conductance}
+use Rattle.num_quantity.specs.declared.CheckedConductance.the-variants.{Good, Refused}
+use Rattle.paper.specs.Rows.{kind, fieldsOf, closes, opens}
+use Rattle.paper.specs.Faults.{outside, valueFault}
+use Rattle.text_faults.specs.Seen.{headOf}
+use Rattle.text_faults.specs.Laws.{fields-fit, values-are, value-out, value-none, value-refused, value-taken, sized}
 use Rattle.text_faults.proofs.value_fault.Statement.{statement}
 use Rattle.text_faults.proofs.value_fault.Tie as tie
 
@@ -50,28 +55,53 @@ conductance-requires c κs =
     (sym (values-are (s .args .row) (omega arith) (s .pre .0) (f .before .before .kind-of .ensures) (f .before .names .ensures) (f .fields .ensures) (o .outside .ensures)) ∙ i .before .if1 .left)
     (i .is-branch .ensures) (not-false _ (c .before .if2 .left)) (c .field .ensures)
 
+new-requires : tie.Need-new-requires
+new-requires c κs = search needs
+
+enum-told : tie.Need-enum-told
+enum-told c = search needs
+
+enum-told-2 : tie.Need-enum-told-2
+enum-told-2 c = search needs
+
+-- a branch, whose conductance the constructor has judged
+module _ (c : tie.After-new) where
+  abbrev i : tie.After-is-branch
+  i = c .before .before .before .before
+
+  abbrev f : tie.After-fields
+  f = i .before .before .before
+
+  abbrev s : tie.Start
+  s = f .before .before .before
+
+  in-range : outside false (fieldsOf (kind (s .args .row))) (tail (s .args .row)) ≡ false
+  in-range =
+      sym (values-are (s .args .row) (omega arith) (s .pre .0) (f .before .before .kind-of .ensures) (f .before .names .ensures) (f .fields .ensures) (i .before .before .outside .ensures))
+      ∙ i .before .if1 .left
+
+  refused : c .new .result ≡ Refused → true ≡ valueFault (headOf (s .args .step)) (s .args .row)
+  refused =
+      value-refused (s .args .row) (omega arith) (s .pre .0) (f .before .before .kind-of .ensures) (s .args .step) in-range (i .is-branch .ensures) (not-false _ (c .before .before .before .if2 .left))
+      (c .before .before .field .ensures) (c .before .conductance .ensures) (c .new .ensures)
+
+  taken : {shut opened : ℕ} {g : Conductance} → c .new .result ≡ Good g → shut ≡ closes (s .args .row) → opened ≡ opens (s .args .row)
+      → (eqb (f .before .before .kind-of .result) 5 && leb opened shut) ≡ valueFault (headOf (s .args .step)) (s .args .row)
+  taken =
+      value-taken (s .args .row) (omega arith) (s .pre .0) (f .before .before .kind-of .ensures) (s .args .step) in-range (i .is-branch .ensures) (not-false _ (c .before .before .before .if2 .left))
+      (c .before .before .field .ensures) (c .before .conductance .ensures) (c .new .ensures)
+
+returns-3 : tie.Need-returns-3
+returns-3 c = refused (c .before .before) (c .enum-told2 .given .1)
+
 field-requires-2 : tie.Need-field-requires-2
 field-requires-2 c κs = search needs
 
 field-requires-3 : tie.Need-field-requires-3
 field-requires-3 c κs = search needs
 
-cast-result : tie.Need-cast-result
-cast-result c = search needs
-
-cast-result-2 : tie.Need-cast-result-2
-cast-result-2 c = search needs
-
-returns-3 : tie.Need-returns-3
-returns-3 c =
-    let g : tie.After-conductance = c .before .before in
-    let i : tie.After-is-branch = g .before .before .before in
-    let o : tie.After-outside = i .before .before in
-    let f : tie.After-fields = o .before in
-    let s : tie.Start = f .before .before .before in
-    value-is (s .args .row) (omega arith) (s .pre .0) (f .before .before .kind-of .ensures) (s .args .step)
-    (sym (values-are (s .args .row) (omega arith) (s .pre .0) (f .before .before .kind-of .ensures) (f .before .names .ensures) (f .fields .ensures) (o .outside .ensures)) ∙ i .before .if1 .left)
-    (i .is-branch .ensures) (not-false _ (g .before .before .if2 .left)) (g .before .field .ensures) (g .conductance .ensures) (c .before .field2 .ensures) (c .field3 .ensures)
+returns-4 : tie.Need-returns-4
+returns-4 c = taken (c .before .before .before .before) (c .before .before .enum-told .given .1) (c .before .field2 .ensures) (c .field3 .ensures)
 
 pub value-fault-spec : {M : Type 1} → statement M
-value-fault-spec = tie.close (tie.spec kind-of-requires names-requires fields-requires outside-requires returns is-branch-requires returns-2 field-requires conductance-requires field-requires-2 field-requires-3 cast-result cast-result-2 returns-3)
+value-fault-spec = tie.close (tie.spec kind-of-requires names-requires fields-requires outside-requires returns is-branch-requires returns-2 field-requires conductance-requires new-requires enum-told enum-told-2 returns-3 field-requires-2 field-requires-3 returns-4)
