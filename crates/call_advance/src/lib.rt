@@ -12,6 +12,8 @@ ghost use Rattle.call_state.specs.Judged.{Long};
 ghost use Rattle.step_area.specs.Stepping.{Stepping};
 ghost use Rattle.call_advance.specs.Given.{Seen, turnAt};
 use paper::Advance;
+use paper::Node;
+use paper::Room;
 use plan_rows::Table;
 use plan_rows::Totals;
 use step_area::Turn;
@@ -20,7 +22,7 @@ use step_area::Turn;
 fn alone(
     net: &[i64],
     plan: &Table,
-    areas: &[usize; 33],
+    areas: &[usize; Node::PLACES],
     totals: Totals,
     records: &mut [i64],
     froms: &mut [i64],
@@ -34,9 +36,9 @@ fn alone(
 {
     let fixed = plan_lay::fixed_nodes(net, totals.rows);
     let at = plan_own::nothing();
-    let mut legs = [[0; 9]; 160];
-    let mut nodes = [0; 32];
-    let mut sources = [[0; 5]; 16];
+    let mut legs = [[0; 9]; 2 * Room::ROWS];
+    let mut nodes = [0; Node::MAX as usize];
+    let mut sources = [[0; 5]; Room::SOURCES];
     let own = plan_own::lay_area(
         net,
         plan,
@@ -49,9 +51,9 @@ fn alone(
         &mut nodes,
         &mut sources,
     );
-    let mut owns = [[0; 8]; 33];
+    let mut owns = [[0; 8]; Node::PLACES];
     plan_own::put_own(&mut owns, turn.area, own);
-    let mut factors = [[0.0; 32]; 32];
+    let mut factors = [[0.0; Node::MAX as usize]; Node::MAX as usize];
     step_area::ready(
         plan,
         &mut owns,
@@ -70,7 +72,7 @@ fn alone(
 fn next(
     net: &[i64],
     plan: &Table,
-    areas: &[usize; 33],
+    areas: &[usize; Node::PLACES],
     totals: Totals,
     records: &mut [i64],
     froms: &mut [i64],
@@ -112,8 +114,8 @@ fn on_network(
     requires { ⌜ (isNetwork (now net) ≡ true) × Long (now records) (now froms) (now tos) ⌝ }
     ensures { λ r. ⌜ advanced r (after records froms tos) ≡ onNet (netIn (was net)) area (before records froms tos) ⌝ }
 {
-    let mut areas = [0; 33];
-    let mut plan = [[0; 12]; 80];
+    let mut areas = [0; Node::PLACES];
+    let mut plan = [[0; 12]; Room::ROWS];
     let totals = plan_rows::make(net, &mut areas, &mut plan);
     if !call_state::well_formed(&plan, totals, records, froms, tos) {
         return Advance::State;

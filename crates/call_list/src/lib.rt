@@ -15,6 +15,7 @@ ghost use Rattle.list_round.specs.Round.{InStep};
 ghost use Rattle.list_pieces.specs.Sofar.{Gives};
 use list_pieces::Piece;
 use paper::Listing;
+use paper::Node;
 use paper::Room;
 use plan_rows::Table;
 use plan_rows::Totals;
@@ -36,7 +37,7 @@ fn in_step(plan: &Table, totals: Totals, records: &[i64], froms: &[i64], tos: &[
 fn onward(
     net: &[i64],
     plan: &Table,
-    area: &[usize; 33],
+    area: &[usize; Node::PLACES],
     totals: Totals,
     records: &mut [i64],
     froms: &mut [i64],
@@ -50,10 +51,10 @@ fn onward(
         (r .answer) (r .count) (is out) (after records froms tos) ⌝ }
 {
     let fixed = plan_lay::fixed_nodes(net, totals.rows);
-    let mut legs = [[0; 9]; 160];
-    let mut nodes = [0; 32];
-    let mut sources = [[0; 5]; 16];
-    let mut owns = [[0; 8]; 33];
+    let mut legs = [[0; 9]; 2 * Room::ROWS];
+    let mut nodes = [0; Node::MAX as usize];
+    let mut sources = [[0; 5]; Room::SOURCES];
+    let mut owns = [[0; 8]; Node::PLACES];
     plan_own::lay_all(
         net,
         plan,
@@ -92,8 +93,8 @@ fn on_network(
     ensures { λ r. ⌜ Gives (onLevel (was net) (netIn (was net)) (before records froms tos) (length (was out))) (was out)
         (r .answer) (r .count) (is out) (after records froms tos) ⌝ }
 {
-    let mut area = [0; 33];
-    let mut plan = [[0; 12]; 80];
+    let mut area = [0; Node::PLACES];
+    let mut plan = [[0; 12]; Room::ROWS];
     let totals = plan_rows::make(net, &mut area, &mut plan);
     if !in_step(&plan, totals, records, froms, tos) {
         return Piece {

@@ -1,6 +1,7 @@
 // 8 NETWORK: "lent network record not one the reader could write". The rows are replayed through the one function of faults that the reader goes by.
 ghost use Rattle.whole.specs.Plain.{_≤_, _<_, _≡_, true, length};
 ghost use Rattle.whole.specs.Loans.{was};
+ghost use Rattle.paper.specs.Limits as Limits;
 ghost use Rattle.paper.specs.Rows.{kind};
 ghost use Rattle.paper.specs.Network.{isNetwork};
 ghost use Rattle.text_faults.specs.Seen.{Held};
@@ -12,7 +13,7 @@ use text_faults::Seen;
 
 // the eight words of row i
 fn row_at(net: &[i64], i: usize) -> [i64; 8]
-    requires { ⌜ (length (now net) ≡ 1024) × (i < 80) ⌝ }
+    requires { ⌜ (length (now net) ≡ Limits.networkWords) × (i < Limits.rowEnd) ⌝ }
     ensures { λ r. ⌜ r ≡ wordsOf (was net) i ⌝ }
 {
     let b = 8 + 8 * i;
@@ -29,7 +30,7 @@ fn row_at(net: &[i64], i: usize) -> [i64; 8]
 }
 
 fn study_row(net: &[i64]) -> [i64; 8]
-    requires { ⌜ length (now net) ≡ 1024 ⌝ }
+    requires { ⌜ length (now net) ≡ Limits.networkWords ⌝ }
     ensures { λ r. ⌜ r ≡ studyWords (was net) ⌝ }
 {
     [0, net[0], net[1], net[2], 0, 0, 0, 0]
@@ -69,7 +70,7 @@ fn good(seen: Seen, row: [i64; 8]) -> bool
 
 // the words that no row has
 fn blank(net: &[i64], rows: usize) -> bool
-    requires { ⌜ (length (now net) ≡ 1024) × (rows ≤ 80) ⌝ }
+    requires { ⌜ (length (now net) ≡ Limits.networkWords) × (rows ≤ Limits.rowEnd) ⌝ }
     ensures { λ r. ⌜ r ≡ Judged.blank (was net) rows ⌝ }
 {
     let end = 8 + 8 * rows;
@@ -112,7 +113,7 @@ fn table_passes(net: &[i64], rows: usize) -> bool
 }
 
 pub fn is_network(net: &[i64]) -> bool
-    requires { ⌜ length (now net) ≡ 1024 ⌝ }
+    requires { ⌜ length (now net) ≡ Limits.networkWords ⌝ }
     ensures { λ r. ⌜ r ≡ isNetwork (was net) ⌝ }
 {
     let count = net[3];

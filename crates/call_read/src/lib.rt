@@ -41,7 +41,7 @@ pub fn read(text: &[u8], network: &mut [i64]) -> Reading
     if Room::TEXT < text.len() {
         return Reading::Size;
     }
-    let mut rows = [0i64; 1024];
+    let mut rows = [0i64; Room::NETWORK];
     let p = text_study::read_study(text, &mut rows);
     if p.fault != 0 {
         return faulty(p.line, p.fault);

@@ -8,6 +8,7 @@ use libc::STDIN_FILENO;
 use libc::STDOUT_FILENO;
 use paper::Listing;
 use paper::Reading;
+use paper::Room;
 use paper::Steps;
 
 // The next piece of the listing, written at once; whether there is more to list and the output takes it.
@@ -46,9 +47,9 @@ fn list_all(
 
 // From rest: records and line stores all zero.
 fn run(network: &[i64]) {
-    let mut records = [0; 512];
-    let mut froms = [0; 4096];
-    let mut tos = [0; 4096];
+    let mut records = [0; Room::RECORDS];
+    let mut froms = [0; Room::STORE];
+    let mut tos = [0; Room::STORE];
     let mut out = io::large_buffer();
     list_all(network, &mut records, &mut froms, &mut tos, &mut out);
 }
@@ -73,9 +74,9 @@ fn refuse(answer: Reading) {
 
 // One byte more is read than a text may have: that is enough to refuse a longer one.
 fn main() {
-    let mut text = [0; 65537];
+    let mut text = [0; Room::TEXT + 1];
     let length = io::read_full(STDIN_FILENO, &mut text);
-    let mut network = [0; 1024];
+    let mut network = [0; Room::NETWORK];
     let answer = emt::read(&text[..length], &mut network);
     let Reading::Read = answer else {
         refuse(answer);

@@ -7,6 +7,7 @@ ghost use Rattle.list_pieces.specs.Begun.{stepOf, Beginning, Pieces};
 use list_round::Round;
 use list_round::Step;
 use paper::Listing;
+use paper::Node;
 use paper::Room;
 use plan_own::Owns;
 use plan_rows::Table;
@@ -57,7 +58,7 @@ pub fn steps_on(
         (was out) (r .answer) (r .count) (is out) (after records froms tos) ⌝ }
 {
     let pairs = list_digits::pairs();
-    let mut factors = [[0.0; 32]; 32];
+    let mut factors = [[0.0; Node::MAX as usize]; Node::MAX as usize];
     let mut at = 0;
     let mut k = call_counts::steps_taken(records, totals.areas, totals.steps);
     while k < totals.steps {

@@ -60,7 +60,8 @@ fn put_current(
     at: usize,
 ) -> usize
     requires { ⌜ (now pairs ≡ allPairs) × Headed head × (head .letter ≡ 105) ⌝ }
-    requires { ⌜ (i < 80) × (rowIn (now plan) i .number < 10 ^ 2) × (length (now records) ≡ Limits.recordWords) ⌝ }
+    requires { ⌜ (i < Limits.rowEnd) × (rowIn (now plan) i .number < 10 ^ 2)
+        × (length (now records) ≡ Limits.recordWords) ⌝ }
     requires { ⌜ at + length (currentLineBy (now plan) (now records) (head .step) i) ≤ length (now out) ⌝ }
     ensures { λ r. ⌜ Puts (was out) at (currentLineBy (was plan) (was records) (head .step) i) r (is out) ⌝ }
 {

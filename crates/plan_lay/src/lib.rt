@@ -11,6 +11,7 @@ ghost use Rattle.plan_lay.specs.Ends.{farIn, frameIn, legsBy};
 ghost use Rattle.plan_lay.specs.Flags.{flagRow, Flagged};
 ghost use Rattle.plan_lay.specs.Nodes.{nodeBy, nodesBy};
 ghost use Rattle.plan_lay.specs.Sources.{sourceBy, lineBy, sourcesBy};
+use paper::Node;
 use paper::kinds;
 use plan_rows::Row;
 use plan_rows::Table;
@@ -23,7 +24,7 @@ pub type SourceLine = [i64; 5];
 
 // One end of row i, 1 the from end and 2 the to end, in line m where it is the area's; the line to fill next.
 fn lay_end(r: Row, i: usize, end: usize, a: usize, m: usize, legs: &mut [Line]) -> usize
-    requires { ⌜ Noded r × ((i < 80) × (1 ≤ end) × (end ≤ 2)) ⌝ }
+    requires { ⌜ Noded r × ((i < Limits.rowEnd) × (1 ≤ end) × (end ≤ 2)) ⌝ }
     requires { ⌜ (eqb (ownerIn r end) a ≡ true → m < length (now legs)) ⌝ }
     ensures { λ t. ⌜ Put (eqb (ownerIn r end) a) (frameIn r i end) m (was legs) t (is legs) ⌝ }
 {
@@ -60,7 +61,7 @@ fn far_node(r: Row, end: usize) -> usize
 
 // The area's legs from line m on, in table order; where they end.
 pub fn lay_legs(plan: &Table, rows: usize, a: usize, m: usize, legs: &mut [Line]) -> usize
-    requires { ⌜ (rows ≤ 80) × ((i : ℕ) → i < rows → Noded (rowIn (now plan) i)) ⌝ }
+    requires { ⌜ (rows ≤ Limits.rowEnd) × ((i : ℕ) → i < rows → Noded (rowIn (now plan) i)) ⌝ }
     requires { ⌜ m + length (legsBy (now plan) a rows) ≤ length (now legs) ⌝ }
     ensures { λ t. ⌜ Grown (was legs) m (legsBy (was plan) a rows) t (is legs) ⌝ }
 {
@@ -78,7 +79,7 @@ pub fn lay_legs(plan: &Table, rows: usize, a: usize, m: usize, legs: &mut [Line]
 // ---- nodes
 
 // row i's flag: "A node with a VS is fixed"
-fn flag_row(net: &[i64], i: usize, flags: &mut [bool; 33])
+fn flag_row(net: &[i64], i: usize, flags: &mut [bool; Node::PLACES])
     requires { ⌜ (isNetwork (now net) ≡ true) × (i < length (netIn (now net) .rows)) ⌝ }
     ensures { λ _. ⌜ is flags ≡ flagRow (netIn (was net)) i (was flags) ⌝ }
 {
@@ -89,11 +90,11 @@ fn flag_row(net: &[i64], i: usize, flags: &mut [bool; 33])
 }
 
 // The fixed nodes, as flags by node.
-pub fn fixed_nodes(net: &[i64], rows: usize) -> [bool; 33]
+pub fn fixed_nodes(net: &[i64], rows: usize) -> [bool; Node::PLACES]
     requires { ⌜ (isNetwork (now net) ≡ true) × (rows ≡ length (netIn (now net) .rows)) ⌝ }
     ensures { λ r. ⌜ Flagged (netIn (was net)) r ⌝ }
 {
-    let mut flags = [false; 33];
+    let mut flags = [false; Node::PLACES];
     let mut i = 0;
     while i < rows {
         flag_row(net, i, &mut flags);
@@ -104,8 +105,8 @@ pub fn fixed_nodes(net: &[i64], rows: usize) -> [bool; 33]
 
 // Node n at place m, where it is the area's and fixed or not as asked; the place to fill next.
 fn lay_node(
-    area: &[usize; 33],
-    fixed: &[bool; 33],
+    area: &[usize; Node::PLACES],
+    fixed: &[bool; Node::PLACES],
     held: bool,
     a: usize,
     n: usize,
@@ -128,8 +129,8 @@ fn lay_node(
 
 // The area's fixed nodes, or its free ones, from place m on, "in rising order"; where they end.
 pub fn lay_nodes(
-    area: &[usize; 33],
-    fixed: &[bool; 33],
+    area: &[usize; Node::PLACES],
+    fixed: &[bool; Node::PLACES],
     held: bool,
     count: usize,
     a: usize,
@@ -154,7 +155,7 @@ pub fn lay_nodes(
 // Row i in line m, where it is a source of the area's; the line to fill next.
 fn lay_source(
     net: &[i64],
-    area: &[usize; 33],
+    area: &[usize; Node::PLACES],
     a: usize,
     i: usize,
     m: usize,
@@ -186,7 +187,7 @@ fn lay_source(
 // The area's sources from line m on, in table order; where they end.
 pub fn lay_sources(
     net: &[i64],
-    area: &[usize; 33],
+    area: &[usize; Node::PLACES],
     rows: usize,
     a: usize,
     m: usize,

@@ -1,10 +1,12 @@
 // What is an area's own, in tables that all areas share, area after area: its legs, its nodes, the free ones first, and its sources; and where each
 // area's own stands.
-ghost use Rattle.whole.specs.Plain.{_≤_, _<_, _≡_, length, set};
+ghost use Rattle.whole.specs.Plain.{_+_, _≤_, _<_, _≡_, length, set};
 ghost use Rattle.whole.specs.Loans.{was, is};
+ghost use Rattle.paper.specs.Limits as Limits;
 ghost use Rattle.laws_facts.specs.Nets.{netIn};
 ghost use Rattle.plan_own.specs.Owns.{wordsOf, ownIn, nothing, untilPut, Given, Tables, Room, Ours, Behind, Laid};
 ghost use Rattle.plan_own.specs.Owns.{Unprepared};
+use paper::Node;
 use plan_lay::SourceLine;
 use plan_rows::Table;
 use plan_rows::Totals;
@@ -23,12 +25,12 @@ pub struct Own {
 }
 
 // a line for each area, its words in the same order
-pub type Owns = [[usize; 8]; 33];
+pub type Owns = [[usize; 8]; Node::PLACES];
 
 // ---- the table of areas
 
 pub fn own_at(owns: &Owns, a: usize) -> Own
-    requires { ⌜ a < 33 ⌝ }
+    requires { ⌜ a < Limits.nodeEnd + 1 ⌝ }
     ensures { λ o. ⌜ o ≡ ownIn (was owns) a ⌝ }
 {
     let w = owns[a];
@@ -45,7 +47,7 @@ pub fn own_at(owns: &Owns, a: usize) -> Own
 }
 
 pub fn put_own(owns: &mut Owns, a: usize, o: Own)
-    requires { ⌜ a < 33 ⌝ }
+    requires { ⌜ a < Limits.nodeEnd + 1 ⌝ }
     ensures { λ _. ⌜ is owns ≡ set (was owns) a (wordsOf o) ⌝ }
 {
     let line = [
@@ -62,7 +64,7 @@ pub fn put_own(owns: &mut Owns, a: usize, o: Own)
 }
 
 pub fn put_until(owns: &mut Owns, a: usize, until: usize)
-    requires { ⌜ a < 33 ⌝ }
+    requires { ⌜ a < Limits.nodeEnd + 1 ⌝ }
     ensures { λ _. ⌜ is owns ≡ untilPut (was owns) a until ⌝ }
 {
     let w = owns[a];
@@ -92,8 +94,8 @@ pub fn nothing() -> Own
 pub fn lay_area(
     net: &[i64],
     plan: &Table,
-    area: &[usize; 33],
-    fixed: &[bool; 33],
+    area: &[usize; Node::PLACES],
+    fixed: &[bool; Node::PLACES],
     totals: Totals,
     a: usize,
     at: Own,
@@ -126,8 +128,8 @@ pub fn lay_area(
 pub fn lay_all(
     net: &[i64],
     plan: &Table,
-    area: &[usize; 33],
-    fixed: &[bool; 33],
+    area: &[usize; Node::PLACES],
+    fixed: &[bool; Node::PLACES],
     totals: Totals,
     legs: &mut [Line],
     nodes: &mut [usize],
@@ -135,7 +137,7 @@ pub fn lay_all(
     owns: &mut Owns,
 )
     requires { ⌜ Given (now net) (now plan) (now area) (now fixed) totals ⌝ }
-    requires { ⌜ Tables (now legs) (now nodes) (now sources) × (length (now owns) ≡ 33) ⌝ }
+    requires { ⌜ Tables (now legs) (now nodes) (now sources) × (length (now owns) ≡ Limits.nodeEnd + 1) ⌝ }
     ensures { λ _. ⌜ Laid (netIn (was net)) (is owns) (is legs) (is nodes) (is sources) ⌝ }
     ensures { λ _. ⌜ Unprepared (netIn (was net)) (is owns) ⌝ }
 {

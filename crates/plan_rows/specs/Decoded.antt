@@ -70,7 +70,7 @@ module _ {N : Net} (s : NetSound N) (i : ℕ) (h : i < length (N .rows)) where
       let p = row .branch b in
       record { long = s .study .stepIn .least; short = s .study .stepIn .most; some = p .sizeIn .least; most = p .sizeIn .most; farads = p .farads }
 
-  pub slots-end : offset N i + slots (N .head) (rowAt N i) ≤ Limits.slotEnd
+  pub slots-end : offset N i + slots (N .head) (rowAt N i) ≤ Limits.storeWords
   slots-end = omega (arith, slots-within N i h, s .slotMost)
 
   -- whose its two ends are

@@ -12,6 +12,8 @@ ghost use Rattle.plan_record.specs.Mapped.{Mapped};
 ghost use Rattle.plan_rows.specs.Planned.{Planned, totalsOf, rowIn, rowOf, wordsOf, ownerIn, nodeIn};
 ghost use Rattle.plan_rows.specs.Planned.{conductanceAt, toAt};
 ghost use Rattle.plan_rows.specs.ByKind.{slotsBy, ownerBy};
+use paper::Node;
+use paper::Room;
 use paper::kinds;
 
 // What a step needs of a row: its kind and its nodes, a source's other node being 0; its conductance; a line's delay, how many slots it has in each
@@ -32,10 +34,10 @@ pub struct Row {
 }
 
 // a line for each row, its words in the same order
-pub type Table = [[usize; 12]; 80];
+pub type Table = [[usize; 12]; Room::ROWS];
 
 pub fn row_at(plan: &Table, i: usize) -> Row
-    requires { ⌜ i < 80 ⌝ }
+    requires { ⌜ i < Limits.rowEnd ⌝ }
     ensures { λ r. ⌜ r ≡ rowIn (was plan) i ⌝ }
 {
     let w = plan[i];
@@ -56,7 +58,7 @@ pub fn row_at(plan: &Table, i: usize) -> Row
 }
 
 fn put_row(plan: &mut Table, i: usize, r: Row)
-    requires { ⌜ i < 80 ⌝ }
+    requires { ⌜ i < Limits.rowEnd ⌝ }
     ensures { λ _. ⌜ is plan ≡ set (was plan) i (wordsOf r) ⌝ }
 {
     let line = [
@@ -181,14 +183,14 @@ fn conductance_at(net: &[i64], i: usize, kind: usize, step: usize) -> usize
 
 // "Each line end keeps its last 2d sent values"
 fn slots_of(kind: usize, delay: usize) -> usize
-    requires { ⌜ slotsBy kind delay ≤ Limits.slotEnd ⌝ }
+    requires { ⌜ slotsBy kind delay ≤ Limits.storeWords ⌝ }
     ensures { λ n. ⌜ n ≡ slotsBy kind delay ⌝ }
 {
     if kind == kinds::LINE { 2 * delay } else { 0 }
 }
 
 // The area at an end with node near: a line's ends are each their own node's; an R, L, C or SW is in its higher node's, ground being in none.
-fn area_at(area: &[usize; 33], kind: usize, near: usize, far: usize) -> usize
+fn area_at(area: &[usize; Node::PLACES], kind: usize, near: usize, far: usize) -> usize
     requires { ⌜ (near ≤ Limits.nodeEnd) × (far ≤ Limits.nodeEnd) ⌝ }
     ensures { λ r. ⌜ r ≡ ownerBy (was area) kind near far ⌝ }
 {
@@ -216,7 +218,7 @@ fn number_of(kind: usize, before: usize) -> usize
 // Row i, with its slots behind those of the rows before it; "LINE of d = travel / step"
 fn planned(
     net: &[i64],
-    area: &[usize; 33],
+    area: &[usize; Node::PLACES],
     step: usize,
     i: usize,
     place: usize,
@@ -251,8 +253,15 @@ fn planned(
 // ---- all rows
 
 // All rows, and how many slots there are: "slots stand in table order"
-fn fill(net: &[i64], rows: usize, step: usize, area: &[usize; 33], plan: &mut Table) -> usize
-    requires { ⌜ (isNetwork (now net) ≡ true) × (rows ≡ length (netIn (now net) .rows)) × (length (now plan) ≡ 80) ⌝ }
+fn fill(
+    net: &[i64],
+    rows: usize,
+    step: usize,
+    area: &[usize; Node::PLACES],
+    plan: &mut Table,
+) -> usize
+    requires { ⌜ (isNetwork (now net) ≡ true) × (rows ≡ length (netIn (now net) .rows))
+        × (length (now plan) ≡ Limits.rowEnd) ⌝ }
     requires { ⌜ Mapped (netIn (now net)) (now area) × (step ≡ Areas.step (netIn (now net))) ⌝ }
     ensures { λ r. ⌜ Planned (netIn (was net)) (is plan) × (r ≡ slotCount (netIn (was net))) ⌝ }
 {
@@ -270,9 +279,9 @@ fn fill(net: &[i64], rows: usize, step: usize, area: &[usize; 33], plan: &mut Ta
 }
 
 // All of it, into lent arrays.
-pub fn make(net: &[i64], area: &mut [usize; 33], plan: &mut Table) -> Totals
+pub fn make(net: &[i64], area: &mut [usize; Node::PLACES], plan: &mut Table) -> Totals
     requires { ⌜ isNetwork (now net) ≡ true ⌝ }
-    requires { ⌜ (length (now area) ≡ 33) × (length (now plan) ≡ 80) ⌝ }
+    requires { ⌜ (length (now area) ≡ Limits.nodeEnd + 1) × (length (now plan) ≡ Limits.rowEnd) ⌝ }
     ensures { λ _. ⌜ Planned (netIn (was net)) (is plan) × Mapped (netIn (was net)) (is area) ⌝ }
     ensures { λ r. ⌜ r ≡ totalsOf (netIn (was net)) ⌝ }
 {

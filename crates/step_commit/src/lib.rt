@@ -6,6 +6,7 @@ ghost use Rattle.paper.specs.Limits as Limits;
 ghost use Rattle.step_legs.specs.Wires.{Wires};
 ghost use Rattle.step_commit.specs.Records.{voltsPut, legPut, linePut, recordsPut, Nodes, Recordable};
 ghost use Rattle.step_commit.specs.Stores.{fromEnd, toEnd, sentPut, sentBy, Slotted, Sendable};
+use paper::Node;
 use paper::kinds;
 use paper::sections;
 use plan_rows::Table;
@@ -20,7 +21,7 @@ const PASSED: usize = 8;
 // ---- the records
 
 // The voltages of the area's nodes.
-fn put_volts(nodes: &[usize], v: &[i64; 33], records: &mut [i64])
+fn put_volts(nodes: &[usize], v: &[i64; Node::PLACES], records: &mut [i64])
     requires { ⌜ Nodes (now nodes) × (length (now records) ≡ Limits.recordWords) ⌝ }
     ensures { λ _. ⌜ is records ≡ voltsPut (was v) (was nodes) (was records) ⌝ }
 {
@@ -66,7 +67,7 @@ fn put_legs(legs: &[Line], records: &mut [i64])
 fn put_records(
     legs: &[Line],
     nodes: &[usize],
-    v: &[i64; 33],
+    v: &[i64; Node::PLACES],
     records: &mut [i64],
     area: usize,
     k: usize,
@@ -136,7 +137,7 @@ pub fn commit(
     plan: &Table,
     legs: &[Line],
     nodes: &[usize],
-    v: &[i64; 33],
+    v: &[i64; Node::PLACES],
     records: &mut [i64],
     froms: &mut [i64],
     tos: &mut [i64],

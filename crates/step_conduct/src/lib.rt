@@ -5,13 +5,14 @@ ghost use Rattle.paper.specs.Limits as Limits;
 ghost use Rattle.plan_rows.specs.Planned.{rowIn};
 ghost use Rattle.step_conduct.specs.Conducted.{openOf, conductsOf, Sooner, Stays, Rated, RatedLine, conducted};
 ghost use Rattle.step_conduct.specs.Conducted.{Conducted};
+use paper::Switching;
 use paper::kinds;
 use plan_rows::Row;
 use plan_rows::Table;
 use step_legs::Line;
 
 // past the last step of any study, and past the last change of any switch
-const NEVER: usize = 1_000_002;
+const NEVER: usize = Switching::MAX as usize + 1;
 
 // "Closed at steps close to open - 1."
 fn is_open(r: Row, k: usize) -> bool

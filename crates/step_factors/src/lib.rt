@@ -3,16 +3,21 @@
 // operations in the stated order. All areas share one table: an area's n lines stand there from `base` on.
 ghost use Rattle.whole.specs.Plain.{_+_, _<_, _≤_, _≡_};
 ghost use Rattle.whole.specs.Loans.{was, is};
+ghost use Rattle.paper.specs.Limits as Limits;
 ghost use Rattle.paper.specs.Elimination.{line, quotient};
 ghost use Rattle.step_factors.specs.Factored.{lineFactored, allFactored, factored, left, forward, back};
 ghost use Rattle.step_factors.specs.Factored.{substituted};
 use paper::Equation;
+use paper::Node;
 
-pub type Matrix = [[f64; 32]; 32];
+// by place of a free node among them
+pub type ByFree = [f64; Node::MAX as usize];
+
+pub type Matrix = [ByFree; Node::MAX as usize];
 
 // "f = a(q,p)/a(p,p); for each later column c, a(q,c) becomes a(q,c) - f·a(p,c)": own is line q and top is line p.
-fn factor_line(own: &mut [f64; 32], top: &[f64; 32], n: usize, p: usize)
-    requires { ⌜ (n ≤ 32) × (p < n) ⌝ }
+fn factor_line(own: &mut ByFree, top: &ByFree, n: usize, p: usize)
+    requires { ⌜ (n ≤ Limits.nodeEnd) × (p < n) ⌝ }
     ensures { λ _. ⌜ is own ≡ lineFactored n p (was top) (was own) ⌝ }
 {
     let f = own[p] / top[p];
@@ -26,7 +31,7 @@ fn factor_line(own: &mut [f64; 32], top: &[f64; 32], n: usize, p: usize)
 
 // Line p stays as it is, so it is read once.
 fn factor_all(a: &mut Matrix, base: usize, n: usize, p: usize)
-    requires { ⌜ (base + n ≤ 32) × (p < n) ⌝ }
+    requires { ⌜ (base + n ≤ Limits.nodeEnd) × (p < n) ⌝ }
     ensures { λ _. ⌜ is a ≡ allFactored base n p (was a) ⌝ }
 {
     let top = a[base + p];
@@ -38,7 +43,7 @@ fn factor_all(a: &mut Matrix, base: usize, n: usize, p: usize)
 }
 
 pub fn factor(a: &mut Matrix, base: usize, n: usize)
-    requires { ⌜ base + n ≤ 32 ⌝ }
+    requires { ⌜ base + n ≤ Limits.nodeEnd ⌝ }
     ensures { λ _. ⌜ is a ≡ factored base n (was a) ⌝ }
 {
     let mut p = 0;
@@ -49,8 +54,8 @@ pub fn factor(a: &mut Matrix, base: usize, n: usize)
 }
 
 // "t becomes t - a(p,c)·x(c)", c rising
-fn left(line: &[f64; 32], x: &[f64; 32], from: usize, to: usize, right: f64) -> f64
-    requires { ⌜ to ≤ 32 ⌝ }
+fn left(line: &ByFree, x: &ByFree, from: usize, to: usize, right: f64) -> f64
+    requires { ⌜ to ≤ Limits.nodeEnd ⌝ }
     ensures { λ t. ⌜ t ≡ left (was line) (was x) from to right ⌝ }
 {
     let mut t = right;
@@ -63,8 +68,8 @@ fn left(line: &[f64; 32], x: &[f64; 32], from: usize, to: usize, right: f64) -> 
 }
 
 // "b(q) becomes b(q) - f·b(p)" for each earlier row p, rising
-fn forward(a: &Matrix, base: usize, b: &mut [f64; 32], n: usize)
-    requires { ⌜ base + n ≤ 32 ⌝ }
+fn forward(a: &Matrix, base: usize, b: &mut ByFree, n: usize)
+    requires { ⌜ base + n ≤ Limits.nodeEnd ⌝ }
     ensures { λ _. ⌜ is b ≡ forward base n (was a) (was b) ⌝ }
 {
     let mut q = 0;
@@ -77,8 +82,8 @@ fn forward(a: &Matrix, base: usize, b: &mut [f64; 32], n: usize)
 }
 
 // "x(p) = t / a(p,p)": row p by its pivot and its right side
-fn solve_row(a: &Matrix, row: Equation, r: usize, x: &[f64; 32], n: usize, p: usize) -> f64
-    requires { ⌜ (r < 32) × (n ≤ 32) × (p < n) ⌝ }
+fn solve_row(a: &Matrix, row: Equation, r: usize, x: &ByFree, n: usize, p: usize) -> f64
+    requires { ⌜ (r < Limits.nodeEnd) × (n ≤ Limits.nodeEnd) × (p < n) ⌝ }
     ensures { λ t. ⌜ t ≡ quotient (left (line (was a) r) (was x) (p + 1) n (row .right)) (row .pivot) ⌝ }
 {
     let t = left(&a[r], x, p + 1, n, row.right);
@@ -86,8 +91,8 @@ fn solve_row(a: &Matrix, row: Equation, r: usize, x: &[f64; 32], n: usize, p: us
 }
 
 // "Backwards from the last row"
-fn back(a: &Matrix, base: usize, x: &mut [f64; 32], n: usize)
-    requires { ⌜ base + n ≤ 32 ⌝ }
+fn back(a: &Matrix, base: usize, x: &mut ByFree, n: usize)
+    requires { ⌜ base + n ≤ Limits.nodeEnd ⌝ }
     ensures { λ _. ⌜ is x ≡ back base n (was a) (was x) ⌝ }
 {
     let mut rows = n;
@@ -105,8 +110,8 @@ fn back(a: &Matrix, base: usize, x: &mut [f64; 32], n: usize)
 }
 
 // The right sides of n rows become the voltages of n free nodes, as doubles.
-pub fn substitute(a: &Matrix, base: usize, b: &mut [f64; 32], n: usize)
-    requires { ⌜ base + n ≤ 32 ⌝ }
+pub fn substitute(a: &Matrix, base: usize, b: &mut ByFree, n: usize)
+    requires { ⌜ base + n ≤ Limits.nodeEnd ⌝ }
     ensures { λ _. ⌜ is b ≡ substituted base n (was a) (was b) ⌝ }
 {
     forward(a, base, b, n);

@@ -7,15 +7,16 @@ ghost use Rattle.paper.specs.Floating as Paper;
 ghost use Rattle.step_legs.specs.Wires.{legOf, legAt, legsIn, Wired, Wires};
 ghost use Rattle.step_legs.specs.Free.{Free};
 ghost use Rattle.step_floating.specs.Search.{loose, reaches, reach, calmer, around};
+use paper::Node;
 use step_legs::Line;
 use step_legs::Wire;
 
 // The free nodes have their number; ground, the fixed nodes and those of other areas count as reached, 0.
-fn first_marks(free: &[usize]) -> [usize; 33]
+fn first_marks(free: &[usize]) -> [usize; Node::PLACES]
     requires { ⌜ Free (now free) ⌝ }
     ensures { λ r. ⌜ r ≡ Paper.marks (loose (was free)) Limits.nodeEnd ⌝ }
 {
-    let mut marks = [0usize; 33];
+    let mut marks = [0usize; Node::PLACES];
     let mut i = 0;
     while i < free.len() {
         let n = free[i];
@@ -26,7 +27,7 @@ fn first_marks(free: &[usize]) -> [usize; 33]
 }
 
 // a leg that conducts, with one of its nodes reached and the other not yet
-fn reaches(l: Wire, marks: &[usize; 33]) -> bool
+fn reaches(l: Wire, marks: &[usize; Node::PLACES]) -> bool
     requires { ⌜ Wired l ⌝ }
     ensures { λ r. ⌜ r ≡ reaches (legOf l) (was marks) ⌝ }
 {
@@ -42,7 +43,7 @@ fn reaches(l: Wire, marks: &[usize; 33]) -> bool
 }
 
 // Leg j's turn: a leg that conducts reaches one of its nodes from the other. How many legs in a row have then reached nothing new.
-fn spread_leg(legs: &[Line], j: usize, calm: usize, marks: &mut [usize; 33]) -> usize
+fn spread_leg(legs: &[Line], j: usize, calm: usize, marks: &mut [usize; Node::PLACES]) -> usize
     requires { ⌜ Wires (now legs) × ((j < length (now legs)) × (calm < length (now legs))) ⌝ }
     ensures { λ r. ⌜ r ≡ calmer (legAt (was legs) j) (was marks) calm ⌝ }
     ensures { λ _. ⌜ is marks ≡ reach (legAt (was legs) j) (was marks) ⌝ }

@@ -1,12 +1,14 @@
 // An area's legs as a step keeps them: a line of words for each end of its own, in table order. Of a line the first five words are the network's, g is
 // the position of the switches, h the step; the last two are what the step found: the current, and what the leg passes on to the next step.
-ghost use Rattle.whole.specs.Plain.{_<_, _≡_, [], _+ℤ_, set, length, getD, word};
+ghost use Rattle.whole.specs.Plain.{_+_, _<_, _≡_, [], _+ℤ_, set, length, getD, word};
 ghost use mir.Syntax.{w64};
 ghost use mir.Val.{SFits};
 ghost use Rattle.whole.specs.Loans.{was, is};
+ghost use Rattle.paper.specs.Limits as Limits;
 ghost use Rattle.paper.specs.Legs.{through};
 ghost use Rattle.step_legs.specs.Wires.{legOf, wireAt, Wired, Carries, Wires};
 ghost use Rattle.step_legs.specs.Shares.{Volts, drawn};
+use paper::Node;
 
 // One end of a row: from its node to another, with conductance g and history h; and which row's end it is, 1 the from end and 2 the to end.
 pub struct Wire {
@@ -47,7 +49,7 @@ pub fn put_word(legs: &mut [Line], j: usize, i: usize, x: i64)
 }
 
 // g·u
-pub fn through(l: Wire, v: &[i64; 33]) -> i64
+pub fn through(l: Wire, v: &[i64; Node::PLACES]) -> i64
     requires { ⌜ Wired l × Volts (now v) ⌝ }
     ensures { λ r. ⌜ r ≡ through (was v) (legOf l) ⌝ }
 {
@@ -57,7 +59,7 @@ pub fn through(l: Wire, v: &[i64; 33]) -> i64
 }
 
 // what would leave by the leg with its near node at 0: "histories" less "conductance times fixed neighbour voltages"
-pub fn drawn(l: Wire, still: &[i64; 33]) -> i64
+pub fn drawn(l: Wire, still: &[i64; Node::PLACES]) -> i64
     requires { ⌜ Carries l × Volts (now still) ⌝ }
     ensures { λ r. ⌜ r ≡ drawn (was still) (legOf l) ⌝ }
 {
@@ -67,8 +69,8 @@ pub fn drawn(l: Wire, still: &[i64; 33]) -> i64
 }
 
 // x more at node p
-pub fn add(sums: &mut [i64; 33], p: usize, x: i64)
-    requires { ⌜ (p < 33) × SFits w64 (word (now sums) p) × SFits w64 (word (now sums) p +ℤ x) ⌝ }
+pub fn add(sums: &mut [i64; Node::PLACES], p: usize, x: i64)
+    requires { ⌜ (p < Limits.nodeEnd + 1) × SFits w64 (word (now sums) p) × SFits w64 (word (now sums) p +ℤ x) ⌝ }
     ensures { λ _. ⌜ is sums ≡ set (was sums) p (word (was sums) p +ℤ x) ⌝ }
 {
     sums[p] = sums[p] + x;

@@ -2,6 +2,7 @@
 // 64 conductances is exact in doubles, so that each leg goes straight into the matrix.
 ghost use Rattle.whole.specs.Plain.{_+_, _≤_, _<_, _≡_, map, length};
 ghost use Rattle.whole.specs.Loans.{was, is};
+ghost use Rattle.paper.specs.Limits as Limits;
 ghost use Rattle.step_legs.specs.Wires.{legsIn, Wires};
 ghost use Rattle.step_legs.specs.Free.{Free};
 ghost use Rattle.step_factors.specs.Factors.{Square, Serves};
@@ -12,15 +13,17 @@ ghost use Rattle.step_matrix.specs.Placed.{Placed};
 ghost use Rattle.step_matrix.specs.Joined.{lineJoined, joined};
 ghost use Rattle.step_matrix.specs.Cleared.{Cleared};
 ghost use Rattle.step_matrix.specs.Block.{Block};
+use paper::Node;
+use step_factors::ByFree;
 use step_factors::Matrix;
 use step_legs::Line;
 
 // by node its place among the free nodes; 32 for a node that is none of them
-fn places(free: &[usize]) -> [usize; 33]
+fn places(free: &[usize]) -> [usize; Node::PLACES]
     requires { ⌜ Free (now free) ⌝ }
     ensures { λ r. ⌜ Placed (was free) r (length (was free)) ⌝ }
 {
-    let mut place = [32; 33];
+    let mut place = [Node::MAX as usize; Node::PLACES];
     let mut i = 0;
     while i < free.len() {
         let k = free[i];
@@ -32,10 +35,10 @@ fn places(free: &[usize]) -> [usize; 33]
 
 // Whole lines: the cells past the block take no part.
 fn clear(a: &mut Matrix, base: usize, n: usize)
-    requires { ⌜ (base + n ≤ 32) × Square (now a) ⌝ }
+    requires { ⌜ (base + n ≤ Limits.nodeEnd) × Square (now a) ⌝ }
     ensures { λ _. ⌜ Cleared base n n (was a) (is a) ⌝ }
 {
-    let none = [0.0; 32];
+    let none = [0.0; Node::MAX as usize];
     let mut p = 0;
     while p < n {
         a[base + p] = none;
@@ -44,8 +47,8 @@ fn clear(a: &mut Matrix, base: usize, n: usize)
 }
 
 // A leg of conductance g from place p to place q. The pivot is written last, so that a leg back to its own node only adds to it.
-fn join_line(line: &mut [f64; 32], n: usize, p: usize, q: usize, g: f64)
-    requires { ⌜ (n ≤ 32) × (p < n) ⌝ }
+fn join_line(line: &mut ByFree, n: usize, p: usize, q: usize, g: f64)
+    requires { ⌜ (n ≤ Limits.nodeEnd) × (p < n) ⌝ }
     ensures { λ _. ⌜ is line ≡ lineJoined n p q g (was line) ⌝ }
 {
     let pivot = line[p] + g;
@@ -57,7 +60,7 @@ fn join_line(line: &mut [f64; 32], n: usize, p: usize, q: usize, g: f64)
 
 // A leg from ground or a fixed node has no line.
 fn join(a: &mut Matrix, base: usize, n: usize, p: usize, q: usize, g: f64)
-    requires { ⌜ base + n ≤ 32 ⌝ }
+    requires { ⌜ base + n ≤ Limits.nodeEnd ⌝ }
     ensures { λ _. ⌜ is a ≡ joined base n p q g (was a) ⌝ }
 {
     if p < n {
@@ -66,9 +69,9 @@ fn join(a: &mut Matrix, base: usize, n: usize, p: usize, q: usize, g: f64)
 }
 
 // the block, leg by leg
-fn fill(legs: &[Line], free: &[usize], place: &[usize; 33], base: usize, a: &mut Matrix)
+fn fill(legs: &[Line], free: &[usize], place: &[usize; Node::PLACES], base: usize, a: &mut Matrix)
     requires { ⌜ Wires (now legs) × Free (now free) × Placed (now free) (now place) (length (now free)) ⌝ }
-    requires { ⌜ (base + length (now free) ≤ 32) × Square (now a) ⌝ }
+    requires { ⌜ (base + length (now free) ≤ Limits.nodeEnd) × Square (now a) ⌝ }
     ensures { λ _. ⌜ Block (legsIn (was legs)) (was free) base (was a) (is a) ⌝ }
 {
     let n = free.len();
@@ -85,7 +88,7 @@ fn fill(legs: &[Line], free: &[usize], place: &[usize; 33], base: usize, a: &mut
 
 // Lines base .. base + n of the table become the factors of the matrix of these legs; what they held does not matter.
 pub fn prepare(legs: &[Line], free: &[usize], base: usize, a: &mut Matrix)
-    requires { ⌜ Wires (now legs) × Free (now free) × (base + length (now free) ≤ 32) × Square (now a) ⌝ }
+    requires { ⌜ Wires (now legs) × Free (now free) × (base + length (now free) ≤ Limits.nodeEnd) × Square (now a) ⌝ }
     ensures { λ _. ⌜ Serves base (length (was free)) (matrixOf (map bare (legsIn (was legs))) (was free)) (is a) ⌝ }
     ensures { λ _. ⌜ Renewed base (length (was free)) (was a) (is a) ⌝ }
 {

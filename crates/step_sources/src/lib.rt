@@ -5,6 +5,7 @@ ghost use Rattle.paper.specs.Limits as Limits;
 ghost use Rattle.paper.specs.Rows.{isFixing, isIS};
 ghost use Rattle.step_legs.specs.Free.{InjectsWithin};
 ghost use Rattle.step_sources.specs.Table.{sourceAt, valueOf, Sources, Room, none, give, given};
+use paper::Node;
 use paper::kinds;
 
 // One source: a VS or an IS at its node.
@@ -49,7 +50,13 @@ fn source_value(peak: i64, start: usize, rise: usize, k: usize) -> i64
 }
 
 // Source j's part: a VS holds its node at its value, an IS injects its value into its node.
-fn drive_one(sources: &[SourceLine], j: usize, k: usize, v: &mut [i64; 33], inject: &mut [i64; 33])
+fn drive_one(
+    sources: &[SourceLine],
+    j: usize,
+    k: usize,
+    v: &mut [i64; Node::PLACES],
+    inject: &mut [i64; Node::PLACES],
+)
     requires { ⌜ Sources (now sources) × (j < length (now sources)) ⌝ }
     requires { ⌜ Room j (now v) × Room j (now inject) ⌝ }
     ensures { λ _. ⌜ is v ≡ give isFixing k (was v) (getD (was sources) j []) ⌝ }
@@ -66,7 +73,12 @@ fn drive_one(sources: &[SourceLine], j: usize, k: usize, v: &mut [i64; 33], inje
 }
 
 // What the area's VS hold and what its IS inject, by node, at step k.
-pub fn drive(sources: &[SourceLine], k: usize, v: &mut [i64; 33], inject: &mut [i64; 33])
+pub fn drive(
+    sources: &[SourceLine],
+    k: usize,
+    v: &mut [i64; Node::PLACES],
+    inject: &mut [i64; Node::PLACES],
+)
     requires { ⌜ Sources (now sources) ⌝ }
     requires { ⌜ (now v ≡ none) × (now inject ≡ none) ⌝ }
     ensures { λ _. ⌜ is v ≡ given isFixing k (was sources) ⌝ }

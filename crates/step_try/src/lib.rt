@@ -10,6 +10,7 @@ ghost use Rattle.step_flow.specs.Flown.{flown};
 ghost use Rattle.step_flow.specs.Beyond.{firstBy};
 ghost use Rattle.step_try.specs.Trying.{Trying, Known, Flow, inFlow, Tries};
 use paper::Advance;
+use paper::Node;
 use plan_rows::Table;
 use step_factors::Matrix;
 use step_legs::Line;
@@ -25,7 +26,7 @@ pub struct At {
 // What a try came to: the answer, and the voltages by node where the step can be taken.
 pub struct Outcome {
     pub answer: Advance,
-    pub volts: [i64; 33],
+    pub volts: [i64; Node::PLACES],
 }
 
 // 16 and 17, from the voltages; each leg's line then has its current and what it passes on.
@@ -33,8 +34,8 @@ fn flowing(
     plan: &Table,
     legs: &mut [Line],
     free: &[usize],
-    inject: &[i64; 33],
-    v: &[i64; 33],
+    inject: &[i64; Node::PLACES],
+    v: &[i64; Node::PLACES],
     at: At,
 ) -> Advance
     requires { ⌜ Flow (now legs) (now free) (now inject) (now v) at ⌝ }
@@ -76,8 +77,8 @@ pub fn try_step<'a>(
     ensures { λ _. ⌜ SameBut (was legs) (is legs) ⌝ }
 {
     step_histories::hear(plan, legs, records, froms, tos, at.k);
-    let mut v = [0; 33];
-    let mut inject = [0; 33];
+    let mut v = [0; Node::PLACES];
+    let mut inject = [0; Node::PLACES];
     step_sources::drive(sources, at.k, &mut v, &mut inject);
     let node = step_solve::solve(legs, free, &inject, factors, at.base, &mut v);
     if node != 0 {

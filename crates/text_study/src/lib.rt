@@ -2,6 +2,7 @@
 ghost use Rattle.whole.specs.Plain.{_≤_, _<_, _+_, _≡_, true, false, _&&_, Bool·beq, eqb, ltb, pos, length, replicate};
 ghost use Rattle.whole.specs.Plain.{sets};
 ghost use Rattle.whole.specs.Loans.{was, is};
+ghost use Rattle.paper.specs.Limits as Limits;
 ghost use Rattle.paper.specs.Rows.{kind, isStudy};
 ghost use Rattle.paper.specs.Reading.{linesOf};
 ghost use Rattle.text_faults.specs.Seen.{Held};
@@ -34,7 +35,7 @@ fn lay(net: &mut [i64], place: usize, row: [i64; 8])
 }
 
 fn put_row(net: &mut [i64], n: usize, row: [i64; 8])
-    requires { ⌜ (length (now net) ≡ 1024) × (n < 80) ⌝ }
+    requires { ⌜ (length (now net) ≡ Limits.networkWords) × (n < Limits.rowEnd) ⌝ }
     ensures { λ _. ⌜ is net ≡ putRow n row (was net) ⌝ }
 {
     lay(net, 8 + 8 * n, row);
@@ -42,7 +43,7 @@ fn put_row(net: &mut [i64], n: usize, row: [i64; 8])
 }
 
 fn put_study(net: &mut [i64], row: [i64; 8])
-    requires { ⌜ length (now net) ≡ 1024 ⌝ }
+    requires { ⌜ length (now net) ≡ Limits.networkWords ⌝ }
     ensures { λ _. ⌜ is net ≡ putStudy row (was net) ⌝ }
 {
     let length = row[1];
@@ -54,7 +55,8 @@ fn put_study(net: &mut [i64], row: [i64; 8])
 }
 
 fn put_line(net: &mut [i64], n: usize, row: [i64; 8])
-    requires { ⌜ (length (now net) ≡ 1024) × ((kind row < 8) × (isStudy row ≡ false → n < 80)) ⌝ }
+    requires { ⌜ (length (now net) ≡ Limits.networkWords)
+        × ((kind row < 8) × (isStudy row ≡ false → n < Limits.rowEnd)) ⌝ }
     ensures { λ _. ⌜ is net ≡ putLine n row (was net) ⌝ }
 {
     if text_faults::kind_of(row) == 0 {
@@ -146,7 +148,7 @@ fn closed(p: Progress) -> Progress
 }
 
 pub fn read_study(text: &[u8], net: &mut [i64]) -> Progress
-    requires { ⌜ now net ≡ replicate 1024 (pos 0) ⌝ }
+    requires { ⌜ now net ≡ replicate Limits.networkWords (pos 0) ⌝ }
     ensures { λ r. ⌜ Ends (linesOf (was text)) r (is net) ⌝ }
 {
     let seen = text_faults::nothing_seen();

@@ -1,5 +1,6 @@
 -- `plan_areas::spread` meets its contract: the rounds that are left lead to all of them. Assumes nothing.
 use Rattle.whole.specs.Plain.{_≤_, _<_, _-_, _≡_, refl, _∙_, length, arith}
+use borrow.Author.Needs.{needs}
 use Rattle.whole.specs.Turns.{turns, turns-end}
 use Rattle.laws_facts.specs.Nets.{netIn}
 use Rattle.plan_areas.specs.Marks.{roundOf, round-next, next-turn, length-round}
@@ -46,4 +47,4 @@ returns c =
     turns-end (l .loop .turn) 32 (roundOf (netIn (l .before .args .net .now) .rows)) (l .loop .area) _ (omega arith) (l .loop .inv .1 .1)
 
 pub spread-spec : {M : Type 1} → statement M
-spread-spec = tie.close (tie.spec Inv-loop μ-loop loop-holds round-requires (λ c κs. omega arith) loop-less loop-again returns)
+spread-spec = tie.close (tie.spec Inv-loop μ-loop loop-holds (λ c. search needs) round-requires (λ c κs. omega arith) loop-less loop-again returns)

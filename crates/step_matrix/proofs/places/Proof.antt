@@ -1,5 +1,6 @@
 -- `step_matrix::places` meets its contract: the first i free nodes have their places. Assumes nothing.
 use Rattle.whole.specs.Plain.{_-_, _≤_, _<_, _≡_, length, getD, arith}
+use borrow.Author.Needs.{needs}
 use Rattle.step_matrix.specs.Placed.{Placed, placed-none, placed-more}
 use Rattle.step_matrix.proofs.places.Statement.{statement}
 use Rattle.step_matrix.proofs.places.Tie as tie
@@ -21,6 +22,6 @@ returns c =
 pub places-spec : {M : Type 1} → statement M
 places-spec =
     tie.close
-    (tie.spec Inv-loop μ-loop (λ c. (omega arith, placed-none _)) (λ c. omega arith) (λ c. omega arith) (λ c. omega (arith, node (c .before .before) (omega arith))) (λ c. omega (arith, node (c .before .before) (omega arith))) (λ c. omega arith) (λ c. omega arith)
+    (tie.spec Inv-loop μ-loop (λ c. search needs) (λ c. (omega arith, placed-none _)) (λ c. omega arith) (λ c. omega arith) (λ c. omega (arith, node (c .before .before) (omega arith))) (λ c. omega (arith, node (c .before .before) (omega arith))) (λ c. omega arith) (λ c. omega arith)
     (λ c. let l = c .before .before in (omega arith, placed-more (l .before .pre) (l .loop .i) (omega arith) (l .loop .inv .1)))
     returns)
