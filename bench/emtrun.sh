@@ -22,7 +22,7 @@ from=${FROM:-100}
 to=${TO:-200}
 emtrun=${EMTRUN:-target/bin/emtrun}
 if [ -z "${EMTRUN:-}" ]; then
-    rt check emtrun >"$work/rt" 2>&1 || { tail -n 5 "$work/rt"; exit 1; }
+    tools/emtrun >"$work/rt" 2>&1 || { tail -n 5 "$work/rt"; exit 1; }
 fi
 compile "$work/ref" bench/ref.c
 [ $# -gt 0 ] || set -- $(cd bench/studies && ls | sed 's/\.txt$//')

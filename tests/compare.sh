@@ -34,7 +34,7 @@ add() {
 for tool in rt $compiler cargo; do
     command -v $tool >/dev/null 2>&1 || stop "tests/compare.sh needs '$tool'"
 done
-[ -n "${EMTRUN:-}" ] || [ -x target/bin/emtrun ] || rt check emtrun >"$work/rt" 2>&1 || { tail -n 5 "$work/rt"; stop "emtrun is not made"; }
+[ -n "${EMTRUN:-}" ] || tools/emtrun >"$work/rt" 2>&1 || { tail -n 5 "$work/rt"; stop "emtrun is not made"; }
 emtrun=$(starter "${EMTRUN:-target/bin/emtrun}")
 archive=$PWD/target/staticlib/libemt.a
 if [ -n "${LIBEMT:-}" ]; then
