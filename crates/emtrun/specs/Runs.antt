@@ -17,7 +17,7 @@ use Rattle.paper.specs.Listing.{listing, listingFrom}
 use Rattle.laws_stays.specs.Stays.{Long}
 use Rattle.laws_demands.specs.States.{long-fits, reset-is}
 use Rattle.laws_spelling.specs.Networks.{network-exactly}
-use Rattle.emtrun.specs.Handed.{handed, Complete, handed-run}
+use Rattle.emtrun.specs.Handed.{handed, handed-run}
 use Rattle.emtrun.specs.declared.Next.{Next}
 use Rattle.emtrun.specs.declared.Next.the-variants.{More, Last, Stopped, Unwritten}
 use Rattle.emtrun.specs.declared.Outcome.{Outcome}

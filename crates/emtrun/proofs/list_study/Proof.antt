@@ -1,5 +1,5 @@
 -- `emtrun::list_study` meets its contract: a network is reset, whatever stood in the room, and then listed. Assumes nothing.
-use Rattle.whole.specs.Plain.{ℕ, _≡_, sym, subst, ap, length}
+use Rattle.whole.specs.Plain.{ℕ, _≡_, sym, subst, ap}
 use borrow.Author.Needs.{needs}
 use denote.Enum.Declared.{tagOf}
 use Rattle.paper.proofs.Resetting.{the-type}

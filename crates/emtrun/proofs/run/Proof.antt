@@ -1,5 +1,5 @@
 -- `emtrun::run` meets its contract: what is read is a network, or the text is refused. Assumes nothing.
-use Rattle.whole.specs.Plain.{_≡_, sym, ap, _∙_}
+use Rattle.whole.specs.Plain.{sym, ap, _∙_}
 use borrow.Author.Needs.{needs}
 use denote.Enum.Declared.{tagOf}
 use Rattle.paper.proofs.Reading.{the-type}

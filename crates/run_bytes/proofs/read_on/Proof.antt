@@ -1,7 +1,6 @@
 -- `run_bytes::read_on` meets its contract: what stands before the place stays through every try. Assumes nothing.
-use Rattle.whole.specs.Plain.{_-_, _≤_, _≡_, refl, sym, _∙_, length, take, arith}
+use Rattle.whole.specs.Plain.{_-_, _≤_, _≡_, refl, _∙_, length, take, arith}
 use borrow.Author.Needs.{needs}
-use Rattle.run_bytes.specs.Moving.{Most}
 use Rattle.run_bytes.proofs.read_on.Statement.{statement}
 use Rattle.run_bytes.proofs.read_on.Tie as tie
 

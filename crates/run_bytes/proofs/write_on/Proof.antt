@@ -1,5 +1,5 @@
 -- `run_bytes::write_on` meets its contract. Assumes nothing.
-use Rattle.whole.specs.Plain.{_-_, _≤_, length, arith}
+use Rattle.whole.specs.Plain.{_-_, _≤_, arith}
 use borrow.Author.Needs.{needs}
 use Rattle.run_bytes.proofs.write_on.Statement.{statement}
 use Rattle.run_bytes.proofs.write_on.Tie as tie
