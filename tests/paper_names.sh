@@ -43,6 +43,7 @@ FNR == 1 { split(FILENAME, path, /[\/.]/) }
 
 FILENAME ~ /\.rt$/ {
     sub(/\/\/.*/, "")
+    if (/^pub use /) stands[path[2] "::" substr($3, match($3, /[A-Za-z0-9_]+;$/), RLENGTH - 1)]
     for (i = 1; i < NF; i++) if ($i ~ /^(fn|struct|enum|const|type)$/) {
         name = $(i + 1)
         sub(/[^A-Za-z0-9_].*/, "", name)

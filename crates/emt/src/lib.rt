@@ -1,21 +1,11 @@
-// What a customer links: the calls over lent memory, for Rattle and for C. None has a `requires`; each refuses instead.
-ghost use Rattle.whole.specs.Plain.{_≡_};
+// What a customer links: the calls over lent memory, for Rattle and for C. None has a `requires`; each refuses instead. The calls for Rattle are those of
+// the crates below, by one name.
 ghost use Rattle.whole.specs.Loans.{was, is};
-ghost use Rattle.paper.specs.One.{Reads, Resets, Advances};
-ghost use Rattle.paper.specs.Pieces.{Lists};
 ghost use Rattle.paper.specs.Lent.{before, after};
 ghost use Rattle.emt.specs.Numbered.{ReadsBy, ResetsBy, AdvancesBy, ListsBy};
-use list_pieces::Piece;
-use paper::Advance;
-use paper::Reading;
-use paper::Resetting;
 
 // "Reading: 9, 7, then the first faulty line, in it 1 to 6 in turn"; "An accepted reading writes all 1,024 words, unused ones 0, and answers 0".
-pub fn read(text: &[u8], network: &mut [i64]) -> Reading
-    ensures { λ r. ⌜ Reads (was text) (was network) r (is network) ⌝ }
-{
-    call_read::read(text, network)
-}
+pub use call_read::read;
 
 // "the answer carries the line number (0 for 7 and 9)": it is written whatever the answer is.
 #[no_mangle]
@@ -28,11 +18,7 @@ pub extern "C" fn emt_read(text: &[u8], network: &mut [i64], line: &mut u64) -> 
 }
 
 // "Resetting gives 9 or 8, or writes the records and both line stores all zero and answers 0."
-pub fn reset(network: &[i64], records: &mut [i64], froms: &mut [i64], tos: &mut [i64]) -> Resetting
-    ensures { λ r. ⌜ Resets (was network) (before records froms tos) r (after records froms tos) ⌝ }
-{
-    call_reset::reset(network, records, froms, tos)
-}
+pub use call_reset::reset;
 
 #[no_mangle]
 pub extern "C" fn emt_reset(
@@ -47,17 +33,7 @@ pub extern "C" fn emt_reset(
 }
 
 // "Advancing: 9, 8, then 10 to 17"; "an accepted advance answers the area's new count". An area number of any size is answered.
-pub fn advance(
-    network: &[i64],
-    records: &mut [i64],
-    froms: &mut [i64],
-    tos: &mut [i64],
-    area: usize,
-) -> Advance
-    ensures { λ r. ⌜ Advances (was network) area (before records froms tos) r (after records froms tos) ⌝ }
-{
-    call_advance::advance(network, records, froms, tos, area)
-}
+pub use call_advance::advance;
 
 // The new count of an area that has advanced, the node or branch that a refusal names, or 0: it is written whatever the answer is.
 #[no_mangle]
@@ -78,18 +54,8 @@ pub extern "C" fn emt_advance(
 
 // Advances all areas in rising order, full step after full step, and lists each, until the next might not fit into the buffer, an area is refused or all
 // steps are taken: 9, 8, 10, or what it came to and how many bytes it listed.
-pub fn list(
-    network: &[i64],
-    records: &mut [i64],
-    froms: &mut [i64],
-    tos: &mut [i64],
-    out: &mut [u8],
-) -> Piece
-    ensures { λ r. ⌜ Lists (was network) (before records froms tos) (was out) (r .answer) (r .count) (is out)
-        (after records froms tos) ⌝ }
-{
-    call_list::list(network, records, froms, tos, out)
-}
+pub use call_list::list;
+pub use list_pieces::Piece;
 
 // How many bytes are listed; and where an area's refusal stopped the listing, the area, the refusal's number and its place, else 0: all four are written
 // whatever the answer is.
