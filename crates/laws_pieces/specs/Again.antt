@@ -18,7 +18,7 @@ use Rattle.paper.specs.Kept.{advance-refused}
 use Rattle.paper.specs.Pieces.{Listed, listed, writing, ended, areaPiece, fullStep, stepPiece, turnPiece, closing, stepsTaken, level, pieceOf, onLevel, listOf}
 use Rattle.laws_facts.specs.Nets.{netIn}
 use Rattle.laws_local.specs.Outcome.{StepRefusal}
-use Rattle.laws_demands.specs.Step.{fits-long}
+use Rattle.laws_demands.specs.Judged.{fits-long}
 use Rattle.laws_pieces.specs.Level.{Partway, Level, level-counts, step-refused}
 use Rattle.laws_pieces.specs.Steps.{run-ended, Refusal}
 use Rattle.laws_pieces.specs.Calls.{turns-ended, Over, all-done, refused, more, whole, ends}
