@@ -3,6 +3,7 @@
 use super::arguments::Arguments;
 use super::damage;
 use super::dice::Dice;
+use super::ends_mode;
 use super::fixed;
 use super::foreign::{self, Calls};
 use super::list_slips;
@@ -20,7 +21,7 @@ const SHRINK_TRIES: usize = 3_000;
 /// Every how manyth study has each single word changed; that asks some 20,000 questions.
 const EVERY_WORD_TURN: u64 = 500;
 
-type Question<'a> = &'a dyn Fn(&[u8], &mut Tally) -> Result<(), Difference>;
+pub type Question<'a> = &'a dyn Fn(&[u8], &mut Tally) -> Result<(), Difference>;
 
 /// Compares the linked library; true where nothing differs.
 pub fn compare_calls(arguments: &Arguments) -> bool {
@@ -122,7 +123,7 @@ fn stop_early(tally: &Tally, aloud: bool) -> bool {
     tally.failed >= if aloud { MOST_REPORTS } else { 1 }
 }
 
-fn ask(text: &[u8], aloud: bool, tally: &mut Tally, question: Question) {
+pub fn ask(text: &[u8], aloud: bool, tally: &mut Tally, question: Question) {
     if stop_early(tally, aloud) {
         return;
     }
@@ -156,5 +157,6 @@ pub fn compare_self(arguments: &Arguments) -> bool {
             tally.failed += 1;
         }
     }
+    ends_mode::find_planted(seed, &mut tally);
     tally.finish()
 }

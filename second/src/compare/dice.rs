@@ -35,6 +35,13 @@ impl Dice {
         choices[self.below(choices.len())].clone()
     }
 
+    pub fn shuffle<T>(&mut self, all: &mut [T]) {
+        for place in (1..all.len()).rev() {
+            let other = self.below(place + 1);
+            all.swap(place, other);
+        }
+    }
+
     /// Between two positive ends, every order of magnitude as likely as the others, and often an end itself.
     pub fn spread(&mut self, low: i64, high: i64) -> i64 {
         match self.below(12) {

@@ -152,7 +152,13 @@ fn advance_near_end(network: &[i64], records: Words, froms: Words, tos: Words, a
 }
 
 /// Each value sent stands in the lower half of the line's slots too, as if there were only d of them.
-fn advance_short_store(network: &[i64], records: Words, froms: Words, tos: Words, area: u64) -> (u64, u64) {
+pub fn advance_short_store(
+    network: &[i64],
+    records: Words,
+    froms: Words,
+    tos: Words,
+    area: u64,
+) -> (u64, u64) {
     let answer = calls::advance(network, records, froms, tos, area);
     if answer.0 != 0 {
         return answer;

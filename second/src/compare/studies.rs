@@ -307,9 +307,6 @@ impl Maker<'_> {
             let place = self.study.rows.iter().position(|row| !row.kind.is_source());
             self.study.rows.remove(place.expect("there are too many branches"));
         }
-        for place in (1..self.study.rows.len()).rev() {
-            let other = self.dice.below(place + 1);
-            self.study.rows.swap(place, other);
-        }
+        self.dice.shuffle(&mut self.study.rows);
     }
 }

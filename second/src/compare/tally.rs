@@ -23,6 +23,10 @@ impl Tally {
         *self.counts.entry(what.into()).or_insert(0) += 1;
     }
 
+    pub fn counted(&self, what: &str) -> u64 {
+        self.counts.get(what).copied().unwrap_or(0)
+    }
+
     pub fn count_ending(&mut self, ending: Ending) {
         match ending {
             Ending::Done => self.count("listing: done"),
