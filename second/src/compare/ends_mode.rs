@@ -93,33 +93,29 @@ fn miss_nothing(tally: &mut Tally) {
     }
 }
 
-/// Our own calls must show nothing; with a slip planted, a difference found by what is named beside it.
+/// Our own calls must show nothing; with a slip planted, some study's first difference must be of the kind
+/// named beside the slip.
 pub fn find_planted(seed: u64, tally: &mut Tally) {
-    let first_difference = |calls: &Calls| {
-        (0..SLIP_STUDIES).find_map(|index| {
+    let shows = |calls: &Calls, wanted: &dyn Fn(&Difference) -> bool| {
+        (0..SLIP_STUDIES).any(|index| {
             let (text, seed) = numbered_study(seed, index);
-            ask_ends(calls, &text, seed, &mut Tally::default()).err()
+            ask_ends(calls, &text, seed, &mut Tally::default()).is_err_and(|difference| wanted(&difference))
         })
     };
-    match first_difference(&slips::own_calls()) {
-        None => tally.passed += 1,
-        Some(difference) => {
-            println!("DIFFERENCE of our own calls: {}", difference.question);
-            tally.failed += 1;
-        }
-    }
+    let mut settle = |right: bool, what: String| {
+        println!("{what}");
+        tally.passed += u64::from(right);
+        tally.failed += u64::from(!right);
+    };
+    let differs = shows(&slips::own_calls(), &|_| true);
+    settle(!differs, format!("our own calls end {}", if differs { "DIFFERENTLY" } else { "alike" }));
     for (name, calls, wanted) in end_slips::planted() {
-        match first_difference(&calls) {
-            Some(difference) if difference.question.starts_with(wanted.question()) => {
-                println!("found planted slip: {name} ({})", wanted.question());
-                tally.passed += 1;
-            }
-            other => {
-                let instead = other.map_or(String::new(), |difference| format!(" ({})", difference.question));
-                println!("NOT FOUND planted slip: {name}{instead}");
-                tally.failed += 1;
-            }
-        }
+        let question = wanted.question();
+        let found = shows(&calls, &|difference| difference.question.starts_with(question));
+        settle(
+            found,
+            format!("{} planted slip: {name} ({question})", if found { "found" } else { "NOT FOUND" }),
+        );
     }
 }
 
@@ -163,7 +159,7 @@ fn same_end(found: Found, orders: [Order; 2], one: &Ended, other: &Ended) -> Res
     if one == other {
         return Ok(());
     }
-    let (mut one_shown, mut other_shown) = (shown(one), shown(other));
+    let (mut one_shown, mut other_shown) = (shown(orders[0], one), shown(orders[1], other));
     let (mut one_lent, mut other_lent) = (one.lent.clone(), other.lent.clone());
     for (slice, name) in [(1, "records"), (2, "from-end store"), (3, "to-end store")] {
         let (one, other) = (one_lent.slice(slice), other_lent.slice(slice));
@@ -175,13 +171,13 @@ fn same_end(found: Found, orders: [Order; 2], one: &Ended, other: &Ended) -> Res
     Err(differ(found, format!("{:?} and {:?}", orders[0], orders[1]), one_shown, other_shown))
 }
 
-fn shown(end: &Ended) -> String {
+fn shown(order: Order, end: &Ended) -> String {
     let accepted = end.accepted.iter().map(|answers| answers.len());
     let each = end.ends.iter().zip(accepted).zip(1..).map(|((end, accepted), area)| {
         let AreaEnd { count, number, place } = end;
         format!("area {area}: count {count}, {accepted} times accepted, then {number} at {place}")
     });
-    each.collect::<Vec<String>>().join("\n")
+    [format!("order {order:?}")].into_iter().chain(each).collect::<Vec<String>>().join("\n")
 }
 
 fn reaches_all(network: &Network, order: Order, ends: &[AreaEnd]) -> Result<(), Difference> {
