@@ -56,13 +56,13 @@ module _ (net : Words) (lent : Memory) (ok : Lent net lent) where
   open FromReset (fromReset net lent) using (N, start)
 
   -- the memory after a mixed run, and its advances
-  abbrev at : List Call → Memory
+  abbrev pub at : List Call → Memory
   at w = afterAll net w start
 
-  abbrev run : List Call → List ℕ
+  abbrev pub run : List Call → List ℕ
   run w = advances net w start
 
-  is-run : (w : List Call) → at w ≡ after net (run w) start
+  pub is-run : (w : List Call) → at w ≡ after net (run w) start
   is-run w = mixed-is-run net w start
 
   -- T-stays: what a mixed run leaves passes 8, 9 and 10

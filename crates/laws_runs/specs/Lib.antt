@@ -6,3 +6,4 @@ pub mod Received
 pub mod Heard
 pub mod Lines
 pub mod Words
+pub mod Ends
