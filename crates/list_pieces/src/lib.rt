@@ -13,7 +13,7 @@ use plan_own::Owns;
 use plan_rows::Table;
 use plan_rows::Totals;
 use step_legs::Line;
-use step_sources::SourceLine;
+use step_legs::SourceLine;
 
 // What a call answers, and how many bytes it wrote.
 pub struct Piece {

@@ -10,7 +10,7 @@ use plan_rows::Table;
 use step_area::Turn;
 use step_factors::Matrix;
 use step_legs::Line;
-use step_sources::SourceLine;
+use step_legs::SourceLine;
 
 // All areas took the step; or the first that did not, and its answer.
 pub enum Round {

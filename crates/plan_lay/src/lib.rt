@@ -16,9 +16,7 @@ use paper::kinds;
 use plan_rows::Row;
 use plan_rows::Table;
 use step_legs::Line;
-
-// kind, node, peak, start, rise
-pub type SourceLine = [i64; 5];
+use step_legs::SourceLine;
 
 // ---- legs
 

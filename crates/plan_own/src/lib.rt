@@ -7,10 +7,10 @@ ghost use Rattle.laws_facts.specs.Nets.{netIn};
 ghost use Rattle.plan_own.specs.Owns.{wordsOf, ownIn, nothing, untilPut, Given, Tables, Room, Ours, Behind, Laid};
 ghost use Rattle.plan_own.specs.Owns.{Unprepared};
 use paper::Node;
-use plan_lay::SourceLine;
 use plan_rows::Table;
 use plan_rows::Totals;
 use step_legs::Line;
+use step_legs::SourceLine;
 
 // Where an area's own stands: legs, nodes (the free ones first), sources; and the step before which what is prepared for it serves, 0 where nothing is.
 pub struct Own {

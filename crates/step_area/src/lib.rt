@@ -16,7 +16,7 @@ use plan_own::Owns;
 use plan_rows::Table;
 use step_factors::Matrix;
 use step_legs::Line;
-use step_sources::SourceLine;
+use step_legs::SourceLine;
 use step_try::At;
 
 // Whose step it is, which, and the limit of what may be out of balance.

@@ -24,6 +24,9 @@ pub struct Wire {
 // near, far, row, end, kind, g, h, current, passed on
 pub type Line = [i64; 9];
 
+// A source as a line of words: kind, node, peak, start, rise.
+pub type SourceLine = [i64; 5];
+
 pub fn leg_at(legs: &[Line], j: usize) -> Wire
     requires { ⌜ Wires (now legs) × (j < length (now legs)) ⌝ }
     ensures { λ r. ⌜ r ≡ wireAt (was legs) j ⌝ }

@@ -1,33 +1,17 @@
 -- A branch of the step, by its row: whose its ends are. Assumes nothing.
-use Rattle.whole.specs.Plain.{ℕ, _≤_, _<_, _≡_, refl, sym, ap, _∙_, Bool, true, false, cond, _&&_, List, eqb, ℤ, length}
-use Rattle.whole.specs.Plain.{length-map, ne-eqb, arith, Words, numbers}
-use Rattle.whole.specs.Folds.{getD-map, getD-numbers, length-numbers}
+use Rattle.whole.specs.Plain.{ℕ, _≤_, _≡_, refl, sym, _∙_, Bool, true, false, cond, _&&_, List, eqb, ℤ}
+use Rattle.whole.specs.Plain.{ne-eqb, arith, Words}
 use Rattle.paper.specs.Rows.{isLine, isBranch, from, to}
 use Rattle.paper.specs.Areas.{Net, areaOf, rowArea}
-use Rattle.paper.specs.Legs.{Branch, Heard, legsBy, legsOf, lineLegs, lineEnd, plainLegs, branchIn}
+use Rattle.paper.specs.Legs.{Branch, Heard, legsBy, lineLegs, lineEnd, plainLegs}
 use Rattle.laws_facts.specs.Nets.{rowAt}
 use Rattle.plan_ends.specs.Own.{ownerOf}
-
-pub branch-at : (N : Net) (a k : ℕ) (recs : Words) (ears : List Heard) (i : ℕ) → i < length (N .rows) → branchIn (legsOf N a k recs ears) i ≡ legsBy N a k recs ears i
-unfolding legsOf
-branch-at N a k recs ears i h =
-    getD-map (legsBy N a k recs ears) (numbers 0 (length (N .rows))) i 0 _ (rw length-numbers h)
-    ∙ ap (legsBy N a k recs ears) (getD-numbers 0 (length (N .rows)) i 0 h ∙ omega arith)
-
-pub legs-length : (N : Net) (a k : ℕ) (recs : Words) (ears : List Heard) → length (legsOf N a k recs ears) ≡ length (N .rows)
-unfolding legsOf
-legs-length N a k recs ears = length-map (numbers 0 (length (N .rows))) (legsBy N a k recs ears) ∙ length-numbers 0 (length (N .rows))
 
 -- of one of three, what is one of three
 of-three : {A B : Type 0} (f : A → B) (s t : Bool) (x y w : A) → f (cond s x (cond t y w)) ≡ cond s (f x) (cond t (f y) (f w))
 of-three f true t x y w = refl
 of-three f false true x y w = refl
 of-three f false false x y w = refl
-
-same-three : {B : Type 0} (s t : Bool) (b : B) → cond s b (cond t b b) ≡ b
-same-three true t b = refl
-same-three false true b = refl
-same-three false false b = refl
 
 -- an end of the area's own, by its owner
 own-is : (a : ℕ) → 1 ≤ a → (s t : Bool) (e f : ℕ) → cond s (eqb e a) (cond (t && eqb f a) true false) ≡ eqb (cond s e (cond t f 0)) a
@@ -41,12 +25,6 @@ line-own true n g h = refl
 line-own false n g h = refl
 
 module _ (N : Net) (a k : ℕ) (recs : Words) (ears : List Heard) (i : ℕ) where
-  pub row-is : legsBy N a k recs ears i .row ≡ rowAt N i
-  unfolding legsBy lineLegs plainLegs
-  row-is =
-      of-three (λ (b : Branch). b .row) (isLine (rowAt N i)) (isBranch (rowAt N i) && eqb (rowArea N (rowAt N i)) a) _ _ _
-      ∙ same-three (isLine (rowAt N i)) (isBranch (rowAt N i) && eqb (rowArea N (rowAt N i)) a) (rowAt N i)
-
   pub from-own : 1 ≤ a → legsBy N a k recs ears i .fromEnd .own ≡ eqb (ownerOf N (rowAt N i) 1) a
   unfolding legsBy lineLegs plainLegs ownerOf
   from-own h =

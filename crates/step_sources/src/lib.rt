@@ -7,6 +7,7 @@ ghost use Rattle.step_legs.specs.Free.{InjectsWithin};
 ghost use Rattle.step_sources.specs.Table.{sourceAt, valueOf, Sources, Room, none, give, given};
 use paper::Node;
 use paper::kinds;
+use step_legs::SourceLine;
 
 // One source: a VS or an IS at its node.
 struct Source {
@@ -16,9 +17,6 @@ struct Source {
     pub start: usize,
     pub rise: usize,
 }
-
-// kind, node, peak, start, rise
-pub type SourceLine = [i64; 5];
 
 fn source_at(sources: &[SourceLine], j: usize) -> Source
     requires { ⌜ Sources (now sources) × (j < length (now sources)) ⌝ }

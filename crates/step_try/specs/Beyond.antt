@@ -13,7 +13,7 @@ use Rattle.plan_ends.specs.Own.{ownEnd, ownEnds}
 use Rattle.step_legs.specs.declared.Wire.{Wire}
 use Rattle.step_own.specs.Ends.{wireOf, endLeg}
 use Rattle.step_own.specs.EndLegs.{from-leg, to-leg}
-use Rattle.step_own.specs.Branches.{row-is}
+use Rattle.laws_local.specs.Own.{row-is}
 use Rattle.step_flow.specs.Beyond.{beyondLeg, firstBy}
 
 not-and : (a b : Bool) → not (a && b) ≡ (not a || not b)

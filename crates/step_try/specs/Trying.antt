@@ -30,7 +30,7 @@ use Rattle.step_histories.specs.Heard.{heardLine}
 use Rattle.step_histories.specs.Laws.{heard-laid}
 use Rattle.step_own.specs.Ends.{Kept}
 use Rattle.step_own.specs.Laid.{Laid, wires-are, legs-are, bares-are, laid-sized}
-use Rattle.step_own.specs.Branches.{legs-length}
+use Rattle.laws_local.specs.Own.{legs-length}
 use Rattle.step_own.specs.Paper as Own
 use Rattle.step_floating.specs.Free.{free-node, free-nodes}
 use Rattle.step_floating.specs.Local.{floating-joins, joins-bare}

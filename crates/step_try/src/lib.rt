@@ -14,7 +14,7 @@ use paper::Node;
 use plan_rows::Table;
 use step_factors::Matrix;
 use step_legs::Line;
-use step_sources::SourceLine;
+use step_legs::SourceLine;
 
 // What a step is tried at: where the area's factors begin, the step, and the limit of what may be out of balance.
 pub struct At {
