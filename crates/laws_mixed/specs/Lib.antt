@@ -1,3 +1,4 @@
 pub mod Made
 pub mod Mixed
 pub mod Ends
+pub mod Worked

@@ -1,22 +1,17 @@
 -- T-ends and T-reach: any two orders that go on until every area answers DONE, WAIT or one of 14 to 17 end alike; and an area that no chain of lines
 -- ties to a stopped one has then taken all its steps. Assumes nothing.
-use Rattle.whole.specs.Plain.{ℕ, zero, suc, _+_, _≤_, _<_, _≡_, refl, sym, _∙_, _⊎_, inl, inr, Bool, true, false, true≢false, List}
-use Rattle.whole.specs.Plain.{[], _∷_, map, length, replicate, zero-add, arith, Words, z, numbers}
+use Rattle.whole.specs.Plain.{ℕ, zero, suc, _≤_, _<_, _≡_, refl, sym, _∙_, inl, inr, Bool, true, false, true≢false, List}
+use Rattle.whole.specs.Plain.{length, zero-add, arith, Words}
 use native.Mathlib.Nat.{le-antisymm}
 use Rattle.paper.specs.declared.Advance.{Advance}
-use Rattle.paper.specs.declared.Advance.the-variants.{Done, Wait, Floating}
-use Rattle.paper.specs.Limits as Limits
-use Rattle.paper.specs.Reading.{readOf}
-use Rattle.paper.specs.Resetting.{fresh}
-use Rattle.paper.specs.Examples.{lines, tabbed}
-use Rattle.paper.specs.Computing.{computing}
+use Rattle.paper.specs.declared.Advance.the-variants.{Done, Wait}
 use Rattle.paper.specs.Answers.{accepted}
 use Rattle.paper.specs.Rows.{isLine, from, to, steps}
-use Rattle.paper.specs.Areas.{Net, areaOf}
+use Rattle.paper.specs.Areas.{Net}
 use Rattle.paper.specs.Records.{countAt, countOf, endOf}
 use Rattle.paper.specs.Apart.{counts-in, end-most}
 use Rattle.paper.specs.Advance.{Memory, advanceOf}
-use Rattle.laws_facts.specs.Nets.{netIn, rowAt, area-of, net-sound}
+use Rattle.laws_facts.specs.Nets.{rowAt, area-of, net-sound}
 use Rattle.laws_order.specs.Calls as C
 use Rattle.laws_order.specs.Orders as O
 use Rattle.laws_local.specs.Sound.{Sound, sound}
@@ -25,7 +20,7 @@ use Rattle.laws_local.specs.Outcome.{StepRefusal}
 use Rattle.laws_stays.specs.Formed.{Formed, formed}
 use Rattle.laws_demands.specs.Said.{IsArea}
 use Rattle.laws_demands.specs.Exact.{exactly}
-use Rattle.laws_runs.specs.Runs.{Lent, FromReset, fromReset, after, accepts, taken}
+use Rattle.laws_runs.specs.Runs.{Lent, FromReset, fromReset, accepts, taken}
 use Rattle.laws_runs.specs.Moves.{Inv, moves, step-firm}
 use Rattle.laws_runs.specs.Orders.{start-inv, run-inv, run-is, count-is, diamond, area-of-accepted, orders-agree}
 use Rattle.laws_runs.specs.Received.{Side, fromSide, toSide, far, areaAt}
@@ -110,30 +105,3 @@ module _ (net : Words) (lent : Memory) (ok : Lent net lent) where
 
         most : count a w ≤ steps (N .head)
         most = let e : endOf N (countAt a) ≤ steps (N .head) = rw (zero-add (countAt a)) at (end-most N counts-in (countAt a) (omega (arith, o .one, o .most, f .areas))) in omega (arith, g .records (countAt a), e)
-
--- ---- worked
-
--- where the areas of a study stand after these calls from rest, and what each then answers
-unfoldable pub Ends : List ℕ → List ℕ → List ℕ → List Advance → Type 0
-Ends text order counts said =
-    let net = readOf text (replicate Limits.networkWords z) .network in
-    let m = after net order fresh in
-    let areas = numbers 1 (length counts) in
-    (map (countOf (m .records)) areas ≡ counts) × (map (λ a. advanceOf net a m .answer) areas ≡ said)
-
--- area 1 stops at its step 3, area 2 is tied to it and waits, area 3 is tied to neither and takes all six
-abbrev pub tied : List ℕ
-tied = lines ("study 1000 6 0" ∷ "VS 1 1000 1 0" ∷ "SW 1 2 2000 1 3" ∷ "LINE 1 3 400000 1000" ∷ "VS 4 7 1 0" ∷ "R 4 0 1000" ∷ [])
-
-pub in-rounds : Ends tied (1 ∷ 2 ∷ 3 ∷ 1 ∷ 2 ∷ 3 ∷ 1 ∷ 2 ∷ 3 ∷ 1 ∷ 2 ∷ 3 ∷ 3 ∷ 3 ∷ []) (2 ∷ 3 ∷ 6 ∷ []) (Floating 2 ∷ Wait 2 ∷ Done ∷ [])
-unfolding computing lines tabbed after Ends numbers
-in-rounds = (refl, refl)
-
-pub in-bursts : Ends tied (3 ∷ 3 ∷ 3 ∷ 3 ∷ 3 ∷ 3 ∷ 2 ∷ 2 ∷ 1 ∷ 1 ∷ 1 ∷ 2 ∷ 2 ∷ 2 ∷ []) (2 ∷ 3 ∷ 6 ∷ []) (Floating 2 ∷ Wait 2 ∷ Done ∷ [])
-unfolding computing lines tabbed after Ends numbers
-in-bursts = (refl, refl)
-
--- two areas and nothing that stops either
-pub unstopped : Ends (lines ("study 1000 3 0" ∷ "VS 1 1000 1 0" ∷ "LINE 1 2 400000 1000" ∷ [])) (2 ∷ 2 ∷ 1 ∷ 1 ∷ 1 ∷ 2 ∷ 1 ∷ 2 ∷ []) (3 ∷ 3 ∷ []) (Done ∷ Done ∷ [])
-unfolding computing lines tabbed after Ends numbers
-unstopped = (refl, refl)

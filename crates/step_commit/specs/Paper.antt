@@ -17,7 +17,7 @@ use Rattle.paper.specs.Legs.{Leg, End, Branch, branch, Heard, legsBy, legsOf, b
 use Rattle.paper.specs.Advance.{memory, putIf, newRecords, putSent, newStore, written}
 use Rattle.laws_facts.specs.Nets.{NetSound, rowAt}
 use Rattle.laws_local.specs.Sound.{Sound, sound, row-there}
-use Rattle.laws_local.specs.Own.{legs-length, branch-is, row-is, line-no, keeper}
+use Rattle.laws_local.specs.Own.{legs-length, branch-is as branch-at, row-is, line-no, keeper}
 use Rattle.laws_local.specs.Nodes.{NodeOf, node-of, of-node, free-of, of-free}
 use Rattle.laws_local.specs.Puts.{put-length, put-other, put-same, put-with}
 use Rattle.laws_local.specs.Written.{records-length, records-keep, count-put, volt-put, current-put, to-put, history-put}
@@ -82,7 +82,7 @@ module _ {N : Net} {a k : ℕ} {recs froms tos : Words} {legs : List Words} {pla
         let f : 1 + 2 * i % 2 ≡ 1 = omega arith in
         let g : (2 * i + 1) / 2 ≡ i = omega arith in
         let o : 1 + (2 * i + 1) % 2 ≡ 2 = omega arith in
-        branch-is N a k recs ears i h
+        branch-at N a k recs ears i h
         ∙ rw (e, f, g, o, from-leg N a k recs froms tos i h one, to-leg N a k recs froms tos i h one) (parts (row-is N a k recs ears i) (from-own N a k recs ears i one) (to-own N a k recs ears i one))
 
     from-turn : (x : Words) → putSent N k (λ b. b .fromEnd) bs v i x ≡ turn N a k recs froms tos (found (sent fromEnd) v) (2 * i + 1) (turn N a k recs froms tos (found (sent fromEnd) v) (2 * i) x)
