@@ -1,13 +1,15 @@
 -- What the program hands to its output: a `bad` line, or one piece of the listing after another. Assumes nothing.
-use Rattle.whole.specs.Plain.{ℕ, suc, _+_, _≤_, _≡_, _≢_, refl, sym, ap, _∙_, List, [], _∷_, _++_, pos, length, drop, zero}
-use Rattle.whole.specs.Plain.{length-append, decLt, arith, Words}
+use Rattle.whole.specs.Plain.{ℕ, suc, _+_, _≤_, _≡_, _≢_, refl, sym, ap, _∙_, Bool, false, not, List, [], _∷_, _++_}
+use Rattle.whole.specs.Plain.{pos, length, drop, zero, length-append, decLt, arith, Words}
 use native.Mathlib.Numerals.{add-one}
 use Rattle.paper.specs.declared.Reading.{Reading}
 use Rattle.paper.specs.declared.Listing.{Listing}
 use Rattle.paper.specs.declared.Listing.the-variants as L
 use Rattle.paper.specs.Limits as Limits
 use Rattle.paper.specs.Rows.{bytes}
-use Rattle.paper.specs.Answers.{readingNumber, readingLine}
+use Rattle.paper.specs.declared.Advance.{Advance}
+use Rattle.paper.specs.declared.Advance.the-variants as A
+use Rattle.paper.specs.Answers.{readingNumber, readingLine, accepted}
 use Rattle.paper.specs.Advance.{Memory}
 use Rattle.paper.specs.Listing.{shown, shownAll, lineOf}
 use Rattle.paper.specs.Pieces.{Listed, listOf, Lists}
@@ -34,17 +36,47 @@ Follows x (Last y) = (y ≡ x) × (x ≢ L.More)
 Follows x (Stopped a y) = x ≡ L.Stopped a y
 Follows x Unwritten = Unit {0}
 
--- the last piece's answer, taken apart
+-- whether a listing ended by an area's refusal
+abbrev pub stops : Listing → Bool
+stops (L.Stopped a x) = not (accepted x)
+stops L.More = false
+stops L.Done = false
+stops L.Network = false
+stops L.Store = false
+stops L.State = false
+
+pub not-stopped : (x : Listing) → ((a : ℕ) (y : Advance) → x ≢ L.Stopped a y) → stops x ≡ false
+not-stopped (L.Stopped a y) h = absurd (h a y refl)
+not-stopped L.More h = refl
+not-stopped L.Done h = refl
+not-stopped L.Network h = refl
+not-stopped L.Store h = refl
+not-stopped L.State h = refl
+
+pub not-taken : (y : Advance) → ((k : ℕ) → y ≢ A.Took k) → accepted y ≡ false
+not-taken (A.Took k) h = absurd (h k refl)
+not-taken A.Network h = refl
+not-taken A.Store h = refl
+not-taken A.State h = refl
+not-taken A.Area h = refl
+not-taken A.Done h = refl
+not-taken (A.Wait b) h = refl
+not-taken (A.Floating n) h = refl
+not-taken (A.Range n) h = refl
+not-taken (A.Unbalanced n) h = refl
+not-taken (A.History b) h = refl
+
+-- the last piece's answer, taken apart: what an area's refusal ended, and what ended otherwise
 abbrev pub Closes : Listing → Next → Type 0
 Closes x More = ⊥
-Closes x (Last y) = y ≡ x
-Closes x (Stopped a y) = x ≡ L.Stopped a y
+Closes x (Last y) = (y ≡ x) × (stops x ≡ false)
+Closes x (Stopped a y) = (x ≡ L.Stopped a y) × (accepted y ≡ false)
 Closes x Unwritten = ⊥
 
 pub follows-last : {x y : Listing} (r : Next) → y ≡ x → x ≢ L.More → Closes y r → Follows x r
 follows-last More e h c = absurd c
-follows-last (Last z) e h c = (c ∙ e, h)
-follows-last (Stopped a z) e h c = sym e ∙ c
+follows-last (Last z) e h c = (c .0 ∙ e, h)
+follows-last (Stopped a z) e h c = sym e ∙ c .0
 follows-last Unwritten e h c = absurd c
 
 -- the buffer with these bytes at its start
