@@ -12,10 +12,10 @@ use step_factors::Matrix;
 pub extern "C" fn numbers_all_within(xs: &[i64], most: i64) -> bool
     ensures { λ r. ⌜ r ≡ wordsJudged most (was xs) ⌝ }
 {
-    if most < 0 {
-        return false;
+    if 0 <= most {
+        return whole::all_within(xs, most);
     }
-    whole::all_within(xs, most)
+    false
 }
 
 #[no_mangle]
