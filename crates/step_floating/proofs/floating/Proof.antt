@@ -6,22 +6,23 @@ use Rattle.paper.specs.Floating as Paper
 use Rattle.step_legs.specs.Wires.{legsIn}
 use Rattle.step_legs.specs.Free.{first-done}
 use Rattle.step_floating.specs.Search.{loose}
-use Rattle.step_floating.specs.Answer.{State, state-start, state-next, left, left-less, floats, search-on, search-found}
+use Rattle.step_floating.specs.Answer.{State, state-start, state-next, state-visit, left, left-next, left-visit, floats, search-on, search-found}
 use Rattle.step_floating.proofs.floating.Statement.{statement}
 use Rattle.step_floating.proofs.floating.Tie as tie
 
 abbrev Inv-branches : tie.InvT-branches
-Inv-branches legs free marks₀ j₀ calm₀ place node marks j calm = State legs free marks j calm
+Inv-branches legs free marks₀ list₀ listed₀ visited₀ j₀ place node marks list listed visited j = State legs free marks list listed visited j
 
 abbrev μ-branches : tie.MeasureT-branches
-μ-branches legs free marks₀ j₀ calm₀ place node marks j calm = left (length legs) marks calm
+μ-branches legs free marks₀ list₀ listed₀ visited₀ j₀ place node marks list listed visited j = left (length legs) marks listed j
 
 abbrev Inv-nodes : tie.InvT-nodes
-Inv-nodes legs free marks₀ j₀ calm₀ place₀ marks j calm place =
-    (place ≤ length free) × (State legs free marks j calm × (Paper.floating (loose free) Limits.nodeEnd free (legsIn legs) ≡ first (floats legs free) (drop place free)))
+Inv-nodes legs free marks₀ list₀ listed₀ visited₀ j₀ place₀ marks list listed visited j place =
+    (place ≤ length free)
+    × (State legs free marks list listed visited j × (Paper.floating (loose free) Limits.nodeEnd free (legsIn legs) ≡ first (floats legs free) (drop place free)))
 
 abbrev μ-nodes : tie.MeasureT-nodes
-μ-nodes legs free marks₀ j₀ calm₀ place₀ marks j calm place = length free - place
+μ-nodes legs free marks₀ list₀ listed₀ visited₀ j₀ place₀ marks list listed visited j place = length free - place
 
 nodes-holds : tie.Need-nodes-holds Inv-branches μ-branches Inv-nodes μ-nodes
 unfolding Paper.floating
@@ -36,31 +37,40 @@ start-of b = b .before .before .before .before .before .before
 node-end : (b : tie.At-branches Inv-branches μ-branches Inv-nodes μ-nodes) → getD (start-of b .args .free .now) (b .before .before .before .nodes .place) 0 ≤ 32
 node-end b = start-of b .pre .1 .node (b .before .before .before .nodes .place) (b .before .before .if1 .left)
 
-spread-leg-requires : tie.Need-spread-leg-requires Inv-branches μ-branches Inv-nodes μ-nodes
-spread-leg-requires c κs =
-    let e = c .before in
-    let b = e .before .before in
-    (start-of b .pre .0, (b .branches .inv .circle .place (omega (arith, e .if2 .left)), e .if2 .left))
-
-add-around : tie.Need-add-around Inv-branches μ-branches Inv-nodes μ-nodes
-add-around c =
+visit-leg-requires : tie.Need-visit-leg-requires Inv-branches μ-branches Inv-nodes μ-nodes
+visit-leg-requires c κs =
     let e = c .before .before in
     let b = e .before .before in
-    omega (arith, b .branches .inv .circle .place (omega (arith, e .if2 .left)), start-of b .good)
+    (start-of b .pre .0, (e .if2 .taken, b .branches .inv .room))
+
+add-j : tie.Need-add-j Inv-branches μ-branches Inv-nodes μ-nodes
+add-j c =
+    let e = c .before .before .before in
+    omega (arith, e .if2 .taken, start-of (e .before .before) .good)
 
 branches-less : tie.Need-branches-less Inv-branches μ-branches Inv-nodes μ-nodes
 branches-less c =
     let e = c .before .before .before in
     let b = e .before .before in
-    let t = c .before .spread-leg .ensures in
-    rw (t .0, t .1) (left-less (start-of b .pre .0) (b .branches .inv) (e .if2 .left))
+    let t = c .visit-leg .ensures in
+    rw (t .0, t .1 .0) (left-next (start-of b .pre .0) (b .branches .inv) (e .if2 .taken))
 
 branches-again : tie.Need-branches-again Inv-branches μ-branches Inv-nodes μ-nodes
 branches-again c =
     let e = c .before .before .before in
     let b = e .before .before in
-    let t = c .before .spread-leg .ensures in
-    rw (t .0, t .1, c .around .ensures) (state-next (start-of b .pre .0) (b .branches .inv) (e .if2 .left))
+    let t = c .visit-leg .ensures in
+    rw (t .0, t .1 .0, t .1 .1) (state-next (start-of b .pre .0) (b .branches .inv) (e .if2 .taken))
+
+-- ---- at the next visit
+array-read-visited : tie.Need-array-read-visited Inv-branches μ-branches Inv-nodes μ-nodes
+array-read-visited c = omega (arith, c .if3 .left, c .before .before .before .branches .inv .room .room)
+
+branches-less-2 : tie.Need-branches-less-2 Inv-branches μ-branches Inv-nodes μ-nodes
+branches-less-2 c = let e = c .before in left-visit (e .before .before .branches .inv) (e .if2 .left) (c .if3 .left)
+
+branches-again-2 : tie.Need-branches-again-2 Inv-branches μ-branches Inv-nodes μ-nodes
+branches-again-2 c = let e = c .before in state-visit (e .before .before .branches .inv) (e .if2 .left) (c .if3 .left)
 
 -- ---- from node to node
 nodes-again : tie.Need-nodes-again Inv-branches μ-branches Inv-nodes μ-nodes
@@ -78,9 +88,10 @@ returns c =
 
 returns-2 : tie.Need-returns-2 Inv-branches μ-branches Inv-nodes μ-nodes
 returns-2 c =
-    let b = c .before .before in
+    let e = c .before in
+    let b = e .before .before in
     let n = b .before .before in
-    sym (search-found (b .branches .inv) (start-of b .pre .1) (n .if1 .left) (n .before .nodes .inv .1 .1) (c .if2 .taken) (c .before .branches-test .left))
+    sym (search-found (b .branches .inv) (start-of b .pre .1) (n .if1 .left) (n .before .nodes .inv .1 .1) (e .if2 .left) (c .if3 .taken) (e .before .branches-test .left))
 
 pub floating-spec : {M : Type 1} → statement M
 floating-spec =
@@ -96,12 +107,14 @@ floating-spec =
     (λ c. c .before .if1 .left)
     (λ c. c .before .before .nodes .inv .1 .0)
     (λ c. omega (arith, node-end c))
-    (λ c. omega (arith, node-end c))
-    spread-leg-requires
-    add-around
-    (λ c κs. tt)
+    visit-leg-requires
+    add-j
     branches-less
     branches-again
+    (λ c. omega (arith, c .if3 .left))
+    array-read-visited
+    branches-less-2
+    branches-again-2
     (λ c. let b = c .before in omega (arith, b .before .before .if1 .left, start-of b .good))
     (λ c. omega (arith, c .before .before .before .if1 .left))
     nodes-again

@@ -26,8 +26,17 @@ returns-2 c = let t = c .before in rw (live _ (t .before .before .if1 .left), eq
 
 returns-3 : tie.Need-returns-3
 unfolding reaches
-returns-3 c = let t = c .before in rw (live _ (t .before .before .if1 .left), ne-eqb _ 0 (t .if2 .left))
+returns-3 c =
+    let t = c .before in
+    let u = t .before .before in
+    rw (live _ (u .before .before .if1 .left), ne-eqb _ 0 (u .if2 .left), eq-eqb _ 0 (t .if3 .taken))
+
+returns-4 : tie.Need-returns-4
+unfolding reaches
+returns-4 c =
+    let u = c .before .before in
+    rw (live _ (u .before .before .if1 .left), ne-eqb _ 0 (u .if2 .left), ne-eqb _ 0 (c .if3 .left))
 
 pub reaches-spec : {M : Type 1} → statement M
 reaches-spec =
-    tie.close (tie.spec returns (λ c. search needs) (λ c. search needs) (λ c. search needs) (λ c. search needs) returns-2 (λ c. search needs) (λ c. search needs) returns-3)
+    tie.close (tie.spec returns (λ c. search needs) (λ c. search needs) returns-2 (λ c. search needs) (λ c. search needs) returns-3 returns-4)
