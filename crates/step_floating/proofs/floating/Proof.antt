@@ -48,13 +48,6 @@ add-j c =
     let e = c .before .before .before in
     omega (arith, e .if2 .taken, start-of (e .before .before) .good)
 
-branches-less : tie.Need-branches-less Inv-branches μ-branches Inv-nodes μ-nodes
-branches-less c =
-    let e = c .before .before .before in
-    let b = e .before .before in
-    let t = c .visit-leg .ensures in
-    rw (t .0, t .1 .0) (left-next (start-of b .pre .0) (b .branches .inv) (e .if2 .taken))
-
 branches-again : tie.Need-branches-again Inv-branches μ-branches Inv-nodes μ-nodes
 branches-again c =
     let e = c .before .before .before in
@@ -62,15 +55,22 @@ branches-again c =
     let t = c .visit-leg .ensures in
     rw (t .0, t .1 .0, t .1 .1) (state-next (start-of b .pre .0) (b .branches .inv) (e .if2 .taken))
 
+branches-less : tie.Need-branches-less Inv-branches μ-branches Inv-nodes μ-nodes
+branches-less c =
+    let e = c .before .before .before in
+    let b = e .before .before in
+    let t = c .visit-leg .ensures in
+    rw (t .0, t .1 .0) (left-next (start-of b .pre .0) (b .branches .inv) (e .if2 .taken))
+
 -- ---- at the next visit
 array-read-visited : tie.Need-array-read-visited Inv-branches μ-branches Inv-nodes μ-nodes
 array-read-visited c = omega (arith, c .if3 .left, c .before .before .before .branches .inv .room .room)
 
-branches-less-2 : tie.Need-branches-less-2 Inv-branches μ-branches Inv-nodes μ-nodes
-branches-less-2 c = let e = c .before in left-visit (e .before .before .branches .inv) (e .if2 .left) (c .if3 .left)
-
 branches-again-2 : tie.Need-branches-again-2 Inv-branches μ-branches Inv-nodes μ-nodes
 branches-again-2 c = let e = c .before in state-visit (e .before .before .branches .inv) (e .if2 .left) (c .if3 .left)
+
+branches-less-2 : tie.Need-branches-less-2 Inv-branches μ-branches Inv-nodes μ-nodes
+branches-less-2 c = let e = c .before in left-visit (e .before .before .branches .inv) (e .if2 .left) (c .if3 .left)
 
 -- ---- from node to node
 nodes-again : tie.Need-nodes-again Inv-branches μ-branches Inv-nodes μ-nodes
