@@ -2,7 +2,7 @@
  *
  * The caller lends all memory; the library allocates nothing and keeps nothing between calls. Lent pieces must not overlap.
  * Every call settles its answer and every lent word on all inputs: a wrong length, a damaged record or a damaged text is refused by a
- * number, and a refused call leaves all lent memory as it was. What is answered beside the number (*line, *place, *written, *area, *number)
+ * number, and a refused call leaves all lent memory as it was. One lent thing is left open, the room of emt_advance_in. What is answered beside the number (*line, *place, *written, *area, *number)
  * is always written.
  *
  * Units: voltage 0.1 V, current 0.1 nA, conductance nS, time ns. */
@@ -94,6 +94,28 @@ uint64_t emt_reset(const int64_t *network, size_t network_len, int64_t *records,
  * Areas may advance in any order: what each has after so many steps does not depend on it. */
 uint64_t emt_advance(const int64_t *network, size_t network_len, int64_t *records, size_t records_len, int64_t *froms,
                      size_t froms_len, int64_t *tos, size_t tos_len, uint64_t area, uint64_t *place);
+
+/* Working room for emt_advance_in. Its words may hold anything before a call and are left open after it, whatever the answer. */
+struct emt_room {
+    uint64_t plan[EMT_ROWS][12];
+    int64_t legs[2 * EMT_ROWS][9];
+    double factors[EMT_NODES][EMT_NODES];
+};
+#define EMT_ROOM_BYTES 27392 /* its size; another that is stated is refused by EMT_STORE, and the room is not touched */
+
+/* What emt_advance_in calls. */
+uint64_t emt_advance_in_tables(const int64_t *network, size_t network_len, int64_t *records, size_t records_len, int64_t *froms,
+                               size_t froms_len, int64_t *tos, size_t tos_len, uint64_t area, uint64_t *place, uint64_t plan[EMT_ROWS][12],
+                               int64_t legs[2 * EMT_ROWS][9], double factors[EMT_NODES][EMT_NODES], size_t room_bytes);
+
+/* emt_advance for a caller with little stack: the tables that it would have there are in a lent room, sizeof *room bytes. The same answers,
+ * the same *place and the same lent words but the room's; it may be lent again to any call. docs/BENCHMARK.md has the bytes of stack. */
+static inline uint64_t emt_advance_in(const int64_t *network, size_t network_len, int64_t *records, size_t records_len, int64_t *froms,
+                                      size_t froms_len, int64_t *tos, size_t tos_len, uint64_t area, uint64_t *place,
+                                      struct emt_room *room, size_t room_bytes) {
+    return emt_advance_in_tables(network, network_len, records, records_len, froms, froms_len, tos, tos_len, area, place, room->plan,
+                                 room->legs, room->factors, room_bytes);
+}
 
 /* Advances all areas in rising order, full step after full step, and lists each into out: the lines of emtrun. *written bytes
  * of out are written. Answers 0 when done, EMT_MORE, EMT_STOPPED, or 8 to 10. With EMT_STOPPED *area is the area that was refused its

@@ -1,6 +1,6 @@
 #!/usr/bin/env bash
 # Every number of include/emt.h is the definitions' own: limits and lengths (crates/paper/specs/Limits), where the records have their words (Where), the
-# numbers of the answers (Answers, Pieces). Closing line: N passed, M failed.
+# numbers of the answers (Answers, Pieces), the size of the lent room (crates/emt/specs/Numbered). Closing line: N passed, M failed.
 set -u
 cd "$(dirname "$0")/.." || exit 1
 
@@ -41,6 +41,11 @@ while [ $# -gt 1 ]; do
     expect "EMT_$1(7)" "$((${place//[anr]/7}))"
     shift 2
 done
+
+# the lent room, as it is stated and as C lays it out
+room=$(sed -n 's/^roomBytes = //p' crates/emt/specs/Numbered.antt)
+expect EMT_ROOM_BYTES "$((room))"
+expect 'sizeof(struct emt_room)' "$((room))"
 
 # refusals by name; what is accepted is 0
 while read -r name number; do

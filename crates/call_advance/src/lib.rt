@@ -1,96 +1,130 @@
 // An area's advance. "Advancing: 9, 8, then 10 to 17"; "Every refusal leaves all lent memory unchanged."
-ghost use Rattle.whole.specs.Plain.{_≡_, true};
-ghost use Rattle.whole.specs.Loans.{was};
+ghost use Rattle.whole.specs.Plain.{_+_, _*_, _≡_, true, length};
+ghost use Rattle.whole.specs.Loans.{was, is};
+ghost use Rattle.paper.specs.Limits as Limits;
 ghost use Rattle.paper.specs.Network.{isNetwork};
 ghost use Rattle.paper.specs.Advance as Paper;
-ghost use Rattle.paper.specs.Advance.{memory, advanced, onNext, onNet};
+ghost use Rattle.paper.specs.Advance.{memory, advanced};
 ghost use Rattle.paper.specs.One.{Advances};
 ghost use Rattle.paper.specs.Lent.{lent, before, after};
 ghost use Rattle.laws_facts.specs.Nets.{netIn};
-ghost use Rattle.call_counts.specs.Counts.{Counted};
 ghost use Rattle.call_state.specs.Judged.{Long};
+ghost use Rattle.step_factors.specs.Factors.{Square};
 ghost use Rattle.step_area.specs.Stepping.{Stepping};
 ghost use Rattle.call_advance.specs.Given.{Seen, turnAt};
+ghost use Rattle.call_advance.specs.Judging.{refusal, OnNet, Judges};
 use paper::Advance;
 use paper::Node;
 use paper::Room;
 use plan_rows::Table;
 use plan_rows::Totals;
 use step_area::Turn;
+use step_factors::Matrix;
+use step_legs::Line;
 
-// The step, from tables that hold this one area: a call that is refused before does not pay for them.
-fn alone(
-    net: &[i64],
-    plan: &Table,
-    areas: &[usize; Node::PLACES],
-    totals: Totals,
-    records: &mut [i64],
-    froms: &mut [i64],
-    tos: &mut [i64],
-    turn: Turn,
-) -> Advance
-    requires { ⌜ Seen (now net) (now plan) (now areas) totals ⌝ }
-    requires { ⌜ Stepping (netIn (now net)) 1 (totals .areas) turn (lent records froms tos) ⌝ }
-    ensures { λ r. ⌜ advanced r (after records froms tos)
-        ≡ Paper.ready (netIn (was net)) (turn .area) (turn .k) (before records froms tos) ⌝ }
-{
-    let fixed = plan_lay::fixed_nodes(net, totals.rows);
-    let at = plan_own::nothing();
-    let mut legs = [[0; 9]; 2 * Room::ROWS];
-    let mut nodes = [0; Node::MAX as usize];
-    let mut sources = [[0; 5]; Room::SOURCES];
-    let own = plan_own::lay_area(
-        net,
-        plan,
-        areas,
-        &fixed,
-        totals,
-        turn.area,
-        at,
-        &mut legs,
-        &mut nodes,
-        &mut sources,
-    );
-    let mut owns = [[0; 8]; Node::PLACES];
-    plan_own::put_own(&mut owns, turn.area, own);
-    let mut factors = [[0.0; Node::MAX as usize]; Node::MAX as usize];
-    step_area::ready(
-        plan,
-        &mut owns,
-        &mut legs,
-        &nodes,
-        &sources,
-        &mut factors,
-        records,
-        froms,
-        tos,
-        turn,
-    )
+// two legs for each row
+pub type Legs = [Line; 2 * Room::ROWS];
+
+// ---- the tests before a step
+
+// What they come to: the refusal, k being 0, or the step k that the area may try, and the network's counts.
+pub struct Judged {
+    pub answer: Advance,
+    pub totals: Totals,
+    pub k: usize,
 }
 
-// 13, or the step.
-fn next(
-    net: &[i64],
-    plan: &Table,
-    areas: &[usize; Node::PLACES],
-    totals: Totals,
-    records: &mut [i64],
-    froms: &mut [i64],
-    tos: &mut [i64],
-    turn: Turn,
-) -> Advance
-    requires { ⌜ Seen (now net) (now plan) (now areas) totals × Counted (now plan) (totals .rows) (now records) ⌝ }
-    requires { ⌜ Stepping (netIn (now net)) 1 (totals .areas) turn (lent records froms tos) ⌝ }
-    ensures { λ r. ⌜ advanced r (after records froms tos)
-        ≡ onNext (netIn (was net)) (turn .area) (turn .k) (before records froms tos) ⌝ }
+fn refused(totals: Totals, answer: Advance) -> Judged
+    ensures { λ r. ⌜ r ≡ refusal totals answer ⌝ }
 {
-    let late = call_counts::first_late(plan, totals.rows, records, turn.area, turn.k);
+    Judged {
+        answer,
+        totals,
+        k: 0,
+    }
+}
+
+// 10, 11, 12 and 13 in turn, of a network that passes.
+fn on_network(
+    net: &[i64],
+    records: &[i64],
+    froms: &[i64],
+    tos: &[i64],
+    area: usize,
+    areas: &mut [usize; Node::PLACES],
+    plan: &mut Table,
+) -> Judged
+    requires { ⌜ (isNetwork (now net) ≡ true) × Long (now records) (now froms) (now tos) ⌝ }
+    requires { ⌜ (length (now areas) ≡ Limits.nodeEnd + 1) × (length (now plan) ≡ Limits.rowEnd) ⌝ }
+    ensures { λ r. ⌜ Judges (OnNet (was net) area (before records froms tos)) (was net) area (before records froms tos) r
+        (is plan) (is areas) ⌝ }
+{
+    let totals = plan_rows::make(net, areas, plan);
+    if !call_state::well_formed(plan, totals, records, froms, tos) {
+        return refused(totals, Advance::State);
+    }
+    if area < 1 {
+        return refused(totals, Advance::Area);
+    }
+    if totals.areas < area {
+        return refused(totals, Advance::Area);
+    }
+    let taken = call_counts::count_of(records, area);
+    if totals.steps <= taken {
+        return refused(totals, Advance::Done);
+    }
+    let k = taken + 1;
+    let late = call_counts::first_late(plan, totals.rows, records, area, k);
     if late != 0 {
         let row = plan_rows::row_at(plan, late - 1);
-        return Advance::Wait(row.number as u64);
+        return refused(totals, Advance::Wait(row.number as u64));
     }
-    alone(net, plan, areas, totals, records, froms, tos, turn)
+    Judged {
+        answer: Advance::Took(k as u64),
+        totals,
+        k,
+    }
 }
+
+// A refusal before the network is read.
+fn unread(answer: Advance) -> Judged
+    ensures { λ r. ⌜ (r .answer ≡ answer) × (r .k ≡ 0) ⌝ }
+{
+    let totals = Totals {
+        rows: 0,
+        nodes: 0,
+        areas: 0,
+        slots: 0,
+        steps: 0,
+        limit: 0,
+    };
+    refused(totals, answer)
+}
+
+// 9, 8, then the others.
+fn judge(
+    network: &[i64],
+    records: &[i64],
+    froms: &[i64],
+    tos: &[i64],
+    area: usize,
+    areas: &mut [usize; Node::PLACES],
+    plan: &mut Table,
+) -> Judged
+    requires { ⌜ (length (now areas) ≡ Limits.nodeEnd + 1) × (length (now plan) ≡ Limits.rowEnd) ⌝ }
+    ensures { λ r. ⌜ Judges (Advances (was network) area (before records froms tos)) (was network) area
+        (before records froms tos) r (is plan) (is areas) ⌝ }
+{
+    if !call_lent::fits(network, records, froms, tos) {
+        return unread(Advance::Store);
+    }
+    if !call_network::is_network(network) {
+        return unread(Advance::Network);
+    }
+    on_network(network, records, froms, tos, area, areas, plan)
+}
+
+// ---- the step
 
 // Step k of an area, within the network's limit.
 fn turn_at(totals: Totals, area: usize, k: usize) -> Turn
@@ -103,37 +137,96 @@ fn turn_at(totals: Totals, area: usize, k: usize) -> Turn
     }
 }
 
-// 10, 11, 12, then the rest, of a network that passes.
-fn on_network(
+// From tables that hold this one area.
+fn alone(
     net: &[i64],
+    plan: &Table,
+    areas: &[usize; Node::PLACES],
+    totals: Totals,
+    records: &mut [i64],
+    froms: &mut [i64],
+    tos: &mut [i64],
+    turn: Turn,
+    legs: &mut [Line],
+    factors: &mut Matrix,
+) -> Advance
+    requires { ⌜ Seen (now net) (now plan) (now areas) totals ⌝ }
+    requires { ⌜ Stepping (netIn (now net)) 1 (totals .areas) turn (lent records froms tos) ⌝ }
+    requires { ⌜ (length (now legs) ≡ 2 * Limits.rowEnd) × Square (now factors) ⌝ }
+    ensures { λ r. ⌜ advanced r (after records froms tos)
+        ≡ Paper.ready (netIn (was net)) (turn .area) (turn .k) (before records froms tos) ⌝ }
+{
+    let fixed = plan_lay::fixed_nodes(net, totals.rows);
+    let at = plan_own::nothing();
+    let mut nodes = [0; Node::MAX as usize];
+    let mut sources = [[0; 5]; Room::SOURCES];
+    let own = plan_own::lay_area(
+        net,
+        plan,
+        areas,
+        &fixed,
+        totals,
+        turn.area,
+        at,
+        legs,
+        &mut nodes,
+        &mut sources,
+    );
+    let mut owns = [[0; 8]; Node::PLACES];
+    plan_own::put_own(&mut owns, turn.area, own);
+    step_area::ready(
+        plan,
+        &mut owns,
+        legs,
+        &nodes,
+        &sources,
+        factors,
+        records,
+        froms,
+        tos,
+        turn,
+    )
+}
+
+// ---- the calls
+
+// The tables lent: whatever stands in them is cleared first, and nothing is promised of what is left there. A call that is refused pays for the plan alone.
+pub fn advance_in(
+    network: &[i64],
     records: &mut [i64],
     froms: &mut [i64],
     tos: &mut [i64],
     area: usize,
+    plan: &mut Table,
+    legs: &mut Legs,
+    factors: &mut Matrix,
 ) -> Advance
-    requires { ⌜ (isNetwork (now net) ≡ true) × Long (now records) (now froms) (now tos) ⌝ }
-    ensures { λ r. ⌜ advanced r (after records froms tos) ≡ onNet (netIn (was net)) area (before records froms tos) ⌝ }
+    ensures { λ r. ⌜ Advances (was network) area (before records froms tos) r (after records froms tos) ⌝ }
 {
     let mut areas = [0; Node::PLACES];
-    let mut plan = [[0; 12]; Room::ROWS];
-    let totals = plan_rows::make(net, &mut areas, &mut plan);
-    if !call_state::well_formed(&plan, totals, records, froms, tos) {
-        return Advance::State;
+    *plan = [[0; 12]; Room::ROWS];
+    let judged = judge(network, records, froms, tos, area, &mut areas, plan);
+    if judged.k == 0 {
+        return judged.answer;
     }
-    if area < 1 {
-        return Advance::Area;
-    }
-    if totals.areas < area {
-        return Advance::Area;
-    }
-    let taken = call_counts::count_of(records, area);
-    if totals.steps <= taken {
-        return Advance::Done;
-    }
-    let turn = turn_at(totals, area, taken + 1);
-    next(net, &plan, &areas, totals, records, froms, tos, turn)
+    let turn = turn_at(judged.totals, area, judged.k);
+    *legs = [[0; 9]; 2 * Room::ROWS];
+    *factors = [[0.0; Node::MAX as usize]; Node::MAX as usize];
+    alone(
+        network,
+        plan,
+        &areas,
+        judged.totals,
+        records,
+        froms,
+        tos,
+        turn,
+        legs,
+        factors,
+    )
 }
 
+// The same, with tables of its own.
 pub fn advance(
     network: &[i64],
     records: &mut [i64],
@@ -143,11 +236,25 @@ pub fn advance(
 ) -> Advance
     ensures { λ r. ⌜ Advances (was network) area (before records froms tos) r (after records froms tos) ⌝ }
 {
-    if !call_lent::fits(network, records, froms, tos) {
-        return Advance::Store;
+    let mut areas = [0; Node::PLACES];
+    let mut plan = [[0; 12]; Room::ROWS];
+    let judged = judge(network, records, froms, tos, area, &mut areas, &mut plan);
+    if judged.k == 0 {
+        return judged.answer;
     }
-    if !call_network::is_network(network) {
-        return Advance::Network;
-    }
-    on_network(network, records, froms, tos, area)
+    let turn = turn_at(judged.totals, area, judged.k);
+    let mut legs = [[0; 9]; 2 * Room::ROWS];
+    let mut factors = [[0.0; Node::MAX as usize]; Node::MAX as usize];
+    alone(
+        network,
+        &plan,
+        &areas,
+        judged.totals,
+        records,
+        froms,
+        tos,
+        turn,
+        &mut legs,
+        &mut factors,
+    )
 }

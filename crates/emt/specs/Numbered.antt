@@ -1,9 +1,10 @@
 -- The calls as C sees them: the paper's number for the answer, and beside it the line, the place or the count, or what stopped a listing;
 -- and T-one, that each contract leaves nothing open. Assumes nothing.
-use Rattle.whole.specs.Plain.{ℕ, _+_, _≡_, sym, _∙_, List, _++_, length, drop, Words}
+use Rattle.whole.specs.Plain.{ℕ, _+_, _*_, _≡_, sym, _∙_, cond, eqb, eq-eqb, ne-eqb, List, _++_, length, drop, Words}
+use Rattle.paper.specs.declared.Advance.the-variants.{Store}
 use Rattle.paper.specs.Answers.{readingNumber, readingLine, resettingNumber, advanceNumber, advancePlace, advanceCount}
 use Rattle.paper.specs.Reading.{readOf}
-use Rattle.paper.specs.Advance.{Memory, advanceOf}
+use Rattle.paper.specs.Advance.{Memory, Advanced, advanced, advanceOf}
 use Rattle.paper.specs.Resetting.{resetOf}
 use Rattle.paper.specs.Pieces.{listingNumber, stopArea, stopNumber, stopPlace, listOf}
 
@@ -31,6 +32,38 @@ pub record AdvancesBy (net : Words) (a : ℕ) (m : Memory) (number place : ℕ) 
 pub advance-by-one : (net : Words) (a : ℕ) (m : Memory) {x y l k : ℕ} {v w : Memory}
     → AdvancesBy net a m x l v → AdvancesBy net a m y k w → (x ≡ y) × ((l ≡ k) × (v ≡ w))
 advance-by-one net a m p q = (p .answer ∙ sym (q .answer), (p .place-of ∙ sym (q .place-of), p .memory ∙ sym (q .memory)))
+
+-- the bytes of the lent room: a plan of 80 rows with 12 words each, 160 legs with 9 each, and 32 times 32 doubles
+abbrev pub roomBytes : ℕ
+roomBytes = 8 * (80 * 12 + 160 * 9 + 32 * 32)
+
+-- 9 for a room of another size; else what comes of the call without one
+unfoldable pub advanceIn : ℕ → Words → ℕ → Memory → Advanced
+advanceIn room net a m = cond (eqb room roomBytes) (advanceOf net a m) (advanced Store m)
+
+pub record AdvancesIn (room : ℕ) (net : Words) (a : ℕ) (m : Memory) (number place : ℕ) (after : Memory) : Type 0 where
+  pub answer : number ≡ advanceNumber (advanceIn room net a m .answer)
+  pub place-of : place ≡ advancePlace (advanceIn room net a m .answer) + advanceCount (advanceIn room net a m .answer)
+  pub memory : after ≡ advanceIn room net a m .after
+
+module _ {room : ℕ} (net : Words) (a : ℕ) (m : Memory) where
+  pub other-room : {x : ℕ} → (room ≡ roomBytes → ⊥) → x ≡ advanceNumber Store → AdvancesIn room net a m x 0 m
+  unfolding advanceIn
+  other-room n e = record { answer = rw (ne-eqb room roomBytes n) e; place-of = rw (ne-eqb room roomBytes n); memory = rw (ne-eqb room roomBytes n) }
+
+  pub right-room : {x l : ℕ} {v : Memory} → room ≡ roomBytes → AdvancesBy net a m x l v → AdvancesIn room net a m x l v
+  unfolding advanceIn
+  right-room e p = record { answer = rw (eq-eqb room roomBytes e) (p .answer); place-of = rw (eq-eqb room roomBytes e) (p .place-of); memory = rw (eq-eqb room roomBytes e) (p .memory) }
+
+-- of the room itself nothing is said: its words after the call are open
+pub advance-in-one : (room : ℕ) (net : Words) (a : ℕ) (m : Memory) {x y l k : ℕ} {v w : Memory}
+    → AdvancesIn room net a m x l v → AdvancesIn room net a m y k w → (x ≡ y) × ((l ≡ k) × (v ≡ w))
+advance-in-one room net a m p q = (p .answer ∙ sym (q .answer), (p .place-of ∙ sym (q .place-of), p .memory ∙ sym (q .memory)))
+
+-- in a room of the right size, the answer and all lent words but the room's are those of the call without one
+pub in-room : (net : Words) (a : ℕ) (m : Memory) {x l : ℕ} {v : Memory} → AdvancesIn roomBytes net a m x l v → AdvancesBy net a m x l v
+unfolding advanceIn
+in-room net a m p = record { answer = p .answer; place-of = p .place-of; memory = p .memory }
 
 pub record ListsBy (net : Words) (m : Memory) (out : List ℕ) (answered written area number place : ℕ) (b : List ℕ) (after : Memory) : Type 0 where
   pub answer : answered ≡ listingNumber (listOf net m (length out) .answer)

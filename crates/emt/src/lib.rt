@@ -2,7 +2,11 @@
 // the crates below, by one name.
 ghost use Rattle.whole.specs.Loans.{was, is};
 ghost use Rattle.paper.specs.Lent.{before, after};
-ghost use Rattle.emt.specs.Numbered.{ReadsBy, ResetsBy, AdvancesBy, ListsBy};
+ghost use Rattle.emt.specs.Numbered.{ReadsBy, ResetsBy, AdvancesBy, AdvancesIn, ListsBy};
+use call_advance::Legs;
+use paper::Advance;
+use plan_rows::Table;
+use step_factors::Matrix;
 
 // "Reading: 9, 7, then the first faulty line, in it 1 to 6 in turn"; "An accepted reading writes all 1,024 words, unused ones 0, and answers 0".
 pub use call_read::read;
@@ -48,6 +52,38 @@ pub extern "C" fn emt_advance(
     ensures { λ r. ⌜ AdvancesBy (was network) area (before records froms tos) r (is place) (after records froms tos) ⌝ }
 {
     let answer = call_advance::advance(network, records, froms, tos, area);
+    *place = call_answers::place_or_count(answer);
+    call_answers::advance_number(answer)
+}
+
+// The same with its tables lent, for a caller with little stack: what stands in them before the call counts for nothing, and what is left there is open.
+pub use call_advance::advance_in;
+
+// 8 bytes for each word of the plan, of the legs and of the factors.
+const ROOM_BYTES: usize = 27392;
+
+// The caller states how many bytes the room has that it lends: "a lent length wrong" is 9 here too.
+#[no_mangle]
+pub extern "C" fn emt_advance_in_tables(
+    network: &[i64],
+    records: &mut [i64],
+    froms: &mut [i64],
+    tos: &mut [i64],
+    area: usize,
+    place: &mut u64,
+    plan: &mut Table,
+    legs: &mut Legs,
+    factors: &mut Matrix,
+    room: usize,
+) -> u64
+    ensures { λ r. ⌜ AdvancesIn room (was network) area (before records froms tos) r (is place)
+        (after records froms tos) ⌝ }
+{
+    if room != ROOM_BYTES {
+        *place = 0;
+        return call_answers::advance_number(Advance::Store);
+    }
+    let answer = call_advance::advance_in(network, records, froms, tos, area, plan, legs, factors);
     *place = call_answers::place_or_count(answer);
     call_answers::advance_number(answer)
 }

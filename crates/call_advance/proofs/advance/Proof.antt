@@ -1,52 +1,31 @@
--- `call_advance::advance` meets its contract: 9, 8, then what the network says. Assumes nothing.
-use Rattle.whole.specs.Plain.{_≡_, sym, _∙_, true, not-true, not-false}
+-- `call_advance::advance` meets its contract: what is refused before, or the step, from its own tables. Assumes nothing.
+use Rattle.whole.specs.Plain.{refl, ap, [], length, getD-replicate}
 use borrow.Author.Needs.{needs}
-use Rattle.paper.specs.Network.{isNetwork}
-use Rattle.paper.specs.Advance.{Memory, memory, fits}
-use Rattle.call_lent.specs.Lengths.{lengths}
-use Rattle.call_advance.specs.Cases.{wrong-length, no-network, on-network}
 use Rattle.call_advance.proofs.advance.Statement.{statement}
 use Rattle.call_advance.proofs.advance.Tie as tie
 
-abbrev start : tie.After-fits2 → tie.Start
-start c = c .before .before .before .before
+abbrev judged : tie.Else1 → tie.After-judge
+judged e = e .before .before
 
-abbrev lentTo : tie.Start → Memory
-lentTo s = memory (s .args .records .now) (s .args .froms .now) (s .args .tos .now)
+abbrev turned : tie.After-factors → tie.After-turn-at
+turned c = c .before .before .before .before .before .before .before
 
-returns : tie.Need-returns
-returns c =
-    let f = c .before in
-    let s = start f in
-    wrong-length (s .args .network .now) (s .args .area) (lentTo s) (sym (f .fits2 .ensures) ∙ not-true (f .fits2 .result) (c .if1 .taken))
-
-good : (e : tie.Else1) → fits (start (e .before) .args .network .now) (lentTo (start (e .before))) ≡ true
-good e = sym (e .before .fits2 .ensures) ∙ not-false (e .before .fits2 .result) (e .if1 .left)
+alone-requires : tie.Need-alone-requires
+alone-requires c κs =
+    let u = turned c in
+    let e = u .before in
+    let t = judged e .judge .ensures .tries (e .if1 .left) in
+    (t .seen, (rw (u .turn-at .ensures) (t .stepping), (refl, record { lines = refl; line = λ q h. ap length (getD-replicate 32 q _ [] h) })))
 
 returns-2 : tie.Need-returns-2
 returns-2 c =
-    let e = c .before .before in
-    let s = start (e .before) in
-    no-network (s .args .network .now) (s .args .area) (lentTo s) (good e) (sym (c .before .is-network .ensures) ∙ not-true (c .before .is-network .result) (c .if2 .taken))
-
-passes : (e : tie.Else2) → isNetwork (start (e .before .before .before) .args .network .now) ≡ true
-passes e = sym (e .before .is-network .ensures) ∙ not-false (e .before .is-network .result) (e .if2 .left)
-
-on-network-requires : tie.Need-on-network-requires
-on-network-requires c κs =
-    let e = c .before .before .before in
-    let l = lengths _ _ (good (e .before .before)) in
-    (passes e, record { records-long = l .records; froms-long = l .froms; tos-long = l .tos })
-
-returns-3 : tie.Need-returns-3
-returns-3 c =
-    let n = c .before .before .before in
-    let e = n .before .before .before .before in
-    let s = start (e .before .before .before) in
-    on-network (s .args .network .now) (s .args .area) (lentTo s) _ _ (good (e .before .before)) (passes e) (n .on-network .ensures)
+    let a = c .before .before .before .before in
+    let u = turned (a .before) in
+    let e = u .before in
+    judged e .judge .ensures .tries (e .if1 .left) .ends _ _ (rw (u .turn-at .ensures) at (a .alone .ensures))
 
 pub advance-spec : {M : Type 1} → statement M
 advance-spec =
     tie.close
-    (tie.spec (λ c κs. search needs) (λ c. search needs) (λ c. search needs) (λ c. search needs) returns (λ c κs. lengths _ _ (good c) .network) (λ c. search needs) (λ c. search needs)
-    (λ c. search needs) returns-2 on-network-requires (λ c. search needs) (λ c. search needs) (λ c. search needs) returns-3)
+    (tie.spec (λ c κs. search needs) (λ c. search needs) (λ c. search needs) (λ c. search needs) (λ c. c .before .before .judge .ensures .refused (c .if1 .taken)) (λ c κs. search needs)
+    (λ c. search needs) alone-requires (λ c. search needs) (λ c. search needs) (λ c. search needs) returns-2)

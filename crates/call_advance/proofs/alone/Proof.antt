@@ -1,5 +1,5 @@
 -- `call_advance::alone` meets its contract: the tables hold the area's own, and its step from them is the paper's. Assumes nothing.
-use Rattle.whole.specs.Plain.{refl, ap, [], length, replicate, getD-replicate}
+use Rattle.whole.specs.Plain.{refl, replicate}
 use borrow.Author.Needs.{needs}
 use Rattle.laws_facts.specs.Nets.{netIn}
 use Rattle.plan_own.specs.Areas.{room-first}
@@ -16,15 +16,15 @@ lay-area-requires c κs =
     let s = start c in (
       given (s .pre .0) (n .before .fixed-nodes .ensures),
       (
-        record { legs-long = refl; nodes-long = refl; sources-long = refl },
-        (s .pre .1 .least, rw (n .nothing .ensures) (room-first (netIn (s .args .net .now)) (s .args .turn .area) (of (s .pre .0) .sound))),
+        record { legs-long = s .pre .1 .1 .0; nodes-long = refl; sources-long = refl },
+        (s .pre .1 .0 .least, rw (n .nothing .ensures) (room-first (netIn (s .args .net .now)) (s .args .turn .area) (of (s .pre .0) .sound))),
       ),
     )
 
 put-own-requires : tie.Need-put-own-requires
 put-own-requires c κs =
     let s = start (c .before .before .before .before .before) in
-    area-few (s .pre .0) (s .args .turn .area) (s .pre .1 .most)
+    area-few (s .pre .0) (s .args .turn .area) (s .pre .1 .0 .most)
 
 ready-requires : tie.Need-ready-requires
 ready-requires c κs =
@@ -36,9 +36,9 @@ ready-requires c κs =
       low = s .args .turn .area;
       high = s .args .turn .area;
       tables =
-          tables-alone (s .pre .0) (s .pre .1) (replicate 33 (replicate 8 0)) _ _ refl (p .put-own .ensures) (l .lay-area .ensures .0) (l .lay-area .ensures .1)
-          (record { lines = refl; line = λ q h. ap length (getD-replicate 32 q _ [] h) });
-      stepping = stepping-alone (s .pre .1);
+          tables-alone (s .pre .0) (s .pre .1 .0) (replicate 33 (replicate 8 0)) _ _ refl (p .put-own .ensures) (l .lay-area .ensures .0) (l .lay-area .ensures .1)
+          (s .pre .1 .1 .1);
+      stepping = stepping-alone (s .pre .1 .0);
     }
 
 returns : tie.Need-returns
@@ -51,5 +51,5 @@ returns c =
 pub alone-spec : {M : Type 1} → statement M
 alone-spec =
     tie.close
-    (tie.spec (λ c κs. (c .pre .0 .network, row-count (c .pre .0))) (λ c κs. search needs) (λ c. search needs) (λ c. search needs) (λ c. search needs) lay-area-requires put-own-requires
-    (λ c. search needs) (λ c. search needs) (λ c. search needs) ready-requires (λ c. search needs) (λ c. search needs) (λ c. search needs) returns)
+    (tie.spec (λ c κs. (c .pre .0 .network, row-count (c .pre .0))) (λ c κs. search needs) (λ c. search needs) (λ c. search needs) lay-area-requires put-own-requires
+    (λ c. search needs) (λ c. search needs) ready-requires (λ c. search needs) (λ c. search needs) (λ c. search needs) (λ c. search needs) returns)
