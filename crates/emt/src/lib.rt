@@ -83,9 +83,9 @@ pub extern "C" fn emt_advance_in_tables(
         *place = 0;
         return call_answers::advance_number(Advance::Store);
     }
-    let answer = call_advance::advance_in(network, records, froms, tos, area, plan, legs, factors);
-    *place = call_answers::place_or_count(answer);
-    call_answers::advance_number(answer)
+    let told = call_advance::advance_in(network, records, froms, tos, area, plan, legs, factors);
+    *place = call_answers::place_or_count(told);
+    call_answers::advance_number(told)
 }
 
 // Advances all areas in rising order, full step after full step, and lists each, until the next might not fit into the buffer, an area is refused or all
