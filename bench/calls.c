@@ -1,12 +1,10 @@
-// A study on standard input, advanced area by area by emt_advance and by plain C (bench/lent.c), for bench/calls.sh.
-//   calls                 200 steps by both, each on memory of its own: the status is 0 where answers and words are the same throughout
+// A study on standard input, advanced area by area by emt_advance, by emt_advance_in and by plain C (bench/lent.c), for bench/calls.sh.
+//   calls                 200 steps by all three, each on memory of its own: the status is 0 where answers and words are the same throughout
 //   calls areas           how many areas the study has
-//   calls WHO N           100 steps by emt_list, then N steps of every area by `ours` or by `plain`
+//   calls WHO N           100 steps by emt_list, then N steps of every area by `ours`, in a lent `room` or by `plain`
 //   calls WHO N judged    the same, but N calls that are refused by 11: each judges all that is lent and takes no step
-//   calls stack           how many bytes of stack a call of emt_advance has touched
 //   calls time            microseconds of a call that is refused by 11, ours and plain C's
 #include <emt.h>
-#include <pthread.h>
 #include <stdio.h>
 #include <stdlib.h>
 #include <string.h>
@@ -21,7 +19,13 @@ struct lent {
 };
 enum { LEAD = 100, NO_AREA = EMT_NODES + 1 };
 static int64_t network[EMT_NETWORK_WORDS];
-static struct lent ours, theirs;
+static struct lent ours, theirs, lent_room;
+
+static uint64_t advance_in_room(const int64_t *net, size_t net_len, int64_t *records, size_t records_len, int64_t *froms, size_t froms_len, int64_t *tos, size_t tos_len,
+                                uint64_t area, uint64_t *place) {
+    static struct emt_room room;
+    return emt_advance_in(net, net_len, records, records_len, froms, froms_len, tos, tos_len, area, place, &room, sizeof room);
+}
 
 static uint64_t call(advance *by, struct lent *lent, uint64_t area, uint64_t *place) {
     return by(network, EMT_NETWORK_WORDS, lent->records, EMT_RECORD_WORDS, lent->froms, EMT_STORE_WORDS, lent->tos, EMT_STORE_WORDS, area, place);
@@ -54,33 +58,12 @@ static void lead(void) {
 }
 
 static int compare(void) {
-    uint64_t last = areas(), at, there;
+    uint64_t last = areas(), at, there, within;
     for (int k = 1; k <= 2 * LEAD; k++)
         for (uint64_t area = 1; area <= last; area++)
-            if (call(emt_advance, &ours, area, &at) || call(plain_advance, &theirs, area, &there) || at != there) return 1;
-    return memcmp(&ours, &theirs, sizeof ours) != 0;
-}
-
-static void *advance_once(void *wanted) {
-    uint64_t at;
-    if (wanted) call(emt_advance, &ours, 1, &at);
-    return wanted;
-}
-
-// A thread on a painted stack: the lowest byte that has lost its paint tells how deep it went.
-static size_t touched(void *wanted) {
-    enum { BYTES = 1 << 20, PAINT = 0xA5 };
-    pthread_attr_t attributes;
-    pthread_t thread;
-    unsigned char *stack = aligned_alloc(4096, BYTES);
-    memset(stack, PAINT, BYTES);
-    pthread_attr_init(&attributes);
-    if (pthread_attr_setstack(&attributes, stack, BYTES) || pthread_create(&thread, &attributes, advance_once, wanted)) exit(1);
-    pthread_join(thread, NULL);
-    size_t left = 0;
-    while (left < BYTES && stack[left] == PAINT) left++;
-    free(stack);
-    return BYTES - left;
+            if (call(emt_advance, &ours, area, &at) || call(plain_advance, &theirs, area, &there) || call(advance_in_room, &lent_room, area, &within) || at != there || at != within)
+                return 1;
+    return memcmp(&ours, &theirs, sizeof ours) || memcmp(&ours, &lent_room, sizeof ours);
 }
 
 // Microseconds of a call that judges all and takes no step, the best of twenty times a thousand.
@@ -106,12 +89,8 @@ int main(int count, char **words) {
     reset(&ours);
     if (!*what) return compare();
     if (!strcmp(what, "areas")) return printf("%llu\n", (unsigned long long)areas()) < 0;
-    if (!strcmp(what, "stack")) {
-        size_t without = touched(NULL), with = touched(network);
-        return printf("%zu\n", with - without) < 0;
-    }
     if (!strcmp(what, "time")) return printf("%.1f %.1f\n", judged(emt_advance), judged(plain_advance)) < 0;
-    advance *by = strcmp(what, "ours") ? plain_advance : emt_advance;
+    advance *by = !strcmp(what, "ours") ? emt_advance : !strcmp(what, "room") ? advance_in_room : plain_advance;
     uint64_t taken = count > 3 ? EMT_AREA : 0, first = taken ? NO_AREA : 1, last = taken ? NO_AREA : areas();
     lead();
     for (int k = count > 2 ? atoi(words[2]) : 0; k > 0; k--)

@@ -1,5 +1,5 @@
 #!/usr/bin/env bash
-# The library as its customers link it: the two callers of examples/, E1 to E10 through the compiled calls, and a listing that stops. LIBEMT=PATH takes this archive and makes none.
+# The library as its customers link it: the three callers of examples/, E1 to E10 through the compiled calls, and a listing that stops. LIBEMT=PATH takes this archive and makes none.
 # Closing line: N passed, M failed.
 set -u
 cd "$(dirname "$0")/.." || exit 1
@@ -39,7 +39,8 @@ for program in examples stopped; do
 done
 
 compile "$work/in_c" examples/caller.c "$archive" || stop "examples/caller.c does not compile"
-callers=in_c
+compile "$work/in_room" examples/little_stack.c "$archive" || stop "examples/little_stack.c does not compile"
+callers="in_c in_room"
 across=()
 missing=
 if [ "$(uname -m)" != x86_64 ]; then
@@ -51,7 +52,7 @@ if [ -n "$missing" ]; then
     echo "examples/caller.rs is left out on $(uname -m): $missing"
 else
     rustc "${across[@]}" -L "$(dirname "$archive")" -l static=emt -o "$work/in_rust" examples/caller.rs || stop "examples/caller.rs does not compile"
-    callers="in_c in_rust"
+    callers="$callers in_rust"
 fi
 for caller in $callers; do
     told=$(run "$work/$caller")

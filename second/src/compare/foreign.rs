@@ -85,6 +85,23 @@ mod linked {
             area: u64,
             place: *mut u64,
         ) -> u64;
+        #[cfg(feature = "advance")]
+        fn emt_advance_in_tables(
+            network: *const i64,
+            network_len: usize,
+            records: *mut i64,
+            records_len: usize,
+            froms: *mut i64,
+            froms_len: usize,
+            tos: *mut i64,
+            tos_len: usize,
+            area: u64,
+            place: *mut u64,
+            plan: *mut u64,
+            legs: *mut u64,
+            factors: *mut u64,
+            room: usize,
+        ) -> u64;
         #[cfg(feature = "list")]
         fn emt_list(
             network: *const i64,
@@ -104,8 +121,11 @@ mod linked {
         ) -> u64;
     }
 
-    /// An answer that no call gives: a call that leaves its second answer unwritten shows by it.
+    /// Answers that no call gives. The first shows a call that leaves its second answer unwritten; the other stands
+    /// for the number where an advance in a lent room came to something else than the one without.
     const UNWRITTEN: u64 = 0xDEAD_BEEF_DEAD_BEEF;
+    #[cfg(feature = "advance")]
+    const TWO_ANSWERS: u64 = 999_999_998;
 
     pub fn read(text: &[u8], network: &mut [i64]) -> (u64, u64) {
         let mut line = UNWRITTEN;
@@ -132,8 +152,72 @@ mod linked {
         }
     }
 
+    /// Words of a lent room: plan, legs, factors, as the header has them; and of the guards around it.
+    #[cfg(feature = "advance")]
+    const ROOM: [usize; 3] = [80 * 12, 160 * 9, 32 * 32];
+    #[cfg(feature = "advance")]
+    const GUARDS: usize = 16;
+
+    /// By emt_advance; and by emt_advance_in on copies, in a room that holds anything, to the same end.
     #[cfg(feature = "advance")]
     pub fn advance(
+        network: &[i64],
+        records: &mut [i64],
+        froms: &mut [i64],
+        tos: &mut [i64],
+        area: u64,
+    ) -> (u64, u64) {
+        let mut copies = [records.to_vec(), froms.to_vec(), tos.to_vec()];
+        let in_room = advance_in(network, &mut copies, area);
+        let told = advance_alone(network, records, froms, tos, area);
+        let same = in_room == Some(told) && copies[0] == records && copies[1] == froms && copies[2] == tos;
+        if same {
+            told
+        } else {
+            (TWO_ANSWERS, told.1)
+        }
+    }
+
+    /// None where a word around the room has changed.
+    #[cfg(feature = "advance")]
+    fn advance_in(network: &[i64], state: &mut [Vec<i64>; 3], area: u64) -> Option<(u64, u64)> {
+        let words = ROOM.iter().sum::<usize>() + 2 * GUARDS;
+        let seed = state[0].iter().fold(area, |sum, word| sum.rotate_left(7) ^ *word as u64);
+        let before: Vec<u64> =
+            (1..=words as u64).map(|k| (seed ^ k).wrapping_mul(0x9E37_79B9_7F4A_7C15)).collect();
+        let mut room = before.clone();
+        let mut place = UNWRITTEN;
+        let [records, froms, tos] = state;
+        let number = {
+            let (plan, rest) = room[GUARDS..].split_at_mut(ROOM[0]);
+            let (legs, factors) = rest.split_at_mut(ROOM[1]);
+            // SAFETY: every pair comes from a slice, the tables are as long as they are stated, no two overlap.
+            unsafe {
+                emt_advance_in_tables(
+                    network.as_ptr(),
+                    network.len(),
+                    records.as_mut_ptr(),
+                    records.len(),
+                    froms.as_mut_ptr(),
+                    froms.len(),
+                    tos.as_mut_ptr(),
+                    tos.len(),
+                    area,
+                    &mut place,
+                    plan.as_mut_ptr(),
+                    legs.as_mut_ptr(),
+                    factors.as_mut_ptr(),
+                    8 * ROOM.iter().sum::<usize>(),
+                )
+            }
+        };
+        let end = words - GUARDS;
+        let guarded = room[..GUARDS] == before[..GUARDS] && room[end..] == before[end..];
+        guarded.then_some((number, place))
+    }
+
+    #[cfg(feature = "advance")]
+    fn advance_alone(
         network: &[i64],
         records: &mut [i64],
         froms: &mut [i64],
