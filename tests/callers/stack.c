@@ -202,6 +202,24 @@ static void other_rooms(void) {
     room_bytes = sizeof(struct emt_room);
 }
 
+// The calls before the first advance: a reset needs little; reading a text has a network of its own on the stack, and is told and not held to 8,192 bytes.
+static void only_reset(void) {
+    answers[0] = emt_reset(ours.network, EMT_NETWORK_WORDS, ours.records, EMT_RECORD_WORDS, ours.froms, EMT_STORE_WORDS, ours.tos, EMT_STORE_WORDS);
+}
+
+static void only_read(void) { answers[1] = emt_read((const uint8_t *)e5, strlen(e5), theirs.network, EMT_NETWORK_WORDS, &places[1]); }
+
+static void beforehand(void) {
+    start(e5, strlen(e5));
+    paint();
+    on(painted[0], PAINTED, only_reset);
+    on(painted[1], PAINTED, only_read);
+    expect("emt_reset", "answer", (int64_t)answers[0], 0);
+    expect("emt_read", "answer", (int64_t)answers[1], 0);
+    expect("emt_reset", "over 8,192 bytes", touched(painted[0]) > LITTLE, 0);
+    printf("emt_reset touches %zu bytes, emt_read %zu\n", touched(painted[0]), touched(painted[1]));
+}
+
 // ---- 8,192 bytes
 
 static void to_the_end(const char *what, const char *text, size_t bytes, uint64_t last) {
@@ -245,6 +263,7 @@ int main(int count, char **files) {
     study("32 areas of 80 rows", text, largest(text, 1));
     refusals();
     other_rooms();
+    beforehand();
     on_little();
     printf("%d passed, %d failed\n", passed, failed);
     return failed != 0;
