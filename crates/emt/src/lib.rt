@@ -2,7 +2,7 @@
 // the crates below, by one name.
 ghost use Rattle.whole.specs.Loans.{was, is};
 ghost use Rattle.paper.specs.Lent.{before, after};
-ghost use Rattle.emt.specs.Numbered.{ReadsBy, ResetsBy, AdvancesBy, ListsBy};
+ghost use Rattle.emt.specs.Numbered.{ReadsBy, ResetsBy, AdvancesBy, ListsBy, WritesBy};
 
 // "Reading: 9, 7, then the first faulty line, in it 1 to 6 in turn"; "An accepted reading writes all 1,024 words, unused ones 0, and answers 0".
 pub use call_read::read;
@@ -81,4 +81,17 @@ pub extern "C" fn emt_list(
     *number = call_answers::stop_number(answer);
     *place = call_answers::stop_place(answer);
     call_answers::listing_number(answer)
+}
+
+// "from an accepted network record to lines in table order": 9, 8, or how many bytes the study's text has.
+pub use call_write::write;
+
+// How many bytes are written, 0 where the call is refused: it is told whatever the answer is.
+#[no_mangle]
+pub extern "C" fn emt_write(network: &[i64], out: &mut [u8], written: &mut u64) -> u64
+    ensures { λ r. ⌜ WritesBy (was network) (was out) r (is written) (is out) ⌝ }
+{
+    let answer = call_write::write(network, out);
+    *written = call_answers::writing_bytes(answer);
+    call_answers::writing_number(answer)
 }
