@@ -1,5 +1,5 @@
 -- `call_write::write` meets its contract: 9, 8, or the text. Assumes nothing.
-use Rattle.whole.specs.Plain.{_≡_, sym, _∙_, true, not-true, not-false}
+use Rattle.whole.specs.Plain.{_≡_, sym, _∙_, true, not-true, not-false, arith}
 use borrow.Author.Needs.{needs}
 use Rattle.paper.specs.Network.{isNetwork}
 use Rattle.call_write.specs.Cases.{wrong-length, no-room, no-network, text-room, wrote}
@@ -13,7 +13,7 @@ returns : tie.Need-returns
 returns c = let s = c .before .before in wrong-length (s .args .network .now) (s .args .out .now) (c .if1 .taken)
 
 returns-2 : tie.Need-returns-2
-returns-2 c = let e = c .before in let s = start e in no-room (s .args .network .now) (s .args .out .now) (e .if1 .left) (c .if2 .taken)
+returns-2 c = let e = c .before in let s = start e in no-room (s .args .network .now) (s .args .out .now) (e .if1 .left) (omega (arith, c .if2 .taken))
 
 returns-3 : tie.Need-returns-3
 returns-3 c =
