@@ -1,10 +1,10 @@
 -- The answers of a writing, case by case. Assumes nothing.
-use Rattle.whole.specs.Plain.{ℕ, _<_, _≤_, _≡_, refl, ap, _∙_, true, false, not, List, length, ne-eqb, eq-eqb, lt-ltb}
-use Rattle.whole.specs.Plain.{le-ltb, or-true, arith, Words}
+use Rattle.whole.specs.Plain.{ℕ, _<_, _≤_, _≡_, ap, _∙_, true, false, List, length, ne-eqb, eq-eqb, lt-ltb}
+use Rattle.whole.specs.Plain.{le-ltb, arith, Words}
 use Rattle.paper.specs.declared.Writing.the-variants.{Wrote, Network, Store}
 use Rattle.paper.specs.Limits as Limits
 use Rattle.paper.specs.Network.{isNetwork, tableOf}
-use Rattle.paper.specs.Writing.{Written-out, textOf, over, writeOf, Writes}
+use Rattle.paper.specs.Writing.{textOf, writeOf, Writes}
 use Rattle.laws_spelling.specs.Written.{written-fits, write-takes}
 use Rattle.list_digits.specs.Puts.{Puts, puts-first}
 

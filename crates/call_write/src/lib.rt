@@ -1,5 +1,4 @@
 // "Write studies out again.", on all inputs: 9, then 8, or the study's text in a lent area. A refused call writes nothing.
-ghost use Rattle.whole.specs.Plain.{_≡_};
 ghost use Rattle.whole.specs.Loans.{was, is};
 ghost use Rattle.paper.specs.Writing.{Writes};
 use paper::Room;

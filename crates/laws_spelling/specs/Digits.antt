@@ -2,7 +2,7 @@
 use Rattle.whole.specs.Plain.{ℕ, zero, suc, _+_, _*_, _-_, _/_, _%_, _^_, _≤_, _<_, _≡_, refl, sym, ap, _∙_, subst}
 use Rattle.whole.specs.Plain.{Bool, true, false, not, _&&_, true≢false, List, [], _∷_, _++_, append-assoc, append-nil}
 use Rattle.whole.specs.Plain.{leb, eqb, length, length-append, leb-true, le-leb, eqb-false, eq-eqb, ne-eqb, not-true}
-use Rattle.whole.specs.Plain.{pow-suc, decLt, ℕ-discrete, arith, every, fold}
+use Rattle.whole.specs.Plain.{pow-suc, decLt, arith, every, fold}
 use Rattle.whole.specs.Folds.{and-left, and-right, both, fold-append, every-append}
 use Rattle.paper.specs.Text.{digit, decimal, decimalOf}
 use Rattle.paper.specs.Listing.{digits, shownNat}

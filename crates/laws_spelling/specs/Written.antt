@@ -1,11 +1,10 @@
 -- T-write, K1: "Reading what it wrote gives the same record, and writing what was read gives the same bytes, since the text has one spelling for each
 -- network." Assumes nothing.
-use Rattle.whole.specs.Plain.{ℕ, _<_, _≤_, _≡_, refl, sym, ap, _∙_, Bool, true, false, cond, not, _||_, List, [], _∷_, _++_}
+use Rattle.whole.specs.Plain.{ℕ, _≤_, _≡_, refl, sym, ap, _∙_, Bool, true, false, cond, not, _||_, List, [], _∷_, _++_}
 use Rattle.whole.specs.Plain.{map, tail, append-assoc, eqb, ltb, ℤ, natAbs, length, take, drop, take-at, length-append}
 use Rattle.whole.specs.Plain.{eq-eqb, le-ltb, leb-true, arith, Words, every}
 use Rattle.whole.specs.Folds.{and-left, and-right}
 use Rattle.paper.specs.declared.Reading.the-variants.{Read}
-use Rattle.paper.specs.declared.Writing.{Writing}
 use Rattle.paper.specs.declared.Writing.the-variants.{Wrote, Network, Store}
 use Rattle.paper.specs.Limits as Limits
 use Rattle.paper.specs.Rows.{Row, kind, wordOf}

@@ -1,5 +1,5 @@
 -- `text_write::put_row` meets its contract: the row's fields are the record's own words behind its kind. Assumes nothing.
-use Rattle.whole.specs.Plain.{ℕ, _+_, _*_, _-_, _<_, _≤_, _≡_, le-of-eq, le-trans, arith, length, take, drop}
+use Rattle.whole.specs.Plain.{_+_, _*_, _-_, _<_, _≤_, _≡_, le-of-eq, le-trans, arith, take, drop}
 use borrow.Author.Needs.{needs}
 use Rattle.paper.specs.Rows.{wordOf}
 use Rattle.paper.specs.Listing.{lineOf}
