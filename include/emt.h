@@ -22,6 +22,7 @@ extern "C" {
 #define EMT_STORE_WORDS 4096   /* what the from ends of all lines sent; as many for the to ends */
 #define EMT_TEXT_BYTES 65536   /* the longest study text; a longer one is EMT_SIZE */
 #define EMT_LIST_BYTES 4160    /* the shortest buffer that emt_list takes; a longer one means fewer calls */
+#define EMT_WRITE_BYTES 8192   /* the shortest area that emt_write takes: no study's text is longer */
 
 /* ---- Ends of each quantity */
 #define EMT_NODES 32 /* 0 is ground */
@@ -59,7 +60,7 @@ enum { EMT_R = 1, EMT_L = 2, EMT_C = 3, EMT_LINE = 4, EMT_SW = 5, EMT_VS = 6, EM
 #define EMT_TO_CURRENT(row) (144 + (row))    /* of a line: leaves the to node */
 #define EMT_HISTORY_OF(row) (224 + (row))    /* of L and C */
 
-/* ---- Answers. Reading: 9, 7, then 1 to 6; resetting: 9, 8; advancing: 9, 8, then 10 to 17; listing: 9, 8, 10. */
+/* ---- Answers. Reading: 9, 7, then 1 to 6; resetting: 9, 8; advancing: 9, 8, then 10 to 17; listing: 9, 8, 10; writing: 9, 8. */
 enum {
     EMT_ACCEPTED = 0,
     EMT_FORM = 1,        /* a line's word, fields or spelling */
@@ -125,6 +126,11 @@ static inline uint64_t emt_advance_in(const int64_t *network, size_t network_len
 uint64_t emt_list(const int64_t *network, size_t network_len, int64_t *records, size_t records_len, int64_t *froms,
                   size_t froms_len, int64_t *tos, size_t tos_len, uint8_t *out, size_t out_len, uint64_t *written,
                   uint64_t *area, uint64_t *number, uint64_t *place);
+
+/* Writes a network out as the study text it was read from, its lines in the order of its rows. Answers 0, and *written bytes of out are
+ * written, the rest left as it was; or 8 or 9, *written 0 and no byte changed. emt_read of these bytes gives the same network, every word;
+ * and a network that emt_read gave is written as the bytes it was read from. */
+uint64_t emt_write(const int64_t *network, size_t network_len, uint8_t *out, size_t out_len, uint64_t *written);
 
 #ifdef __cplusplus
 }

@@ -27,7 +27,7 @@ expect() { printf '%s\t%s\n' "$1" "$2" >>"$work/expected"; }
 limits="VOLTAGE_MOST voltageEnd CONDUCTANCE_MOST conductanceEnd HISTORY_MOST historyEnd CURRENT_MOST currentEnd INJECTION_MOST injectionEnd NODES nodeEnd
     BRANCHES branchEnd SOURCES sourceEnd ROWS rowEnd STEP_LENGTH_MOST stepLengthEnd STEPS_MOST stepsEnd LIMIT_MOST limitEnd TEXT_BYTES textEnd MILLIOHM_LEAST ohmsLow
     MILLIOHM_MOST ohmsEnd NANOHENRY_MOST henryEnd PICOFARAD_MOST faradEnd TRAVEL_MOST travelEnd OPEN_MOST openEnd RISE_MOST riseEnd NETWORK_WORDS networkWords
-    RECORD_WORDS recordWords STORE_WORDS storeWords LIST_BYTES stepBytes"
+    RECORD_WORDS recordWords STORE_WORDS storeWords LIST_BYTES stepBytes WRITE_BYTES studyBytes"
 set -- $limits
 while [ $# -gt 1 ]; do
     expect "EMT_$1" "$(limit "$2")"
@@ -50,7 +50,7 @@ expect 'sizeof(struct emt_room)' "$((room))"
 # refusals by name; what is accepted is 0
 while read -r name number; do
     expect "EMT_${name^^}" "$number"
-done < <(sed -nE 's/^(reading|resetting|advance|listing)Number \(?([A-Z]\.)?([A-Za-z]+)(( [a-z])+\))? = ([1-9][0-9]*)$/\3 \6/p' $specs/Answers.antt $specs/Pieces.antt | sort -u)
+done < <(sed -nE 's/^(reading|resetting|advance|listing|writing)Number \(?([A-Z]\.)?([A-Za-z]+)(( [a-z])+\))? = ([1-9][0-9]*)$/\3 \6/p' $specs/Answers.antt $specs/Pieces.antt | sort -u)
 
 {
     echo '#include <emt.h>'

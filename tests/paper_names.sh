@@ -1,5 +1,5 @@
 #!/usr/bin/env bash
-# Every name on docs/PAPER.md and docs/EDITS.md stands where the page says, and docs/EDITS.md has a row for each must-fail edit, once. The forms:
+# Every name on docs/PAPER.md, docs/REQUESTS.md and docs/EDITS.md stands where the page says, and docs/EDITS.md has a row for each must-fail edit, once. The forms:
 #   File: `name`, `name`     declared, or brought in, by crates/paper/specs/File.antt
 #   `crate::name`            a function, type or constant of crates/crate/src
 #   `crate::File::name`      declared by crates/crate/specs/File.antt
@@ -100,4 +100,4 @@ END {
     for (edit in rows) hold(rows[edit] == 1, "row, or more than one, for " edit)
     print passed + 0 " passed, " failed + 0 " failed"
     exit failed > 0
-}' crates/*/src/*.rt crates/*/specs/*.antt docs/PAPER.md docs/EDITS.md
+}' crates/*/src/*.rt crates/*/specs/*.antt docs/PAPER.md docs/REQUESTS.md docs/EDITS.md

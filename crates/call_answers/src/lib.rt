@@ -1,11 +1,13 @@
 // "When an answer is an enum, a definition gives this paper's number and values for each of its cases": the same in code.
 ghost use Rattle.whole.specs.Plain.{_≡_, _+_};
 ghost use Rattle.paper.specs.Answers.{readingNumber, readingLine, resettingNumber, advanceNumber, advancePlace, advanceCount};
+ghost use Rattle.paper.specs.Answers.{writingNumber, writingBytes};
 ghost use Rattle.paper.specs.Pieces.{listingNumber, stopArea, stopNumber, stopPlace};
 use paper::Advance;
 use paper::Listing;
 use paper::Reading;
 use paper::Resetting;
+use paper::Writing;
 
 pub fn reading_number(answer: Reading) -> u64
     ensures { λ r. ⌜ r ≡ readingNumber answer ⌝ }
@@ -159,5 +161,26 @@ pub fn stop_place(answer: Listing) -> u64
         Listing::Network => 0,
         Listing::Store => 0,
         Listing::State => 0,
+    }
+}
+
+pub fn writing_number(answer: Writing) -> u64
+    ensures { λ r. ⌜ r ≡ writingNumber answer ⌝ }
+{
+    match answer {
+        Writing::Wrote(_) => 0,
+        Writing::Network => 8,
+        Writing::Store => 9,
+    }
+}
+
+// How many bytes a study's text has; 0 where nothing is written.
+pub fn writing_bytes(answer: Writing) -> u64
+    ensures { λ r. ⌜ r ≡ writingBytes answer ⌝ }
+{
+    match answer {
+        Writing::Wrote(bytes) => bytes,
+        Writing::Network => 0,
+        Writing::Store => 0,
     }
 }

@@ -3,10 +3,12 @@
 use Rattle.whole.specs.Plain.{ℕ, _+_, _*_, _≡_, sym, _∙_, cond, eqb, eq-eqb, ne-eqb, List, _++_, length, drop, Words}
 use Rattle.paper.specs.declared.Advance.the-variants.{Store}
 use Rattle.paper.specs.Answers.{readingNumber, readingLine, resettingNumber, advanceNumber, advancePlace, advanceCount}
+use Rattle.paper.specs.Answers.{writingNumber, writingBytes}
 use Rattle.paper.specs.Reading.{readOf}
 use Rattle.paper.specs.Advance.{Memory, Advanced, advanced, advanceOf}
 use Rattle.paper.specs.Resetting.{resetOf}
 use Rattle.paper.specs.Pieces.{listingNumber, stopArea, stopNumber, stopPlace, listOf}
+use Rattle.paper.specs.Writing.{writeOf}
 
 pub record ReadsBy (text : List ℕ) (net : Words) (number line : ℕ) (after : Words) : Type 0 where
   pub answer : number ≡ readingNumber (readOf text net .answer)
@@ -85,3 +87,11 @@ list-by-one net m out p q = (
   p .buffer ∙ sym (q .buffer),
   p .memory ∙ sym (q .memory),
 )
+
+pub record WritesBy (net : Words) (out : List ℕ) (number written : ℕ) (b : List ℕ) : Type 0 where
+  pub answer : number ≡ writingNumber (writeOf net out .answer)
+  pub count : written ≡ writingBytes (writeOf net out .answer)
+  pub buffer : b ≡ writeOf net out .out
+
+pub write-by-one : (net : Words) (out : List ℕ) {x y i j : ℕ} {a b : List ℕ} → WritesBy net out x i a → WritesBy net out y j b → (x ≡ y) × (i ≡ j) × (a ≡ b)
+write-by-one net out p q = (p .answer ∙ sym (q .answer), p .count ∙ sym (q .count), p .buffer ∙ sym (q .buffer))

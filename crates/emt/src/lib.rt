@@ -2,7 +2,7 @@
 // the crates below, by one name.
 ghost use Rattle.whole.specs.Loans.{was, is};
 ghost use Rattle.paper.specs.Lent.{before, after};
-ghost use Rattle.emt.specs.Numbered.{ReadsBy, ResetsBy, AdvancesBy, AdvancesIn, ListsBy};
+ghost use Rattle.emt.specs.Numbered.{ReadsBy, ResetsBy, AdvancesBy, AdvancesIn, ListsBy, WritesBy};
 use call_advance::Legs;
 use paper::Advance;
 use plan_rows::Table;
@@ -117,4 +117,17 @@ pub extern "C" fn emt_list(
     *number = call_answers::stop_number(answer);
     *place = call_answers::stop_place(answer);
     call_answers::listing_number(answer)
+}
+
+// "from an accepted network record to lines in table order": 9, 8, or how many bytes the study's text has.
+pub use call_write::write;
+
+// How many bytes are written, 0 where the call is refused: it is told whatever the answer is.
+#[no_mangle]
+pub extern "C" fn emt_write(network: &[i64], out: &mut [u8], written: &mut u64) -> u64
+    ensures { λ r. ⌜ WritesBy (was network) (was out) r (is written) (is out) ⌝ }
+{
+    let answer = call_write::write(network, out);
+    *written = call_answers::writing_bytes(answer);
+    call_answers::writing_number(answer)
 }

@@ -2,10 +2,10 @@
 use Rattle.whole.specs.Plain.{ℕ, zero, suc, _+_, _*_, _-_, _/_, _%_, _^_, _≤_, _<_, _≡_, refl, sym, ap, _∙_, subst}
 use Rattle.whole.specs.Plain.{Bool, true, false, not, _&&_, true≢false, List, [], _∷_, _++_, append-assoc, append-nil}
 use Rattle.whole.specs.Plain.{leb, eqb, length, length-append, leb-true, le-leb, eqb-false, eq-eqb, ne-eqb, not-true}
-use Rattle.whole.specs.Plain.{pow-suc, decLt, ℕ-discrete, arith, every, fold}
+use Rattle.whole.specs.Plain.{pow-suc, decLt, arith, every, fold}
 use Rattle.whole.specs.Folds.{and-left, and-right, both, fold-append, every-append}
 use Rattle.paper.specs.Text.{digit, decimal, decimalOf}
-use Rattle.paper.specs.Listing.{digits}
+use Rattle.paper.specs.Listing.{digits, shownNat}
 
 -- the spelling: as a listing shows a number, with room for every digit of it
 unfoldable pub spellNat : ℕ → List ℕ
@@ -28,18 +28,48 @@ before (suc f) true n rest =
     let m = not (eqb q 0) in
     before f m q (d ∷ rest) ∙ sym (ap (λ (l : List ℕ). l ++ rest) (before f m q (d ∷ [])) ∙ append-assoc (digits f m q []) (d ∷ []) rest)
 
--- where there is room, more of it changes nothing
-room : (f g n : ℕ) (rest : List ℕ) → n < f → n < g → digits f true n rest ≡ digits g true n rest
-unfolding digits
-room zero g n rest h k = absurd (omega arith)
-room (suc f) zero n rest h k = absurd (omega arith)
-room (suc f) (suc g) n rest h k =
-    elim (ℕ-discrete (n / 10) 0) [
-      | yes e ↦ rw (eq-eqb (n / 10) 0 e) (stopped f (n / 10) ((48 + n % 10) ∷ rest) ∙ sym (stopped g (n / 10) ((48 + n % 10) ∷ rest)))
-      | no e ↦ rw (ne-eqb (n / 10) 0 e) (room f g (n / 10) ((48 + n % 10) ∷ rest) (omega arith) (omega arith))
-    ]
+-- n's last digit, and what stands behind it
+abbrev pub last : ℕ → List ℕ → List ℕ
+last n rest = (48 + n % 10) ∷ rest
 
 -- a digit, and a number of more than one
+pub one-digit : (f n : ℕ) (rest : List ℕ) → n < 10 → digits (suc f) true n rest ≡ last n rest
+unfolding digits
+one-digit f n rest h = ap (λ (b : Bool). digits f (not b) (n / 10) (last n rest)) (eq-eqb (n / 10) 0 (omega arith)) ∙ stopped f (n / 10) (last n rest)
+
+pub more-digits : (f n : ℕ) (rest : List ℕ) → 10 ≤ n → digits (suc f) true n rest ≡ digits f true (n / 10) (last n rest)
+unfolding digits
+more-digits f n rest h = ap (λ (b : Bool). digits f (not b) (n / 10) (last n rest)) (ne-eqb (n / 10) 0 (λ e. omega arith))
+
+-- where there is room, more of it changes nothing
+pub same-room : (f g n : ℕ) (rest : List ℕ) → n < 10 ^ suc f → n < 10 ^ suc g → digits (suc f) true n rest ≡ digits (suc g) true n rest
+same-room zero g n rest h k = one-digit zero n rest h ∙ sym (one-digit g n rest h)
+same-room (suc f) zero n rest h k = one-digit (suc f) n rest k ∙ sym (one-digit zero n rest k)
+same-room (suc f) (suc g) n rest h k = go (decLt n 10) (same-room f g (n / 10) (last n rest))
+  where
+    go : Dec (n < 10) → (n / 10 < 10 ^ suc f → n / 10 < 10 ^ suc g → digits (suc f) true (n / 10) (last n rest) ≡ digits (suc g) true (n / 10) (last n rest))
+        → digits (suc (suc f)) true n rest ≡ digits (suc (suc g)) true n rest
+    go (yes l) next = one-digit (suc f) n rest l ∙ sym (one-digit (suc g) n rest l)
+    go (no l) next =
+        more-digits (suc f) n rest (omega arith)
+        ∙ next (omega (arith, pow-suc 10 (suc f))) (omega (arith, pow-suc 10 (suc g)))
+        ∙ sym (more-digits (suc g) n rest (omega arith))
+
+-- as many digits as the number is, and one, are room enough
+under : (f n : ℕ) → n < suc f → n < 10 ^ suc f
+under zero n h = omega arith
+under (suc f) n h = omega (arith, under f (n - 1) (omega arith), pow-suc 10 (suc f))
+
+room : (f g n : ℕ) (rest : List ℕ) → n < f → n < g → digits f true n rest ≡ digits g true n rest
+room zero g n rest h k = absurd (omega arith)
+room (suc f) zero n rest h k = absurd (omega arith)
+room (suc f) (suc g) n rest h k = same-room f g n rest (under f n h) (under g n k)
+
+-- as a listing shows it, with room for 20 digits
+pub shown-nat : (n : ℕ) → n < 10 ^ 20 → shownNat n ≡ spellNat n
+unfolding shownNat spellNat
+shown-nat n h = same-room 19 n n [] h (under n n (omega arith))
+
 turn : (f n q d : ℕ) → n / 10 ≡ q → n % 10 ≡ d → digits (suc f) true n [] ≡ digits f (not (eqb q 0)) q ((48 + d) ∷ [])
 unfolding digits
 turn f n q d e r = rw (e, r)

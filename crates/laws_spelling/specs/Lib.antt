@@ -7,3 +7,4 @@ pub mod Reader
 pub mod Tables
 pub mod Said
 pub mod Networks
+pub mod Written

@@ -3,16 +3,13 @@ use Rattle.whole.specs.Plain.{ℕ, zero, suc, _+_, _≤_, _<_, _≡_, refl, sym
 use Rattle.whole.specs.Plain.{Bool·beq, true≢false, List, [], _∷_, map, tail, eqb, ltb, pos, length, getD, eqb-true}
 use Rattle.whole.specs.Plain.{eqb-false, ne-eqb, ltb-true, not-true, zero-add, arith, Words, every, sameBytes, numbers}
 use Rattle.whole.specs.Folds.{length-numbers, and-left, and-right, both, every-weaken, every-at, getD-numbers}
-use Rattle.paper.specs.Rows.{Row, Kind, bytes, kinds, unknown, noKind, fieldsOf, kind, isStudy}
+use Rattle.paper.specs.Rows.{Row, Kind, bytes, kinds, unknown, noKind, wordOf, fieldsOf, kind, isStudy}
 use Rattle.paper.specs.Text.{TAB, LF, split, allSpelt, placeOf, lineKind, formed, rowOf}
 use Rattle.laws_spelling.specs.Numbers.{spell, allSpeakable, all-spoken, all-spelt, numbers-spelt, plain, spell-plain}
 use Rattle.paper.specs.Kept.{either}
 use Rattle.laws_spelling.specs.Pieces.{join, free, split-some, join-split, split-join, join-free}
 
 -- ---- the word of a kind
-
-unfoldable pub wordOf : ℕ → List ℕ
-wordOf k = getD kinds k unknown .spelt
 
 -- what every kind passes, and what stands for none
 pub of-kind : (p : Kind → Bool) (l : List Kind) (k : ℕ) → every p l ≡ true → p unknown ≡ true → p (getD l k unknown) ≡ true

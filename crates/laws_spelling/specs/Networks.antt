@@ -20,7 +20,7 @@ use Rattle.laws_spelling.specs.Lines.{Sayable, spellLine}
 use Rattle.laws_spelling.specs.Texts.{Sayables, spellText, spelt-spelling}
 use Rattle.laws_spelling.specs.Reader.{rowRead, faulty-other, not-empty, rows-bad, spelling-read, taken-spelt}
 use Rattle.laws_spelling.specs.Tables.{study-fields, table-network}
-use Rattle.laws_spelling.specs.Said.{sayable, line-short}
+use Rattle.laws_spelling.specs.Said.{sayable, smallRow, row-small, line-short}
 
 -- ---- reading a table and replaying it
 
@@ -74,9 +74,9 @@ rows-said : (rows : List Row) → ((i : ℕ) → i < length rows → Sayable (ge
 rows-said [] h = tt
 rows-said (r ∷ rows) h = (h 0 (omega arith) .0, rw (h 0 (omega arith) .1), rows-said rows (λ i k. h (suc i) (omega arith)))
 
--- shorter than 121 bytes
-abbrev fits121 : List ℕ → Bool
-fits121 p = ltb (length p) 121
+-- shorter than 96 bytes
+abbrev shortLine : List ℕ → Bool
+shortLine p = ltb (length p) 96
 
 module _ (net : Words) (e : isNetwork net ≡ true) where
   abbrev head : Row
@@ -99,19 +99,24 @@ module _ (net : Words) (e : isNetwork net ≡ true) where
       t : Taken true [] [] head
       t = head-taken head rows pass
 
-  short : every fits121 (map spellLine (head ∷ rows) ++ ([] ∷ [])) ≡ true
+  short : every shortLine (map spellLine (head ∷ rows) ++ ([] ∷ [])) ≡ true
   unfolding every tableOf
   short =
-      every-append fits121 (map spellLine (head ∷ rows)) ([] ∷ [])
-      ∙ both (both (line-short true [] [] head (head-taken head rows pass) head-few) (every-map fits121 spellLine rows ∙ every-if _ rows [] (λ i h. line-short false _ _ _ (row-taken head rows i pass h) (row-room-in net e i h)))) refl
+      every-append shortLine (map spellLine (head ∷ rows)) ([] ∷ [])
+      ∙ both (both (line-short true [] [] head (head-taken head rows pass) head-few) (every-map shortLine spellLine rows ∙ every-if _ rows [] (λ i h. line-short false _ _ _ (row-taken head rows i pass h) (row-room-in net e i h)))) refl
 
-  -- 82 pieces of fewer than 121 bytes
-  text-fits : length (spellText (head ∷ rows)) ≤ Limits.textEnd
+  -- and no word of them is larger than a field may be
+  pub all-small : every smallRow (tableOf net) ≡ true
+  unfolding every tableOf
+  all-small = both (row-small true [] [] head (head-taken head rows pass) head-few) (every-if smallRow rows [] (λ i h. row-small false _ _ _ (row-taken head rows i pass h) (row-room-in net e i h)))
+
+  -- 81 lines and what stands behind the last, each of fewer than 96 bytes
+  pub text-fits : length (spellText (tableOf net)) ≤ Limits.studyBytes
   unfolding spellText tableOf
   text-fits =
-      let l = join-length LF 121 (map spellLine (head ∷ rows) ++ ([] ∷ [])) short in
+      let l = join-length LF 96 (map spellLine (head ∷ rows) ++ ([] ∷ [])) (omega (arith, length-append (map spellLine (head ∷ rows)) ([] ∷ []))) short in
       let n : length (map spellLine (head ∷ rows) ++ ([] ∷ [])) ≡ length rows + 2 = length-append (map spellLine (head ∷ rows)) ([] ∷ []) ∙ rw (length-map (head ∷ rows) spellLine) (omega arith) in
-      let c : length (spellText (head ∷ rows)) ≤ (length rows + 2) * 121 = rw n at l in
+      let c : length (spellText (head ∷ rows)) < (length rows + 2) * 96 = rw n at l in
       omega (arith, row-count-most net e)
 
   lines-of : linesOf (spellText (head ∷ rows)) ≡ good (head ∷ rows)
@@ -122,7 +127,7 @@ module _ (net : Words) (e : isNetwork net ≡ true) where
   pub network-read : (lent : Words) → length lent ≡ Limits.networkWords → readOf (spellText (tableOf net)) lent ≡ readOut Read net
   unfolding readOf tableOf
   network-read lent h =
-      rw (eq-eqb (length lent) Limits.networkWords h, le-ltb Limits.textEnd (length (spellText (head ∷ rows))) text-fits, lines-of)
+      rw (eq-eqb (length lent) Limits.networkWords h, le-ltb Limits.textEnd (length (spellText (head ∷ rows))) (omega (arith, text-fits)), lines-of)
       (ap (readOut Read) (sym (recorded net e .written)))
 
 -- ---- both ways
@@ -137,15 +142,24 @@ faulty-number : (l f : ℕ) → readingNumber (faulty l f) ≢ 0
 unfolding faulty
 faulty-number l f = elim (ℕ-discrete f 1) [ yes e ↦ rw (eq-eqb f 1 e) (λ q. omega arith) | no n ↦ λ q. omega (arith, faulty-other l f n) ]
 
-read-network : (text : List ℕ) (lent net : Words) → readOf text lent ≡ readOut Read net → isNetwork net ≡ true
+-- what an accepted reading took
+pub record Took (text : List ℕ) (net : Words) : Type 0 where
+  pub table : Table
+  pub lines : linesOf text ≡ good table
+  pub is : net ≡ networkOf table
+
+pub read-took : (text : List ℕ) (lent net : Words) → readOf text lent ≡ readOut Read net → Took text net
 unfolding readOf
-read-network text lent net e = go (not (eqb (length lent) Limits.networkWords)) (ltb Limits.textEnd (length text)) (linesOf text) refl e
+read-took text lent net e = go (not (eqb (length lent) Limits.networkWords)) (ltb Limits.textEnd (length text)) (linesOf text) refl e
   where
-    go : (a b : Bool) (l : Lines) → linesOf text ≡ l → cond a (readOut Store lent) (cond b (readOut Size lent) (readEnd lent l)) ≡ readOut Read net → isNetwork net ≡ true
+    go : (a b : Bool) (l : Lines) → linesOf text ≡ l → cond a (readOut Store lent) (cond b (readOut Size lent) (readEnd lent l)) ≡ readOut Read net → Took text net
     go true b l q h = let x : _≡_ {A = ℕ} 9 0 = ap (λ (r : Read-out). readingNumber (r .answer)) h in absurd (omega arith)
     go false true l q h = let x : _≡_ {A = ℕ} 7 0 = ap (λ (r : Read-out). readingNumber (r .answer)) h in absurd (omega arith)
-    go false false (good t) q h = subst (λ (w : Words). isNetwork w ≡ true) (ap (λ (r : Read-out). r .network) h) (lines-network text t q)
+    go false false (good t) q h = record { table = t; lines = q; is = sym (ap (λ (r : Read-out). r .network) h) }
     go false false (bad l f) q h = absurd (faulty-number l f (ap (λ (r : Read-out). readingNumber (r .answer)) h))
+
+pub read-network : (text : List ℕ) (lent net : Words) → readOf text lent ≡ readOut Read net → isNetwork net ≡ true
+read-network text lent net e = let w = read-took text lent net e in subst (λ (x : Words). isNetwork x ≡ true) (sym (w .is)) (lines-network text (w .table) (w .lines))
 
 pub network-exactly : (net : Words) → (isNetwork net ≡ true) ↔ ReadFrom net
 network-exactly net = (

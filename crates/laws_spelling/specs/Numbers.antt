@@ -5,7 +5,8 @@ use Rattle.whole.specs.Plain.{length, getD, eqb-true, ne-eqb, lt-ltb, decLt, ar
 use Rattle.whole.specs.Folds.{and-left, and-right, both, every-weaken}
 use Rattle.paper.specs.Rows.{Field, signed}
 use Rattle.paper.specs.Text.{MINUS, digit, decimal, decimalOf, negative, spelt, allSpelt, numberOf, numbersOf}
-use Rattle.laws_spelling.specs.Digits.{spellNat, spell-digit, spell-value, spell-decimal, decimal-spell, digit-range, Leading, spell-leading, leading-decimal, spell-length}
+use Rattle.paper.specs.Listing.{shown}
+use Rattle.laws_spelling.specs.Digits.{spellNat, spell-digit, spell-value, spell-decimal, decimal-spell, digit-range, Leading, spell-leading, leading-decimal, shown-nat, spell-length}
 
 unfoldable pub spell : ℤ → List ℕ
 spell (pos n) = spellNat n
@@ -149,3 +150,10 @@ pub spell-size : (k : ℕ) (x : ℤ) → natAbs x < 10 ^ suc k → length (spell
 unfolding spell
 spell-size k (pos n) h = omega (arith, spell-length k n h)
 spell-size k (negsuc n) h = omega (arith, spell-length k (suc n) h)
+
+-- ---- a listing's numbers are spelt alike
+
+pub shown-spelt : (x : ℤ) → natAbs x < 10 ^ 20 → shown x ≡ spell x
+unfolding shown spell
+shown-spelt (pos n) h = shown-nat n h
+shown-spelt (negsuc n) h = ap (λ (s : List ℕ). MINUS ∷ s) (shown-nat (suc n) h)

@@ -1,5 +1,5 @@
 -- Pieces parted by a byte, and put together again. Assumes nothing.
-use Rattle.whole.specs.Plain.{ℕ, _*_, _≤_, _<_, _≡_, refl, sym, ap, _∙_, _≢_, Bool, true, false, not, List, [], _∷_}
+use Rattle.whole.specs.Plain.{ℕ, _+_, _*_, _≤_, _<_, _≡_, refl, sym, ap, _∙_, _≢_, Bool, true, false, not, List, [], _∷_}
 use Rattle.whole.specs.Plain.{_++_, eqb, ltb, length, length-append, eqb-true, eq-eqb, ne-eqb, ltb-true, not-true}
 use Rattle.whole.specs.Plain.{arith, every, lead, final}
 use Rattle.whole.specs.Folds.{and-left, and-right, both, every-append}
@@ -77,14 +77,25 @@ join-free at c (p ∷ (q ∷ ps)) h e =
 
 -- ---- how long
 
-pub join-length : (at k : ℕ) (ps : List (List ℕ)) → every (λ p. ltb (length p) k) ps ≡ true → length (join at ps) ≤ length ps * k
+pub join-length : (at k : ℕ) (ps : List (List ℕ)) → 0 < length ps → every (λ p. ltb (length p) k) ps ≡ true → length (join at ps) < length ps * k
 unfolding join every
-join-length at k [] e = omega arith
-join-length at k (p ∷ []) e = let h = ltb-true (length p) k (and-left (ltb (length p) k) true e) in omega arith
-join-length at k (p ∷ (q ∷ ps)) e =
+join-length at k [] h e = absurd (omega arith)
+join-length at k (p ∷ []) h e = let h = ltb-true (length p) k (and-left (ltb (length p) k) true e) in omega arith
+join-length at k (p ∷ (q ∷ ps)) h e =
     let h = ltb-true (length p) k (and-left (ltb (length p) k) (every (λ p. ltb (length p) k) (q ∷ ps)) e) in
-    let i = join-length at k (q ∷ ps) (and-right (ltb (length p) k) (every (λ p. ltb (length p) k) (q ∷ ps)) e) in
+    let i = join-length at k (q ∷ ps) (omega arith) (and-right (ltb (length p) k) (every (λ p. ltb (length p) k) (q ∷ ps)) e) in
     omega (arith, length-append p (at ∷ join at (q ∷ ps)))
+
+-- the first of them may have any length
+pub join-first : (at k : ℕ) (w : List ℕ) (ps : List (List ℕ)) → every (λ p. ltb (length p) k) ps ≡ true → length (join at (w ∷ ps)) ≤ length w + length ps * k
+unfolding join
+join-first at k w [] e = omega arith
+join-first at k w (p ∷ ps) e = omega (arith, length-append w (at ∷ join at (p ∷ ps)), join-length at k (p ∷ ps) (omega arith) e)
+
+pub join-more : (at : ℕ) (p : List ℕ) (ps : List (List ℕ)) → 0 < length ps → join at (p ∷ ps) ≡ p ++ (at ∷ join at ps)
+unfolding join
+join-more at p [] h = absurd (omega arith)
+join-more at p (q ∷ ps) h = refl
 
 -- ---- the last piece
 

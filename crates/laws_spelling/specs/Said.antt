@@ -1,18 +1,18 @@
 -- The rows of a network record are lines that a text can say, in few bytes. Assumes nothing.
-use Rattle.whole.specs.Plain.{ℕ, suc, _≤_, _<_, _≡_, refl, sym, ap, Bool, true, false, _&&_, _||_, or-true, true≢false}
+use Rattle.whole.specs.Plain.{ℕ, suc, _≤_, _<_, _≡_, refl, sym, ap, _∙_, Bool, true, false, _&&_, _||_, or-true, true≢false}
 use Rattle.whole.specs.Plain.{List, [], _∷_, map, tail, leb, ltb, ℤ, pos, negsuc, natAbs, leZ, ltZ, nonNeg, length}
-use Rattle.whole.specs.Plain.{getD, length-map, leb-true, lt-ltb, arith, Words, z, word, between, every}
-use Rattle.whole.specs.Folds.{and-left, and-right, both, every-at}
+use Rattle.whole.specs.Plain.{getD, length-map, leb-true, le-leb, lt-ltb, arith, Words, z, word, between, every}
+use Rattle.whole.specs.Folds.{and-left, and-right, both, every-at, every-map, every-weaken}
 use Rattle.paper.specs.Limits as Limits
-use Rattle.paper.specs.Rows.{unknown, Row, Field, Kind, bytes, kinds, noKind, fieldsOf, kind, signed}
+use Rattle.paper.specs.Rows.{unknown, Row, Field, Kind, bytes, kinds, noKind, wordOf, fieldsOf, kind, signed}
 use Rattle.paper.specs.Text.{TAB}
 use Rattle.laws_facts.specs.Fields.{noField, InRange, in-range, tail-word}
 use Rattle.laws_facts.specs.Sound.{kind-is}
 use Rattle.laws_facts.specs.Passing.{Taken}
 use Rattle.laws_facts.specs.Layout.{arity-most}
 use Rattle.laws_spelling.specs.Numbers.{spell, speakable, allSpeakable, spell-size}
-use Rattle.laws_spelling.specs.Pieces.{join, join-length}
-use Rattle.laws_spelling.specs.Lines.{of-kind, wordOf, Sayable, spellLine}
+use Rattle.laws_spelling.specs.Pieces.{join, join-first}
+use Rattle.laws_spelling.specs.Lines.{of-kind, Sayable, spellLine}
 
 -- ---- a number in its field's range can be said
 
@@ -84,39 +84,49 @@ ends-size low (negsuc b) (pos n) m h k e f = absurd (true≢false (sym f))
 ends-size (pos a) high (negsuc n) m h k e f = absurd (true≢false (sym e))
 ends-size (negsuc a) high (negsuc n) m h k e f = let l = leb-true n a e in omega arith
 
--- a piece of a line is shorter than 20 bytes
-abbrev short : List ℕ → Bool
-short p = ltb (length p) 20
+-- a word that no field's end is below
+abbrev pub smallWord : ℤ → Bool
+smallWord x = leb (natAbs x) Limits.injectionEnd
 
-number-short : (f : Field) (x : ℤ) → small f ≡ true → between (f .low) (f .high) x ≡ true → short (spell x) ≡ true
+abbrev pub smallRow : Row → Bool
+smallRow r = every smallWord (tail r)
+
+number-small : (f : Field) (x : ℤ) → small f ≡ true → between (f .low) (f .high) x ≡ true → smallWord x ≡ true
 unfolding between
-number-short f x s e =
+number-small f x s e =
     let a = leb-true (natAbs (f .low)) Limits.injectionEnd (and-left (leb (natAbs (f .low)) Limits.injectionEnd) (leb (natAbs (f .high)) Limits.injectionEnd) s) in
     let b = leb-true (natAbs (f .high)) Limits.injectionEnd (and-right (leb (natAbs (f .low)) Limits.injectionEnd) (leb (natAbs (f .high)) Limits.injectionEnd) s) in
-    let h = ends-size (f .low) (f .high) x Limits.injectionEnd a b (and-left (leZ (f .low) x) (leZ x (f .high)) e) (and-right (leZ (f .low) x) (leZ x (f .high)) e) in
-    let l = spell-size 15 x (omega arith) in
-    lt-ltb (length (spell x)) 20 (omega arith)
+    le-leb (natAbs x) Limits.injectionEnd
+    (ends-size (f .low) (f .high) x Limits.injectionEnd a b (and-left (leZ (f .low) x) (leZ x (f .high)) e) (and-right (leZ (f .low) x) (leZ x (f .high)) e))
 
-numbers-short : (fs : List Field) (w : Words) → length w ≡ length fs → every small fs ≡ true → InFields fs w → every short (map spell w) ≡ true
+numbers-small : (fs : List Field) (w : Words) → length w ≡ length fs → every small fs ≡ true → InFields fs w → every smallWord w ≡ true
 unfolding every
-numbers-short fs [] e s h = refl
-numbers-short [] (x ∷ w) e s h = absurd (omega arith)
-numbers-short (f ∷ fs) (x ∷ w) e s h =
-    both (number-short f x (and-left (small f) (every small fs) s) (h 0 (omega arith)))
-    (numbers-short fs w (omega arith) (and-right (small f) (every small fs) s) (λ i k. h (suc i) (omega arith)))
+numbers-small fs [] e s h = refl
+numbers-small [] (x ∷ w) e s h = absurd (omega arith)
+numbers-small (f ∷ fs) (x ∷ w) e s h =
+    both (number-small f x (and-left (small f) (every small fs) s) (h 0 (omega arith)))
+    (numbers-small fs w (omega arith) (and-right (small f) (every small fs) s) (λ i k. h (suc i) (omega arith)))
 
-word-short : (k : ℕ) → short (wordOf k) ≡ true
+-- a sign and 16 digits at most
+number-short : (x : ℤ) → smallWord x ≡ true → ltb (length (spell x)) 18 ≡ true
+number-short x e =
+    let h = leb-true (natAbs x) Limits.injectionEnd e in
+    let l = spell-size 15 x (omega arith) in
+    lt-ltb (length (spell x)) 18 (omega arith)
+
+word-short : (k : ℕ) → length (wordOf k) ≤ 5
 unfolding wordOf kinds bytes every
-word-short k = of-kind (λ (x : Kind). short (x .spelt)) kinds k refl refl
+word-short k = leb-true (length (wordOf k)) 5 (of-kind (λ (x : Kind). leb (length (x .spelt)) 5) kinds k refl refl)
 
 module _ (first : Bool) (head : Row) (before : List Row) (r : Row) (t : Taken first head before r) (few : length r ≤ suc (length (fieldsOf (kind r)))) where
-  pub line-short : ltb (length (spellLine r)) 121 ≡ true
-  unfolding spellLine every
+  pub row-small : smallRow r ≡ true
+  row-small = numbers-small (fieldsOf (kind r)) (tail r) (long first head before r t few) (fields-small (kind r)) (held first head before r t few)
+
+  -- a word of 5 bytes and 5 fields of 18 with their tabs
+  pub line-short : ltb (length (spellLine r)) 96 ≡ true
+  unfolding spellLine
   line-short =
-      let n : length (map spell (tail r)) ≡ length (tail r) = length-map (tail r) spell in
-      let w = long first head before r t few in
-      let p : every short (wordOf (kind r) ∷ map spell (tail r)) ≡ true =
-      both (word-short (kind r)) (numbers-short (fieldsOf (kind r)) (tail r) w (fields-small (kind r)) (held first head before r t few)) in
-      let l = join-length TAB 20 (wordOf (kind r) ∷ map spell (tail r)) p in
-      let a = arity-most (kind r) in
-      lt-ltb (length (join TAB (wordOf (kind r) ∷ map spell (tail r)))) 121 (omega arith)
+      let p : every (λ s. ltb (length s) 18) (map spell (tail r)) ≡ true = every-map (λ s. ltb (length s) 18) spell (tail r) ∙ every-weaken smallWord (λ x. ltb (length (spell x)) 18) (tail r) number-short row-small in
+      let l = join-first TAB 18 (wordOf (kind r)) (map spell (tail r)) p in
+      let n : length (map spell (tail r)) ≡ length (fieldsOf (kind r)) = length-map (tail r) spell ∙ long first head before r t few in
+      lt-ltb (length (join TAB (wordOf (kind r) ∷ map spell (tail r)))) 96 (omega (arith, word-short (kind r), arity-most (kind r)))

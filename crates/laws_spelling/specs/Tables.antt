@@ -79,6 +79,12 @@ table-back : (x y w : ℤ) (rs : List Row) → Sayables false rs → tableOf (ne
 unfolding tableOf networkOf filled
 table-back x y w rs s = ap (λ (l : List Row). (z ∷ x ∷ y ∷ w ∷ []) ∷ l) (rows-back false rs _ s)
 
+pub table-again : (rows : Table) → 0 < length rows → Sayables true rows → tableOf (networkOf rows) ≡ rows
+table-again [] h s = absurd (omega arith)
+table-again (r ∷ rs) h s =
+    let q = study-row r (s .0) (s .1) in
+    subst (λ (r : Row). tableOf (networkOf (r ∷ rs)) ≡ r ∷ rs) (sym (q .is)) (table-back (q .x) (q .y) (q .w) rs (s .2))
+
 row-count : (x y w : ℤ) (rs : List Row) → rowCount (networkOf ((z ∷ x ∷ y ∷ w ∷ []) ∷ rs)) ≡ pos (length rs)
 unfolding networkOf filled
 row-count x y w rs = refl

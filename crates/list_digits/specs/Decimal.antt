@@ -1,10 +1,10 @@
 -- A number's digits, several at a time. Assumes nothing.
 use Rattle.whole.specs.Plain.{ℕ, zero, suc, _+_, _*_, _/_, _%_, _^_, _≤_, _<_, _≡_, refl, sym, ap, _∙_, Bool, true}
 use Rattle.whole.specs.Plain.{false, not, List, [], _∷_, _++_, append-assoc, append-nil, eqb, ℤ, pos, negsuc, natAbs}
-use Rattle.whole.specs.Plain.{length, length-append, eq-eqb, ne-eqb, mul-assoc, pow-suc, pow-succ', one-le-pow}
-use Rattle.whole.specs.Plain.{div-div-eq-div-mul, div-le-self, div-one, div-add-mod', decLt, arith}
+use Rattle.whole.specs.Plain.{length, length-append, mul-assoc, pow-suc, pow-succ', one-le-pow}
+use Rattle.whole.specs.Plain.{div-div-eq-div-mul, div-le-self, div-one, div-add-mod', arith}
 use Rattle.paper.specs.Listing.{digits, shownNat, shown}
-use Rattle.laws_spelling.specs.Digits.{stopped, before}
+use Rattle.laws_spelling.specs.Digits.{before, last, one-digit, more-digits, same-room}
 use Rattle.list_digits.specs.Puts.{Puts, Parts, puts-room}
 
 -- n's last w digits, zeros in front too
@@ -18,32 +18,6 @@ length-fixed zero n = refl
 length-fixed (suc w) n = omega (arith, length-append (fixed w (n / 10)) ((48 + n % 10) ∷ []), length-fixed w (n / 10))
 
 -- ---- the listing's digits, the last one first
-
-abbrev last : ℕ → List ℕ → List ℕ
-last n rest = (48 + n % 10) ∷ rest
-
--- a digit, and a number of more than one
-one-digit : (f n : ℕ) (rest : List ℕ) → n < 10 → digits (suc f) true n rest ≡ last n rest
-unfolding digits
-one-digit f n rest h = ap (λ (b : Bool). digits f (not b) (n / 10) (last n rest)) (eq-eqb (n / 10) 0 (omega arith)) ∙ stopped f (n / 10) (last n rest)
-
-more-digits : (f n : ℕ) (rest : List ℕ) → 10 ≤ n → digits (suc f) true n rest ≡ digits f true (n / 10) (last n rest)
-unfolding digits
-more-digits f n rest h = ap (λ (b : Bool). digits f (not b) (n / 10) (last n rest)) (ne-eqb (n / 10) 0 (λ e. omega arith))
-
--- where there is room, more of it changes nothing
-same-room : (f g n : ℕ) (rest : List ℕ) → n < 10 ^ suc f → n < 10 ^ suc g → digits (suc f) true n rest ≡ digits (suc g) true n rest
-same-room zero g n rest h k = one-digit zero n rest h ∙ sym (one-digit g n rest h)
-same-room (suc f) zero n rest h k = one-digit (suc f) n rest k ∙ sym (one-digit zero n rest k)
-same-room (suc f) (suc g) n rest h k = go (decLt n 10) (same-room f g (n / 10) (last n rest))
-  where
-    go : Dec (n < 10) → (n / 10 < 10 ^ suc f → n / 10 < 10 ^ suc g → digits (suc f) true (n / 10) (last n rest) ≡ digits (suc g) true (n / 10) (last n rest))
-        → digits (suc (suc f)) true n rest ≡ digits (suc (suc g)) true n rest
-    go (yes l) next = one-digit (suc f) n rest l ∙ sym (one-digit (suc g) n rest l)
-    go (no l) next =
-        more-digits (suc f) n rest (omega arith)
-        ∙ next (omega (arith, pow-suc 10 (suc f))) (omega (arith, pow-suc 10 (suc g)))
-        ∙ sym (more-digits (suc g) n rest (omega arith))
 
 by-ten : (w n : ℕ) → n / 10 / 10 ^ w ≡ n / 10 ^ suc w
 by-ten w n = div-div-eq-div-mul n 10 (10 ^ w) ∙ ap (λ (x : ℕ). n / x) (sym (pow-succ' 10 w))

@@ -1,5 +1,5 @@
 -- Bytes put into a buffer one after another, from a place on: what each function that writes a part of a listing promises. Assumes nothing.
-use Rattle.whole.specs.Plain.{ℕ, suc, _+_, _≤_, _≡_, refl, sym, ap, _∙_, List, [], _∷_, _++_, length, set, drop}
+use Rattle.whole.specs.Plain.{ℕ, suc, _+_, _≤_, _≡_, refl, sym, ap, _∙_, List, [], _∷_, _++_, append-assoc, length, set, drop}
 use Rattle.whole.specs.Plain.{length-append, sets, length-sets, sets-eq, arith}
 use native.Mathlib.Numerals.{add-one}
 
@@ -60,3 +60,28 @@ module _ {whole bs cs : List ℕ} (e : Parts whole bs cs) where
 
   pub both-put : {l m o : List ℕ} {at i q : ℕ} → Puts l at bs i m → Puts m i cs q o → Puts l at whole q o
   both-put p r = puts-as (sym (e .is)) (puts-then p r)
+
+-- ---- a text put part by part: what is put so far, and what is left of it
+
+pub record Going (l : List ℕ) (at : ℕ) (whole left : List ℕ) (next : ℕ) (m : List ℕ) : Type 0 where
+  pub done : List ℕ
+  pub parts : Parts whole done left
+  pub puts : Puts l at done next m
+
+pub going-start : (l : List ℕ) (at : ℕ) (whole : List ℕ) → Going l at whole whole at l
+going-start l at whole = record { done = []; parts = record { is = refl }; puts = puts-none l at }
+
+module _ {l m whole left : List ℕ} {at next : ℕ} (g : Going l at whole left next m) where
+  pub going-room : at + length whole ≤ length l → next + length left ≤ length m
+  going-room h = room-second (g .parts) h (g .puts)
+
+  pub going-on : {bs rest o : List ℕ} {q : ℕ} → Parts left bs rest → Puts m next bs q o → Going l at whole rest q o
+  going-on {bs} {rest} e p =
+      record {
+        done = g .done ++ bs;
+        parts = record { is = g .parts .is ∙ ap (λ (t : List ℕ). g .done ++ t) (e .is) ∙ sym (append-assoc (g .done) bs rest) };
+        puts = puts-then (g .puts) p;
+      }
+
+  pub going-last : {o : List ℕ} {q : ℕ} → Puts m next left q o → Puts l at whole q o
+  going-last p = both-put (g .parts) (g .puts) p

@@ -1,8 +1,8 @@
--- "Every refusal leaves all lent memory unchanged.", of all three calls: T-kept. Assumes nothing.
-use Rattle.whole.specs.Plain.{ℕ, zero, suc, _≡_, refl, _≢_, Bool, true, false, cond, not, _&&_, true≢false, List, eqb}
+-- "Every refusal leaves all lent memory unchanged.", of all calls that the paper numbers: T-kept. Assumes nothing.
+use Rattle.whole.specs.Plain.{ℕ, zero, suc, _≡_, refl, _≢_, Bool, true, false, cond, not, _&&_, _||_, true≢false, List, eqb}
 use Rattle.whole.specs.Plain.{leb, ltb, length, Words}
 use Rattle.paper.specs.Limits as Limits
-use Rattle.paper.specs.Answers.{readingNumber, resettingNumber, accepted}
+use Rattle.paper.specs.Answers.{readingNumber, resettingNumber, writingNumber, accepted}
 use Rattle.paper.specs.Network.{isNetwork}
 use Rattle.paper.specs.Areas.{Net, areaCount}
 use Rattle.paper.specs.Rows.{steps}
@@ -12,6 +12,7 @@ use Rattle.paper.specs.Solve.{Step, stop, move, solve}
 use Rattle.paper.specs.Reading.{Read-out, readEnd, Lines, good, bad, linesOf, readOf}
 use Rattle.paper.specs.Advance.{Memory, Advanced, finish, takeStep, ready, orWait, firstLate, onNext, onNet, fits, advanceOf}
 use Rattle.paper.specs.Resetting.{Reset-out, resetOf}
+use Rattle.paper.specs.Writing.{Written-out, writeOf}
 
 -- both branches of a test
 pub either : {A : Type 0} (P : A → Type 0) (b : Bool) (x y : A) → P x → P y → P (cond b x y)
@@ -90,3 +91,17 @@ still-all net a m =
 
 pub advance-refused : (net : Words) (a : ℕ) (m : Memory) → accepted (advanceOf net a m .answer) ≡ false → advanceOf net a m .after ≡ m
 advance-refused net a m = still-all net a m .still
+
+-- ---- writing: "nothing is written in either case"
+
+record Unwritten (out : List ℕ) (r : Written-out) : Type 0 where
+  unwritten : writingNumber (r .answer) ≢ 0 → r .out ≡ out
+
+write-kept : (net : Words) (out : List ℕ) → Unwritten out (writeOf net out)
+unfolding writeOf
+write-kept net out =
+    either (Unwritten out) (not (eqb (length net) Limits.networkWords) || ltb (length out) Limits.studyBytes) _ _ (record { unwritten = λ h. refl })
+    (either (Unwritten out) (not (isNetwork net)) _ _ (record { unwritten = λ h. refl }) (record { unwritten = λ h. absurd (h refl) }))
+
+pub write-refused : (net : Words) (out : List ℕ) → writingNumber (writeOf net out .answer) ≢ 0 → writeOf net out .out ≡ out
+write-refused net out = write-kept net out .unwritten

@@ -23,6 +23,7 @@ pub mod Lent
 pub mod Resetting
 pub mod Listing
 pub mod Pieces
+pub mod Writing
 pub mod Computing
 pub mod Examples
 pub mod Cases

@@ -86,6 +86,9 @@ noKind = length kinds
 abbrev pub unknown : Kind
 unknown = record { spelt = []; class = aHead; fields = [] }
 
+unfoldable pub wordOf : ℕ → List ℕ
+wordOf k = getD kinds k unknown .spelt
+
 unfoldable pub fieldsOf : ℕ → List Field
 fieldsOf k = getD kinds k unknown .fields
 

@@ -1,5 +1,5 @@
--- T-total: every call ends in an acceptance or in a refusal of the paper's table, 1 to 7 and 9 from reading, 8 and 9 from resetting, 8 to 17 from
--- advancing; and a reading's refusal names a line of the text. Assumes nothing.
+-- T-total: every call ends in an acceptance or in a refusal of the paper's table, 1 to 7 and 9 from reading, 8 and 9 from resetting and from
+-- writing, 8 to 17 from advancing; and a reading's refusal names a line of the text. Assumes nothing.
 use Rattle.whole.specs.Plain.{ℕ, zero, suc, _≤_, _≡_, refl, _⊎_, inl, inr, not, _||_, List, [], ltb, eqb, lit≤, length}
 use Rattle.whole.specs.Plain.{arith, Words, empty, final, lead, fold}
 use Rattle.paper.specs.declared.Reading.{Reading}
@@ -11,9 +11,12 @@ use Rattle.paper.specs.declared.Resetting.the-variants as S
 use Rattle.paper.specs.declared.Advance.{Advance}
 use Rattle.paper.specs.declared.Advance.the-variants.{Took, State, Area, Done, Wait, Floating, Range, Unbalanced, History}
 use Rattle.paper.specs.declared.Advance.the-variants as A
+use Rattle.paper.specs.declared.Writing.{Writing}
+use Rattle.paper.specs.declared.Writing.the-variants.{Wrote}
+use Rattle.paper.specs.declared.Writing.the-variants as W
 use Rattle.whole.specs.Folds.{fold-keeps}
 use Rattle.paper.specs.Limits as Limits
-use Rattle.paper.specs.Answers.{readingNumber, resettingNumber, advanceNumber}
+use Rattle.paper.specs.Answers.{readingNumber, resettingNumber, advanceNumber, writingNumber}
 use Rattle.paper.specs.Rows.{Row}
 use Rattle.paper.specs.Text.{LF, split, rowOf}
 use Rattle.paper.specs.Network.{Table}
@@ -37,6 +40,11 @@ pub resetting-number : (x : Resetting) → (resettingNumber x ≡ 0) ⊎ ((reset
 resetting-number Reset = inl refl
 resetting-number S.Network = inr (inl refl)
 resetting-number S.Store = inr (inr refl)
+
+pub writing-number : (x : Writing) → (writingNumber x ≡ 0) ⊎ ((writingNumber x ≡ 8) ⊎ (writingNumber x ≡ 9))
+writing-number (Wrote n) = inl refl
+writing-number W.Network = inr (inl refl)
+writing-number W.Store = inr (inr refl)
 
 pub advance-number : (x : Advance) → (advanceNumber x ≡ 0) ⊎ ((8 ≤ advanceNumber x) × (advanceNumber x ≤ 17))
 advance-number (Took k) = inl refl

@@ -95,6 +95,9 @@ impl Room {
 
     // what a buffer for the listing has at least
     pub const STEP_BYTES: usize = 4_160;
+
+    // what an output area for a study's text has at least
+    pub const STUDY_BYTES: usize = 8_192;
 }
 
 pub fn quantities_agree()
@@ -145,4 +148,5 @@ pub fn room_agrees()
     ensures { λ _. do ⌜ (← ⟦Room::RECORDS⟧ .entry) ≡ Limits.recordWords ⌝ }
     ensures { λ _. do ⌜ (← ⟦Room::STORE⟧ .entry) ≡ Limits.storeWords ⌝ }
     ensures { λ _. do ⌜ (← ⟦Room::STEP_BYTES⟧ .entry) ≡ Limits.stepBytes ⌝ }
+    ensures { λ _. do ⌜ (← ⟦Room::STUDY_BYTES⟧ .entry) ≡ Limits.studyBytes ⌝ }
 {}

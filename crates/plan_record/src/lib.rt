@@ -6,6 +6,14 @@ ghost use Rattle.paper.specs.Rows as Rows;
 ghost use Rattle.paper.specs.Network.{isNetwork};
 ghost use Rattle.laws_facts.specs.Nets.{netIn, rowAt};
 
+// how many rows there are
+pub fn row_count(net: &[i64]) -> usize
+    requires { ⌜ isNetwork (now net) ≡ true ⌝ }
+    ensures { λ r. ⌜ r ≡ length (netIn (was net) .rows) ⌝ }
+{
+    net[3] as usize
+}
+
 // word j of row i
 pub fn value(net: &[i64], i: usize, j: usize) -> i64
     requires { ⌜ isNetwork (now net) ≡ true ⌝ }

@@ -104,13 +104,6 @@ pub struct Totals {
     pub limit: i64,
 }
 
-fn row_count(net: &[i64]) -> usize
-    requires { ⌜ isNetwork (now net) ≡ true ⌝ }
-    ensures { λ r. ⌜ r ≡ length (netIn (was net) .rows) ⌝ }
-{
-    net[3] as usize
-}
-
 // `study`: step length, steps, limit
 fn study_word(net: &[i64], j: usize) -> i64
     requires { ⌜ (isNetwork (now net) ≡ true) × (j < 3) ⌝ }
@@ -285,7 +278,7 @@ pub fn make(net: &[i64], area: &mut [usize; Node::PLACES], plan: &mut Table) -> 
     ensures { λ _. ⌜ Planned (netIn (was net)) (is plan) × Mapped (netIn (was net)) (is area) ⌝ }
     ensures { λ r. ⌜ r ≡ totalsOf (netIn (was net)) ⌝ }
 {
-    let rows = row_count(net);
+    let rows = plan_record::row_count(net);
     let step = study_number(net, 0);
     let nodes = node_count(net, rows);
     let areas = plan_areas::areas(net, rows, nodes, area);

@@ -5,27 +5,23 @@ use Rattle.whole.specs.Plain.{sameBytes}
 use native.Mathlib.Numerals.{add-one}
 use Rattle.whole.specs.Tables.{table, table-at}
 use Rattle.whole.specs.Truths.{and-false}
-use Rattle.paper.specs.Rows.{bytes, kinds, unknown}
+use Rattle.paper.specs.Rows.{bytes, kinds, wordOf}
 use Rattle.paper.specs.Text.{placeOf}
 use Rattle.paper.specs.Kept.{either}
 use Rattle.text_kinds.specs.Fields.{each}
 
--- the word of a kind
-unfoldable pub spelling : ℕ → List ℕ
-spelling k = getD kinds k unknown .spelt
-
--- ---- its letters, as code holds them
+-- ---- the letters of a kind's word, as code holds them
 
 unfoldable pub lettersOf : ℕ → List ℕ
-lettersOf k = table 5 (λ i. getD (spelling k) i 0)
+lettersOf k = table 5 (λ i. getD (wordOf k) i 0)
 
-pub letter-at : (k i : ℕ) → i < 5 → getD (lettersOf k) i 0 ≡ getD (spelling k) i 0
+pub letter-at : (k i : ℕ) → i < 5 → getD (lettersOf k) i 0 ≡ getD (wordOf k) i 0
 unfolding lettersOf
-letter-at k i h = table-at 5 (λ i. getD (spelling k) i 0) 0 i h
+letter-at k i h = table-at 5 (λ i. getD (wordOf k) i 0) 0 i h
 
-pub spelling-short : (k : ℕ) → k < 8 → length (spelling k) ≤ 5
-unfolding spelling kinds bytes
-spelling-short = each (λ k. length (spelling k) ≤ 5) (omega arith) (omega arith) (omega arith) (omega arith) (omega arith) (omega arith) (omega arith) (omega arith)
+pub word-short : (k : ℕ) → k < 8 → length (wordOf k) ≤ 5
+unfolding wordOf kinds bytes
+word-short = each (λ k. length (wordOf k) ≤ 5) (omega arith) (omega arith) (omega arith) (omega arith) (omega arith) (omega arith) (omega arith) (omega arith)
 
 -- ---- two words, letter by letter
 
@@ -49,7 +45,7 @@ same-done a w i e h = let g : length a ≤ i = omega arith in rw (drop-of-length
 
 pub record Only (b n k : ℕ) : Type 0 where
   pub most : k ≤ 8
-  pub only : (t : List ℕ) → suc (length t) ≡ n → placeOf 0 kinds (b ∷ t) ≡ cond (sameBytes (spelling k) (b ∷ t)) k 8
+  pub only : (t : List ℕ) → suc (length t) ≡ n → placeOf 0 kinds (b ∷ t) ≡ cond (sameBytes (wordOf k) (b ∷ t)) k 8
 
 -- a byte that begins none of the words in capitals
 pub record Other (b : ℕ) : Type 0 where
@@ -62,44 +58,44 @@ pub record Other (b : ℕ) : Type 0 where
 
 module _ {b n : ℕ} where
   pub only-R : b ≡ 82 → Only b n 1
-  unfolding placeOf kinds bytes sameBytes spelling
+  unfolding placeOf kinds bytes sameBytes wordOf
   only-R e = record { most = omega arith; only = λ t l. rw e }
 
   pub only-C : b ≡ 67 → Only b n 3
-  unfolding placeOf kinds bytes sameBytes spelling
+  unfolding placeOf kinds bytes sameBytes wordOf
   only-C e = record { most = omega arith; only = λ t l. rw e }
 
   pub only-SW : b ≡ 83 → Only b n 5
-  unfolding placeOf kinds bytes sameBytes spelling
+  unfolding placeOf kinds bytes sameBytes wordOf
   only-SW e = record { most = omega arith; only = λ t l. rw e }
 
   pub only-VS : b ≡ 86 → Only b n 6
-  unfolding placeOf kinds bytes sameBytes spelling
+  unfolding placeOf kinds bytes sameBytes wordOf
   only-VS e = record { most = omega arith; only = λ t l. rw e }
 
   pub only-IS : b ≡ 73 → Only b n 7
-  unfolding placeOf kinds bytes sameBytes spelling
+  unfolding placeOf kinds bytes sameBytes wordOf
   only-IS e = record { most = omega arith; only = λ t l. rw e }
 
   -- L and LINE begin alike
   pub only-L : b ≡ 76 → n ≡ 1 → Only b n 2
-  unfolding placeOf kinds bytes sameBytes spelling
+  unfolding placeOf kinds bytes sameBytes wordOf
   only-L e o =
-      let alone : (t : List ℕ) → suc (length t) ≡ n → placeOf 0 kinds (76 ∷ t) ≡ cond (sameBytes (spelling 2) (76 ∷ t)) 2 8 = elim [ [] ↦ λ l. refl | c ∷ t ↦ λ l. absurd (omega arith) ] in
+      let alone : (t : List ℕ) → suc (length t) ≡ n → placeOf 0 kinds (76 ∷ t) ≡ cond (sameBytes (wordOf 2) (76 ∷ t)) 2 8 = elim [ [] ↦ λ l. refl | c ∷ t ↦ λ l. absurd (omega arith) ] in
       record { most = omega arith; only = λ t l. rw e (alone t l) }
 
   pub only-LINE : b ≡ 76 → (n ≡ 1 → ⊥) → Only b n 4
-  unfolding placeOf kinds bytes sameBytes spelling
+  unfolding placeOf kinds bytes sameBytes wordOf
   only-LINE e o =
-      let more : (t : List ℕ) → suc (length t) ≡ n → placeOf 0 kinds (76 ∷ t) ≡ cond (sameBytes (spelling 4) (76 ∷ t)) 4 8 = elim [ [] ↦ λ l. absurd (o (omega arith)) | c ∷ t ↦ λ l. refl ] in
+      let more : (t : List ℕ) → suc (length t) ≡ n → placeOf 0 kinds (76 ∷ t) ≡ cond (sameBytes (wordOf 4) (76 ∷ t)) 4 8 = elim [ [] ↦ λ l. absurd (o (omega arith)) | c ∷ t ↦ λ l. refl ] in
       record { most = omega arith; only = λ t l. rw e (more t l) }
 
   pub only-study : Other b → Only b n 0
-  unfolding placeOf kinds bytes sameBytes spelling
+  unfolding placeOf kinds bytes sameBytes wordOf
   only-study o = record { most = omega arith; only = λ t l. rw (ne-eqb 82 b (o .not-R), ne-eqb 76 b (o .not-L), ne-eqb 67 b (o .not-C), ne-eqb 83 b (o .not-S), ne-eqb 86 b (o .not-V), ne-eqb 73 b (o .not-I)) }
 
   pub only-none : Other b → (115 ≡ b → ⊥) → Only b n 8
-  unfolding placeOf kinds bytes sameBytes spelling
+  unfolding placeOf kinds bytes sameBytes wordOf
   only-none o s = record { most = omega arith; only = λ t l. rw (ne-eqb 115 b s, ne-eqb 82 b (o .not-R), ne-eqb 76 b (o .not-L), ne-eqb 67 b (o .not-C), ne-eqb 83 b (o .not-S), ne-eqb 86 b (o .not-V), ne-eqb 73 b (o .not-I)) }
 
 -- ---- a turn of the loop over a word's letters
@@ -117,14 +113,14 @@ unfolding placeOf kinds bytes sameBytes
 kind-none [] e = refl
 kind-none (b ∷ w) e = absurd (omega arith)
 
-pub kind-at : (w : List ℕ) (k : ℕ) → (length w ≡ 0 → ⊥) → Only (getD w 0 0) (length w) k → placeOf 0 kinds w ≡ cond (sameBytes (spelling k) w) k 8
+pub kind-at : (w : List ℕ) (k : ℕ) → (length w ≡ 0 → ⊥) → Only (getD w 0 0) (length w) k → placeOf 0 kinds w ≡ cond (sameBytes (wordOf k) w) k 8
 kind-at [] k h o = absurd (h refl)
 kind-at (b ∷ w) k h o = o .only w refl
 
 pub kind-past : (w : List ℕ) (k : ℕ) → (length w ≡ 0 → ⊥) → Only (getD w 0 0) (length w) k → 8 ≤ k → 8 ≡ placeOf 0 kinds w
 kind-past w k h o l =
     let e : k ≡ 8 = omega (arith, o .most) in
-    sym (kind-at w k h o ∙ ap (λ (n : ℕ). cond (sameBytes (spelling k) w) n 8) e ∙ either (λ (n : ℕ). n ≡ 8) (sameBytes (spelling k) w) 8 8 refl refl)
+    sym (kind-at w k h o ∙ ap (λ (n : ℕ). cond (sameBytes (wordOf k) w) n 8) e ∙ either (λ (n : ℕ). n ≡ 8) (sameBytes (wordOf k) w) 8 8 refl refl)
 
-pub kind-same : (w : List ℕ) (k : ℕ) (t : Bool) → (length w ≡ 0 → ⊥) → Only (getD w 0 0) (length w) k → t ≡ sameBytes (spelling k) w → cond t k 8 ≡ placeOf 0 kinds w
+pub kind-same : (w : List ℕ) (k : ℕ) (t : Bool) → (length w ≡ 0 → ⊥) → Only (getD w 0 0) (length w) k → t ≡ sameBytes (wordOf k) w → cond t k 8 ≡ placeOf 0 kinds w
 kind-same w k t h o e = rw (kind-at w k h o, e)

@@ -2,11 +2,11 @@
 // "a number however long is well spelt".
 ghost use Rattle.whole.specs.Plain.{_≤_, _<_, _+_, _≡_, true, false, cond, _&&_, eqb, pos, negℤ, length, getD, drop};
 ghost use Rattle.whole.specs.Plain.{sameBytes};
-ghost use Rattle.paper.specs.Rows.{kinds};
+ghost use Rattle.paper.specs.Rows.{kinds, wordOf};
 ghost use Rattle.paper.specs.Text.{digit, placeOf};
 ghost use Rattle.whole.specs.Loans.{was};
 ghost use Rattle.text_words.specs.Numbers.{held, digitsOf, plainOf, readNumber};
-ghost use Rattle.text_words.specs.Words.{spelling, lettersOf, Only};
+ghost use Rattle.text_words.specs.Words.{lettersOf, Only};
 
 // ---- numbers, held at 10^16, past every end of a field
 
@@ -110,9 +110,9 @@ pub fn read_number(s: &[u8], signed: bool) -> Number
 
 // ---- words
 
-fn length_of(kind: usize) -> usize
+pub fn length_of(kind: usize) -> usize
     requires { ⌜ kind < 8 ⌝ }
-    ensures { λ r. ⌜ r ≡ length (spelling kind) ⌝ }
+    ensures { λ r. ⌜ r ≡ length (wordOf kind) ⌝ }
 {
     match kind {
         0 => 5,
@@ -124,7 +124,7 @@ fn length_of(kind: usize) -> usize
     }
 }
 
-fn letters_of(kind: usize) -> [u8; 5]
+pub fn letters_of(kind: usize) -> [u8; 5]
     requires { ⌜ kind < 8 ⌝ }
     ensures { λ r. ⌜ r ≡ lettersOf kind ⌝ }
 {
@@ -142,7 +142,7 @@ fn letters_of(kind: usize) -> [u8; 5]
 
 fn is_word(word: &[u8], kind: usize) -> bool
     requires { ⌜ kind < 8 ⌝ }
-    ensures { λ r. ⌜ r ≡ sameBytes (spelling kind) (was word) ⌝ }
+    ensures { λ r. ⌜ r ≡ sameBytes (wordOf kind) (was word) ⌝ }
 {
     if word.len() != length_of(kind) {
         return false;

@@ -1,35 +1,34 @@
 use Rattle.whole.specs.Plain.{ℕ, _≡_, refl, length}
-use Rattle.paper.specs.Rows.{bytes, kinds}
+use Rattle.paper.specs.Rows.{bytes, kinds, wordOf}
 use Rattle.text_kinds.specs.Fields.{each}
-use Rattle.text_words.specs.Words.{spelling}
 use Rattle.text_words.proofs.length_of.Statement.{statement}
 use Rattle.text_words.proofs.length_of.Tie as tie
 
 returns : tie.Need-returns
-unfolding spelling kinds bytes
+unfolding wordOf kinds bytes
 returns c = let e : c .before .args .kind ≡ 0 = c .match .keys1 in rw e
 
 returns-2 : tie.Need-returns-2
-unfolding spelling kinds bytes
+unfolding wordOf kinds bytes
 returns-2 c = let e : c .before .args .kind ≡ 4 = c .match .keys2 in rw e
 
 returns-3 : tie.Need-returns-3
-unfolding spelling kinds bytes
+unfolding wordOf kinds bytes
 returns-3 c = let e : c .before .args .kind ≡ 5 = c .match .keys3 in rw e
 
 returns-4 : tie.Need-returns-4
-unfolding spelling kinds bytes
+unfolding wordOf kinds bytes
 returns-4 c = let e : c .before .args .kind ≡ 6 = c .match .keys4 in rw e
 
 returns-5 : tie.Need-returns-5
-unfolding spelling kinds bytes
+unfolding wordOf kinds bytes
 returns-5 c = let e : c .before .args .kind ≡ 7 = c .match .keys5 in rw e
 
 returns-6 : tie.Need-returns-6
-unfolding spelling kinds bytes
+unfolding wordOf kinds bytes
 returns-6 c =
     let r = c .match .rest in
-    each (λ (k : ℕ). (k ≡ 0 → ⊥) → (k ≡ 4 → ⊥) → (k ≡ 5 → ⊥) → (k ≡ 6 → ⊥) → (k ≡ 7 → ⊥) → _≡_ {A = ℕ} 1 (length (spelling k)))
+    each (λ (k : ℕ). (k ≡ 0 → ⊥) → (k ≡ 4 → ⊥) → (k ≡ 5 → ⊥) → (k ≡ 6 → ⊥) → (k ≡ 7 → ⊥) → _≡_ {A = ℕ} 1 (length (wordOf k)))
     (λ a b c d e. absurd (a refl)) (λ a b c d e. refl) (λ a b c d e. refl) (λ a b c d e. refl) (λ a b c d e. absurd (b refl)) (λ a b c d e. absurd (c refl)) (λ a b c d e. absurd (d refl)) (λ a b c d e. absurd (e refl))
     (c .before .args .kind) (c .before .pre) (r .0 .0 .0 .0 .1) (r .0 .0 .0 .1) (r .0 .0 .1) (r .0 .1) (r .1)
 

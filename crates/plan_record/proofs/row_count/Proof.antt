@@ -1,10 +1,10 @@
--- `plan_rows::row_count` meets its contract. Assumes nothing.
+-- `plan_record::row_count` meets its contract. Assumes nothing.
 use Rattle.whole.specs.Plain.{ap, _∙_, arith, nat}
 use Rattle.whole.specs.Int.{read64}
 use Rattle.whole.specs.Index.{index}
 use Rattle.laws_facts.specs.Nets.{network-length, row-count-word}
-use Rattle.plan_rows.proofs.row_count.Statement.{statement}
-use Rattle.plan_rows.proofs.row_count.Tie as tie
+use Rattle.plan_record.proofs.row_count.Statement.{statement}
+use Rattle.plan_record.proofs.row_count.Tie as tie
 
 there : tie.Need-shared-slice-copy-out-result
 there c = omega (arith, network-length (c .args .net .now) (c .pre))
