@@ -1,5 +1,5 @@
-//! The paper's three calls over lent memory (the fourth is in list.rs): each answers its number and what the
-//! number carries, and every refusal leaves all lent memory unchanged.
+//! The paper's three calls over lent memory (the listing by pieces is in list.rs, the writer in write.rs): each
+//! answers its number and what the number carries, and every refusal leaves all lent memory unchanged.
 
 use crate::limits::Whole;
 use crate::network::Network;

@@ -19,3 +19,4 @@ pub mod run;
 pub mod solve;
 pub mod state;
 pub mod step;
+pub mod write;

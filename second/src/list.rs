@@ -1,4 +1,4 @@
-//! The fourth call: the listing by pieces. All areas advance over lent memory, full step after full step, and
+//! The listing by pieces. All areas advance over lent memory, full step after full step, and
 //! each full step is listed into a lent buffer as long as it has room.
 
 use crate::calls;

@@ -21,6 +21,8 @@ const STOP: usize = 3;
 const FIRST_PIECE: usize = 6;
 const PIECES: usize = 5;
 const LIST: u64 = 3;
+const WRITE: u64 = 4;
+const LISTING: u64 = 5;
 const NETWORK: usize = 0;
 const BYTES: usize = 4;
 /// A request goes in one piece, so that the bridge wakes once.
@@ -65,6 +67,17 @@ pub fn list(
     out: &mut [u8],
 ) -> Listed {
     on_state(LIST, 0, network, [records, froms, tos], Some(out))
+}
+
+pub fn write(network: &[i64], out: &mut [u8]) -> (u64, u64) {
+    let mut bridge = bridge();
+    bridge.begin(WRITE, 0);
+    bridge.lend_words(NETWORK, network);
+    bridge.lend_bytes(out);
+    bridge.call();
+    bridge.take_bytes(out);
+    let told = bridge.answer(WRITE);
+    (told.number, told.written)
 }
 
 fn on_state(call: u64, area: u64, network: &[i64], state: [&mut [i64]; 3], out: Option<&mut [u8]>) -> Listed {
@@ -119,7 +132,7 @@ impl Bridge {
 
     /// What emtrun writes for this text; a note where the bridge ends over it, and a new bridge for the next.
     pub fn listing(&mut self, text: &[u8]) -> String {
-        self.begin(4, 0);
+        self.begin(LISTING, 0);
         self.lend_bytes(text);
         let mut length = [0; 8];
         let listed = self.send().and_then(|()| self.answers.read_exact(&mut length)).and_then(|()| {

@@ -1,4 +1,4 @@
-//! `compare calls`: the proved library's four calls against ours, every lent word after every call.
+//! `compare calls`: the proved library's five calls against ours, every lent word after every call.
 
 use super::arguments::Arguments;
 use super::damage;
@@ -15,6 +15,8 @@ use super::studies;
 use super::tally::{Difference, Tally};
 use super::text_mode;
 use super::widest;
+use super::write_slips;
+use super::writings;
 
 const MOST_REPORTS: u64 = 10;
 const SHRINK_TRIES: usize = 3_000;
@@ -27,13 +29,16 @@ pub type Question<'a> = &'a dyn Fn(&[u8], &mut Tally) -> Result<(), Difference>;
 pub fn compare_calls(arguments: &Arguments) -> bool {
     let Some(calls) = foreign::proved_calls() else {
         println!(
-            "built without the proved library: see README.md for the features read, reset, advance, list"
+            "built without the proved library: see README.md for the features read, reset, advance, list, write"
         );
         return false;
     };
     let seed = arguments.number("--seed", 1);
     println!("seed {seed}");
-    let tally = compare_all(&calls, &Extent::of(arguments, seed), true);
+    let mut tally = compare_all(&calls, &Extent::of(arguments, seed), true);
+    if calls.write.is_some() {
+        writings::miss_nothing(&mut tally);
+    }
     tally.finish()
 }
 
@@ -65,7 +70,7 @@ impl Extent {
 fn compare_all(calls: &Calls, extent: &Extent, aloud: bool) -> Tally {
     let mut tally = Tally::default();
     compare_reading(calls, extent, aloud, &mut tally);
-    compare_fixed_listings(calls, aloud, &mut tally);
+    compare_fixed_studies(calls, aloud, &mut tally);
     for index in extent.first..extent.first + extent.studies {
         if stop_early(&tally, aloud) {
             break;
@@ -76,7 +81,8 @@ fn compare_all(calls: &Calls, extent: &Extent, aloud: bool) -> Tally {
         let failed = tally.failed;
         ask(&text, aloud, &mut tally, &|text, tally| {
             moves::ask_moves(calls, text, seed, depth, tally)?;
-            listings::ask_listings(calls, text, seed, depth, tally)
+            listings::ask_listings(calls, text, seed, depth, tally)?;
+            writings::ask_writings(calls, text, seed, depth, tally)
         });
         if aloud && tally.failed > failed {
             println!("found at study number {index}: --first {index} --count 1 asks it again\n");
@@ -108,14 +114,18 @@ fn compare_reading(calls: &Calls, extent: &Extent, aloud: bool, tally: &mut Tall
     }
 }
 
-/// What random studies do not come to: the widest step, and a study without areas.
-fn compare_fixed_listings(calls: &Calls, aloud: bool, tally: &mut Tally) {
+/// What random studies do not come to: the widest step, the longest text, and a study without areas.
+fn compare_fixed_studies(calls: &Calls, aloud: bool, tally: &mut Tally) {
     ask(&widest::text(), aloud, tally, &|text, tally| listings::ask_widest(calls, text, tally));
     for text in ["study\t1000\t1\t0\n", "study\t1\t1000000\t0\n"] {
         ask(text.as_bytes(), aloud, tally, &|text, tally| {
-            listings::ask_listings(calls, text, 0, Depth::Usual, tally)
+            listings::ask_listings(calls, text, 0, Depth::Usual, tally)?;
+            writings::ask_writings(calls, text, 0, Depth::Usual, tally)
         });
     }
+    ask(&writings::longest_text(), aloud, tally, &|text, tally| {
+        writings::ask_writings(calls, text, 0, Depth::Usual, tally)
+    });
 }
 
 /// A slip is found by its first difference; the proved library gets a handful of reports.
@@ -146,8 +156,10 @@ pub fn compare_self(arguments: &Arguments) -> bool {
     let studies = arguments.number("--count", 200);
     let extent = Extent { seed, fixed_list: 1, edits: 1, texts: 2 * studies, studies, first: 0 };
     let mut tally = compare_all(&slips::own_calls(), &extent, true);
+    writings::miss_nothing(&mut tally);
     // The planted ones need no list of texts but where the slip is the reader's.
-    for (name, calls, in_reader) in slips::planted().into_iter().chain(list_slips::planted()) {
+    let planted = [slips::planted(), list_slips::planted(), write_slips::planted()].concat();
+    for (name, calls, in_reader) in planted {
         let extent = Extent { fixed_list: usize::from(in_reader), edits: 0, texts: 50, ..extent };
         let found = compare_all(&calls, &extent, false).failed > 0;
         println!("{} planted slip: {name}", if found { "found" } else { "NOT FOUND" });

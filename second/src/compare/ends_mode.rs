@@ -50,7 +50,7 @@ impl Found {
 pub fn compare_ends(arguments: &Arguments) -> bool {
     let Some(calls) = foreign::proved_calls() else {
         println!(
-            "built without the proved library: see README.md for the features read, reset, advance, list"
+            "built without the proved library: see README.md for the features read, reset, advance, list, write"
         );
         return false;
     };

@@ -8,6 +8,7 @@ pub type ReadCall = fn(&[u8], &mut [i64]) -> (u64, u64);
 pub type ResetCall = fn(&[i64], &mut [i64], &mut [i64], &mut [i64]) -> u64;
 pub type AdvanceCall = fn(&[i64], &mut [i64], &mut [i64], &mut [i64], u64) -> (u64, u64);
 pub type ListCall = fn(&[i64], &mut [i64], &mut [i64], &mut [i64], &mut [u8]) -> Listed;
+pub type WriteCall = fn(&[i64], &mut [u8]) -> (u64, u64);
 
 /// A later call is compared only together with the earlier ones.
 #[derive(Clone, Copy)]
@@ -16,6 +17,7 @@ pub struct Calls {
     pub reset: Option<ResetCall>,
     pub advance: Option<AdvanceCall>,
     pub list: Option<ListCall>,
+    pub write: Option<WriteCall>,
 }
 
 /// The proved calls, or none in a build without the library where no bridge is named.
@@ -26,6 +28,7 @@ pub fn proved_calls() -> Option<Calls> {
             reset: Some(bridged::reset),
             advance: Some(bridged::advance),
             list: Some(bridged::list),
+            write: Some(bridged::write),
         });
     }
     #[cfg(feature = "read")]
@@ -43,6 +46,10 @@ pub fn proved_calls() -> Option<Calls> {
         list: Some(linked::list),
         #[cfg(not(feature = "list"))]
         list: None,
+        #[cfg(feature = "write")]
+        write: Some(linked::write),
+        #[cfg(not(feature = "write"))]
+        write: None,
     });
     #[cfg(not(feature = "read"))]
     None
@@ -118,6 +125,14 @@ mod linked {
             area: *mut u64,
             number: *mut u64,
             place: *mut u64,
+        ) -> u64;
+        #[cfg(feature = "write")]
+        fn emt_write(
+            network: *const i64,
+            network_len: usize,
+            out: *mut u8,
+            out_len: usize,
+            written: *mut u64,
         ) -> u64;
     }
 
@@ -273,5 +288,14 @@ mod linked {
             )
         };
         Listed { number, written, stop: [area, refusal, place] }
+    }
+
+    #[cfg(feature = "write")]
+    pub fn write(network: &[i64], out: &mut [u8]) -> (u64, u64) {
+        let mut written = UNWRITTEN;
+        // SAFETY: both pairs come from slices, and `written` is one word of our own.
+        let number =
+            unsafe { emt_write(network.as_ptr(), network.len(), out.as_mut_ptr(), out.len(), &mut written) };
+        (number, written)
     }
 }

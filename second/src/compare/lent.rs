@@ -1,11 +1,12 @@
 //! Lent memory for one question: our calls work on it directly, the others on a copy between guard words.
 
 use super::dice::Dice;
-use super::foreign::{AdvanceCall, ListCall, ReadCall, ResetCall};
+use super::foreign::{AdvanceCall, ListCall, ReadCall, ResetCall, WriteCall};
 use super::tally::Difference;
 use crate::calls;
 use crate::list::{self, Listed, STEP_ROOM};
 use crate::state::{RECORD_WORDS, STORE_WORDS};
+use crate::write;
 use std::fmt::Display;
 
 /// What is lent in slices, and what stands around them.
@@ -117,6 +118,15 @@ pub fn rubbish(dice: &mut Dice, length: usize) -> Vec<i64> {
     (0..length).map(|_| dice.roll() as i64).collect()
 }
 
+pub fn rubbish_bytes(dice: &mut Dice, length: usize) -> Vec<u8> {
+    let mut bytes = vec![0; length];
+    for some in bytes.chunks_mut(8) {
+        let random = dice.roll().to_le_bytes();
+        some.copy_from_slice(&random[..some.len()]);
+    }
+    bytes
+}
+
 fn settle(question: String, ours: String, theirs: String, found: Vec<String>) -> Result<(), Difference> {
     if ours == theirs && found.is_empty() {
         return Ok(());
@@ -217,6 +227,26 @@ pub fn same_list(call: ListCall, lent: &mut Lent, out: &mut [u8]) -> Result<List
     let same = out.iter().zip(buffer.content()).take_while(|(our, their)| our == their).count();
     let ours_shown = shown_list(ours, out, same);
     settle(question, ours_shown, shown_list(theirs, buffer.content(), same), found).map(|()| ours)
+}
+
+/// Asks both to write the network's text into the area; answers ours, with `out` as we leave it, where answer,
+/// bytes told, network and every byte of the area agree.
+pub fn same_write(call: WriteCall, network: &[i64], out: &mut [u8]) -> Result<(u64, u64), Difference> {
+    let (mut words, mut area) = (Guarded::around(network), Guarded::around(out));
+    let theirs = call(words.lent(), area.lent());
+    let ours = write::write(network, out);
+    let mut found = words.differences("network", network);
+    found.extend(area.differences("area", out));
+    if ours == theirs && found.is_empty() {
+        return Ok(ours);
+    }
+    let question = format!("in writing {} words into {} bytes", network.len(), out.len());
+    let shown = |answer: (u64, u64), out: &[u8]| {
+        let text = &out[..out.len().min(answer.1 as usize)];
+        format!("number {}, {} bytes written: {}", answer.0, answer.1, text.escape_ascii())
+    };
+    let theirs = shown(theirs, area.content());
+    settle(question, shown(ours, out), theirs, found).map(|()| ours)
 }
 
 /// The answer, and what is listed from the line on in which the two part.

@@ -3,7 +3,7 @@
 
 use super::dice::Dice;
 use super::foreign::{AdvanceCall, Calls, ListCall};
-use super::lent::{same_advance, same_list, Lent};
+use super::lent::{rubbish_bytes, same_advance, same_list, Lent};
 use super::moves::{self, Depth};
 use super::tally::{Difference, Tally};
 use super::widest;
@@ -86,11 +86,7 @@ impl<'a> ListAsker<'a> {
 
     /// Asks both to list into a buffer of rubbish; answers the number and what is listed.
     fn ask_list(&mut self, room: usize) -> Result<(u64, Vec<u8>), Difference> {
-        let mut out = vec![0; room];
-        for bytes in out.chunks_mut(8) {
-            let random = self.dice.roll().to_le_bytes();
-            bytes.copy_from_slice(&random[..bytes.len()]);
-        }
+        let mut out = rubbish_bytes(&mut self.dice, room);
         let Listed { number, written, .. } = same_list(self.list, &mut self.lent, &mut out)?;
         self.tally.passed += 1;
         self.tally.count(format!("list: {number:2}"));

@@ -24,3 +24,5 @@ pub mod studies;
 pub mod tally;
 pub mod text_mode;
 pub mod widest;
+pub mod write_slips;
+pub mod writings;

@@ -5,6 +5,7 @@ use super::dice::Dice;
 use super::foreign::{AdvanceCall, Calls, ResetCall};
 use super::lent::{self, same_advance, same_reset, Lent};
 use super::tally::{Difference, Tally};
+use super::writings;
 use crate::limits::{self, Whole};
 use crate::network::{Network, Study};
 use crate::reader;
@@ -320,7 +321,7 @@ fn set_counts(dice: &mut Dice, network: &Network, records: &mut [i64]) {
     }
 }
 
-/// The reader asked with a network of the right length and with wrong ones.
+/// The reader asked with a network of the right length and with wrong ones. What it reads is written out again.
 pub fn ask_reading(calls: &Calls, text: &[u8], seed: u64, tally: &mut Tally) -> Result<(), Difference> {
     let mut dice = Dice::new(seed);
     let mut lengths = vec![record::NETWORK_WORDS];
@@ -339,6 +340,9 @@ pub fn ask_reading(calls: &Calls, text: &[u8], seed: u64, tally: &mut Tally) -> 
         let (number, _) = lent::same_read(calls.read, text, &mut network)?;
         tally.passed += 1;
         tally.count(format!("read: {number:2}"));
+        if number == 0 {
+            writings::ask_back(calls, text, &network, tally)?;
+        }
     }
     Ok(())
 }

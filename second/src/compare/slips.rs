@@ -7,6 +7,7 @@ use crate::list;
 use crate::network::Network;
 use crate::record;
 use crate::state;
+use crate::write;
 
 pub fn own_calls() -> Calls {
     Calls {
@@ -14,6 +15,7 @@ pub fn own_calls() -> Calls {
         reset: Some(calls::reset),
         advance: Some(calls::advance),
         list: Some(list::list),
+        write: Some(write::write),
     }
 }
 
