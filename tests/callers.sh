@@ -1,5 +1,6 @@
 #!/usr/bin/env bash
-# The library as its customers link it: the three callers of examples/, E1 to E10 through the compiled calls, and a listing that stops. LIBEMT=PATH takes this archive and makes none.
+# The library as its customers link it: the three callers of examples/, E1 to E10 through the compiled calls, a listing that stops, and a study that is changed and written out again.
+# LIBEMT=PATH takes this archive and makes none.
 # Closing line: N passed, M failed.
 set -u
 cd "$(dirname "$0")/.." || exit 1
@@ -63,6 +64,44 @@ for caller in $callers; do
         failed=$((failed + 1))
     fi
 done
+
+# examples/redraw.c: expect WHAT STATUS FILE WORD.. runs it with these words; it must write just the file, and end with this status
+compile "$work/redraw" examples/redraw.c "$archive" || stop "examples/redraw.c does not compile"
+expect() {
+    local what=$1 status=$2 file=$3
+    shift 3
+    run "$work/redraw" "$@" >"$work/told" 2>"$work/said"
+    if [ $? -eq "$status" ] && cmp -s "$work/told" "$file"; then
+        passed=$((passed + 1))
+    else
+        echo "redraw, $what:"
+        diff "$work/told" "$file" | head -n 10
+        cat "$work/said"
+        failed=$((failed + 1))
+    fi
+}
+tr ' ' '\t' >"$work/drawn.txt" <<'END'
+study 1000 8 0
+R 1 2 2000
+VS 1 -1000 1 0
+LINE 2 3 400000 2000
+IS 3 5 1 0
+R 3 0 1000000000000
+END
+tr ' ' '\t' >"$work/redrawn.txt" <<'END'
+study 1000 8 0
+R 1 2 2000
+VS 1 -1000 1 0
+LINE 2 3 400000 2000
+IS 3 5 1 0
+R 3 0 1000
+END
+expect "a file" 0 "$work/redrawn.txt" 3 1000 "$work/drawn.txt"
+expect "standard input" 0 "$work/redrawn.txt" 3 1000 <"$work/drawn.txt"
+expect "the value it had" 0 studies/areas.txt 8 600000 studies/areas.txt
+expect "a line" 1 /dev/null 2 1000 "$work/drawn.txt"
+expect "a value out of range" 1 /dev/null 3 999 "$work/drawn.txt"
+expect "no study" 1 /dev/null 1 1000 examples/redraw.c
 
 echo "$passed passed, $failed failed"
 [ "$failed" -eq 0 ]
