@@ -66,7 +66,7 @@ enum {
     EMT_FORM = 1,        /* a line's word, fields or spelling */
     EMT_NODE = 2,        /* node over 32, both ends equal, source or line end on ground */
     EMT_VALUE = 3,       /* a field, or the conductance it gives, out of range */
-    EMT_TRAVEL = 4,      /* travel time no multiple of the step length */
+    EMT_TRAVEL = 4,      /* travel time shorter than the step */
     EMT_DOUBLE = 5,      /* a second VS on a node */
     EMT_FULL = 6,        /* too many branches, sources or slots of lines */
     EMT_SIZE = 7,        /* text too long */
@@ -98,15 +98,15 @@ uint64_t emt_advance(const int64_t *network, size_t network_len, int64_t *record
 
 /* Working room for emt_advance_in. Its words may hold anything before a call and are left open after it, whatever the answer. */
 struct emt_room {
-    uint64_t plan[EMT_ROWS][12];
+    uint64_t plan[EMT_ROWS][14];
     int64_t legs[2 * EMT_ROWS][9];
     double factors[EMT_NODES][EMT_NODES];
 };
-#define EMT_ROOM_BYTES 27392 /* its size; another that is stated is refused by EMT_STORE, and the room is not touched */
+#define EMT_ROOM_BYTES 28672 /* its size; another that is stated is refused by EMT_STORE, and the room is not touched */
 
 /* What emt_advance_in calls. */
 uint64_t emt_advance_in_tables(const int64_t *network, size_t network_len, int64_t *records, size_t records_len, int64_t *froms,
-                               size_t froms_len, int64_t *tos, size_t tos_len, uint64_t area, uint64_t *place, uint64_t plan[EMT_ROWS][12],
+                               size_t froms_len, int64_t *tos, size_t tos_len, uint64_t area, uint64_t *place, uint64_t plan[EMT_ROWS][14],
                                int64_t legs[2 * EMT_ROWS][9], double factors[EMT_NODES][EMT_NODES], size_t room_bytes);
 
 /* emt_advance for a caller with little stack: the tables that it would have there are in a lent room, sizeof *room bytes. The same answers,

@@ -204,7 +204,7 @@ pub fn advance_in(
     ensures { λ r. ⌜ Advances (was network) area (before records froms tos) r (after records froms tos) ⌝ }
 {
     let mut areas = [0; Node::PLACES];
-    *plan = [[0; 12]; Room::ROWS];
+    *plan = [[0; plan_rows::WORDS]; Room::ROWS];
     let judged = judge(network, records, froms, tos, area, &mut areas, plan);
     if judged.k == 0 {
         return judged.answer;
@@ -237,7 +237,7 @@ pub fn advance(
     ensures { λ r. ⌜ Advances (was network) area (before records froms tos) r (after records froms tos) ⌝ }
 {
     let mut areas = [0; Node::PLACES];
-    let mut plan = [[0; 12]; Room::ROWS];
+    let mut plan = [[0; plan_rows::WORDS]; Room::ROWS];
     let judged = judge(network, records, froms, tos, area, &mut areas, &mut plan);
     if judged.k == 0 {
         return judged.answer;

@@ -94,7 +94,7 @@ fn on_network(
         (r .answer) (r .count) (is out) (after records froms tos) ⌝ }
 {
     let mut area = [0; Node::PLACES];
-    let mut plan = [[0; 12]; Room::ROWS];
+    let mut plan = [[0; plan_rows::WORDS]; Room::ROWS];
     let totals = plan_rows::make(net, &mut area, &mut plan);
     if !in_step(&plan, totals, records, froms, tos) {
         return Piece {

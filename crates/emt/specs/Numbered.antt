@@ -35,9 +35,9 @@ pub advance-by-one : (net : Words) (a : ℕ) (m : Memory) {x y l k : ℕ} {v w :
     → AdvancesBy net a m x l v → AdvancesBy net a m y k w → (x ≡ y) × ((l ≡ k) × (v ≡ w))
 advance-by-one net a m p q = (p .answer ∙ sym (q .answer), (p .place-of ∙ sym (q .place-of), p .memory ∙ sym (q .memory)))
 
--- the bytes of the lent room: a plan of 80 rows with 12 words each, 160 legs with 9 each, and 32 times 32 doubles
+-- the bytes of the lent room: a plan of 80 rows with 14 words each, 160 legs with 9 each, and 32 times 32 doubles
 abbrev pub roomBytes : ℕ
-roomBytes = 8 * (80 * 12 + 160 * 9 + 32 * 32)
+roomBytes = 8 * (80 * 14 + 160 * 9 + 32 * 32)
 
 -- 9 for a room of another size; else what comes of the call without one
 unfoldable pub advanceIn : ℕ → Words → ℕ → Memory → Advanced

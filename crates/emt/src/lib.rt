@@ -60,7 +60,7 @@ pub extern "C" fn emt_advance(
 pub use call_advance::advance_in;
 
 // 8 bytes for each word of the plan, of the legs and of the factors.
-const ROOM_BYTES: usize = 27392;
+const ROOM_BYTES: usize = 28672;
 
 // The caller states how many bytes the room has that it lends: "a lent length wrong" is 9 here too.
 #[no_mangle]

@@ -1,7 +1,7 @@
 -- "Branch equations": the memory that a step proposes obeys them, accepted or not. Assumes nothing.
 use Rattle.whole.specs.Plain.{ℕ, zero, suc, _+_, _-_, _≤_, _<_, _≡_, refl, sym, ap, _∙_, _⊎_, inl, inr, Bool, true}
-use Rattle.whole.specs.Plain.{false, cond, _&&_, _||_, or-true, List, eqb, ltb, ℤ, negℤ, _+ℤ_, _-ℤ_, _*ℤ_, +ℤ-comm}
-use Rattle.whole.specs.Plain.{+ℤ-idr, zero-*ℤ, negℤ-+ℤ, length, getD, eq-eqb, eqb-true, ne-eqb, lt-ltb, le-ltb, arith}
+use Rattle.whole.specs.Plain.{false, cond, _&&_, _||_, or-true, List, eqb, ℤ, negℤ, _+ℤ_, _-ℤ_, _*ℤ_, +ℤ-comm}
+use Rattle.whole.specs.Plain.{+ℤ-idr, zero-*ℤ, negℤ-+ℤ, length, getD, eq-eqb, eqb-true, ne-eqb, arith}
 use Rattle.whole.specs.Plain.{Words, z, word, numbers}
 use Rattle.whole.specs.Folds.{both, getD-map, getD-numbers, length-numbers}
 use Rattle.paper.specs.Limits as Limits
@@ -9,7 +9,7 @@ use Rattle.paper.specs.Rows.{kind, isBranch, isL, isC, isLine, from, to}
 use Rattle.paper.specs.Conductance.{conductance}
 use Rattle.paper.specs.Areas.{Net, areaOf, rowArea, step}
 use Rattle.paper.specs.Records.{historyAt, slotCount}
-use Rattle.paper.specs.Legs.{Leg, leg, End, ownEnd, otherEnd, Branch, branch, Heard, sentTo, sentAt, heardBy, heard, isOpen, conducts, lineEnd, lineLegs, plainLegs, legsBy, through, current, echo, passedOn}
+use Rattle.paper.specs.Legs.{Leg, leg, End, ownEnd, otherEnd, Branch, branch, Heard, received, sentTo, heardBy, heard, isOpen, conducts, lineEnd, lineLegs, plainLegs, legsBy, through, current, echo, passedOn}
 use Rattle.paper.specs.Apart.{histories-in, end-of, unused-zero}
 use Rattle.paper.specs.Advance.{Memory, written}
 use Rattle.laws_facts.specs.Nets.{rowAt, row-area-from, row-area-to}
@@ -18,7 +18,7 @@ use Rattle.laws_local.specs.Sound.{Sound, sound}
 use Rattle.laws_local.specs.Own.{deaf}
 use Rattle.laws_local.specs.Nodes.{NodeOf}
 use Rattle.laws_local.specs.Written.{volt-put, current-put, to-put, history-put}
-use Rattle.laws_local.specs.Slots.{delayAt, sent, sent-put}
+use Rattle.laws_local.specs.Slots.{sent, sent-put}
 use Rattle.laws_local.specs.Outcome.{stepOf, legsNow, voltsOf}
 use Rattle.laws_demands.specs.Said.{voltage, fromCurrent, toCurrent, history, fromSent, toSent, gu, gv, offer, Obeys, EndObeys}
 use Rattle.laws_demands.specs.Judged.{Asked}
@@ -211,17 +211,10 @@ module _ (N : Net) (a : ℕ) (m : Memory) (ok : Asked N a m) where
       passes-line i w e ∙ ap negℤ (+ℤ-comm (current v w) (through v w) ∙ sum)
 
   -- what an end hears
-  module _ (i : ℕ) (h : ℤ) (far : ℕ → ℤ) (heardIs : h ≡ cond (ltb 0 (k - delayAt N i)) (far (k - delayAt N i)) z) where
-    hears-early : k ≤ delayAt N i → h ≡ z
-    hears-early e = heardIs ∙ rw (le-ltb 0 (k - delayAt N i) (omega arith))
-
-    hears-later : delayAt N i < k → h ≡ far (k - delayAt N i)
-    hears-later e = heardIs ∙ rw (lt-ltb 0 (k - delayAt N i) (omega arith))
-
+  module _ (i : ℕ) (h : ℤ) (far : ℕ → ℤ) (heardIs : h ≡ received (N .head) (rowAt N i) k far) where
     end-obeys : (p : ℕ) (current sends : ℤ) → current ≡ gv N (offer N a m) i p +ℤ h → sends ≡ negℤ (gv N (offer N a m) i p +ℤ (gv N (offer N a m) i p +ℤ h)) → EndObeys N k i p (offer N a m) current sends far
     end-obeys p current sends c d = record {
-      early = λ e. c ∙ rw (hears-early e) (+ℤ-idr (gv N (offer N a m) i p));
-      later = λ e. c ∙ ap (λ (x : ℤ). gv N (offer N a m) i p +ℤ x) (hears-later e);
+      equation = c ∙ ap (λ (x : ℤ). gv N (offer N a m) i p +ℤ x) heardIs;
       sent = d ∙ ap (λ (x : ℤ). negℤ (gv N (offer N a m) i p +ℤ x)) (sym c);
     }
 
@@ -239,7 +232,7 @@ module _ (N : Net) (a : ℕ) (m : Memory) (ok : Asked N a m) where
     room-to = rw (ok .long .tos) (snd .slots)
 
     pub from-obeys : areaOf N (from (rowAt N i)) ≡ a → EndObeys N k i (from (rowAt N i)) (offer N a m) (fromCurrent (offer N a m) i) (fromSent N (offer N a m) i k) (toSent N m i)
-    unfolding written heardBy sentTo sentAt
+    unfolding written heardBy sentTo
     from-obeys e =
         end-obeys i (ear .atFrom) (toSent N m i) (ap (λ (x : Heard). x .atFrom) (ear-is N a k (m .froms) (m .tos) i there) ∙ rw (l, eq-eqb (areaOf N (from (rowAt N i))) a e))
         (from (rowAt N i)) (fromCurrent (offer N a m) i) (fromSent N (offer N a m) i k)
@@ -253,7 +246,7 @@ module _ (N : Net) (a : ℕ) (m : Memory) (ok : Asked N a m) where
         n = node-at (from (rowAt N i)) e (ok .net .row i there .line l .fromOff) (ok .net .row i there .branch (line-branch (rowAt N i) l) .fromIn .most)
 
     pub to-obeys : areaOf N (to (rowAt N i)) ≡ a → EndObeys N k i (to (rowAt N i)) (offer N a m) (toCurrent (offer N a m) i) (toSent N (offer N a m) i k) (fromSent N m i)
-    unfolding written heardBy sentTo sentAt
+    unfolding written heardBy sentTo
     to-obeys e =
         end-obeys i (ear .atTo) (fromSent N m i) (ap (λ (x : Heard). x .atTo) (ear-is N a k (m .froms) (m .tos) i there) ∙ rw (l, eq-eqb (areaOf N (to (rowAt N i))) a e))
         (to (rowAt N i)) (toCurrent (offer N a m) i) (toSent N (offer N a m) i k)

@@ -1,6 +1,6 @@
 -- One step of one area in document 01's words: what the records and line stores say before it (m) and after it (n). Definitions only, to be held
 -- beside the paper. Assumes nothing.
-use Rattle.whole.specs.Plain.{ℕ, zero, suc, _+_, _-_, _≤_, _<_, _≡_, _≢_, true, false, cond, List, eqb, ℤ, pos, negℤ}
+use Rattle.whole.specs.Plain.{ℕ, zero, suc, _+_, _≤_, _<_, _≡_, _≢_, true, false, cond, List, eqb, ℤ, pos, negℤ}
 use Rattle.whole.specs.Plain.{natAbs, _+ℤ_, _-ℤ_, _*ℤ_, length, getD, z, word, numbers, total}
 use lib.Ieee.{Float, nan}
 use Rattle.paper.specs.Rows.{isBranch, isR, isL, isC, isLine, isSwitch, isFixing, from, to, at, limit}
@@ -8,14 +8,14 @@ use Rattle.paper.specs.Conductance.{conductance}
 use Rattle.paper.specs.Areas.{Net, areaOf, areaCount, rowArea, step, fixed, freeOf}
 use Rattle.paper.specs.Sources.{source, injected}
 use Rattle.paper.specs.Records.{countAt, voltAt, currentAt, toCurrentAt, historyAt, countOf, ownerOf}
-use Rattle.paper.specs.Legs.{Branch, bothLegs, heard, isOpen, legsOf}
+use Rattle.paper.specs.Legs.{Branch, bothLegs, received, heard, isOpen, legsOf}
 use Rattle.paper.specs.Doubles.{asVoltage, nearestOf}
 use Rattle.paper.specs.Elimination.{voltages}
 use Rattle.paper.specs.Solve.{system, stillOf}
 use Rattle.paper.specs.Advance.{Memory, written}
 use Rattle.laws_facts.specs.Nets.{rowAt}
 use Rattle.laws_local.specs.Nodes.{NodeOf}
-use Rattle.laws_local.specs.Slots.{slotOf, delayAt}
+use Rattle.laws_local.specs.Slots.{slotOf}
 use Rattle.laws_local.specs.Outcome.{stepOf, legsNow, voltsOf}
 
 -- ---- an area's number: "Areas are numbered from 1"
@@ -73,11 +73,10 @@ pub record Obeys (N : Net) (k : ℕ) (m n : Memory) (i : ℕ) : Type 0 where
   pub capacitor : isC (rowAt N i) ≡ true → fromCurrent n i ≡ gu N n i +ℤ history m i
   pub capacitor-next : isC (rowAt N i) ≡ true → history n i ≡ negℤ (fromCurrent n i) -ℤ gu N n i
 
--- one end of a LINE: "at each end i = g·v + h, where v is that end's voltage and h is what the far end sent at step k - d, or 0 where k - d < 1. It
--- then sends -(g·v + i)."
+-- one end of a LINE: "at each end i = g·v + h, where v is that end's voltage" and h is what it receives of what the far end sent, by steps. "It then
+-- sends -(g·v + i)."
 pub record EndObeys (N : Net) (k i p : ℕ) (n : Memory) (current sends : ℤ) (far : ℕ → ℤ) : Type 0 where
-  pub early : k ≤ delayAt N i → current ≡ gv N n i p
-  pub later : delayAt N i < k → current ≡ gv N n i p +ℤ far (k - delayAt N i)
+  pub equation : current ≡ gv N n i p +ℤ received (N .head) (rowAt N i) k far
   pub sent : sends ≡ negℤ (gv N n i p +ℤ current)
 
 -- ---- "Balance."

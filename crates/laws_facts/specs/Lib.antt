@@ -1,6 +1,7 @@
 pub mod Passing
 pub mod Fields
 pub mod Sound
+pub mod Travels
 pub mod Table
 pub mod Layout
 pub mod Joins

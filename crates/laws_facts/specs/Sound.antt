@@ -1,8 +1,9 @@
 -- What a row without faults 2 to 4 is, by its kind, in the paper's words. Assumes nothing.
-use Rattle.whole.specs.Plain.{ℕ, zero, suc, _+_, _*_, _%_, _≤_, _<_, max, _≡_, refl, sym, _∙_, _≢_, Bool, true, false}
-use Rattle.whole.specs.Plain.{cond, not, _&&_, _||_, true≢false, false≢true, List, [], _∷_, tail, leb, eqb, lit≤, ℤ}
-use Rattle.whole.specs.Plain.{pos, negsuc, natAbs, leb-true, leb-false, eqb-true, eqb-false, not-false, mod-add-div'}
+use Rattle.whole.specs.Plain.{ℕ, suc, _+_, _*_, _≤_, _<_, max, _≡_, refl, sym, _∙_, _≢_, Bool, true, false}
+use Rattle.whole.specs.Plain.{cond, not, _&&_, _||_, true≢false, false≢true, List, [], _∷_, tail, leb, ltb, eqb, lit≤, ℤ}
+use Rattle.whole.specs.Plain.{pos, negsuc, natAbs, leb-true, leb-false, ltb-false, eqb-true, eqb-false, not-false}
 use Rattle.whole.specs.Plain.{arith, z, word, between}
+use native.Mathlib.Nat.{le-div-iff-mul-le}
 use Rattle.whole.specs.Folds.{and-left, and-right, or-left, or-right}
 use Rattle.paper.specs.Limits as Limits
 use Rattle.paper.specs.Rows.{Row, kinds, fieldsOf, branchKind, sourceKind, fixingKind, kind, noKind, isBranch, isSource, isLine, isSwitch, isFixing, from, to, size, travel, closes, opens, at, peak, stepLength}
@@ -31,12 +32,11 @@ pub record BranchSound (step nodes : ℕ) (r : Row) : Type 0 where
   pub gLeast : 1 ≤ conductance step r
   pub gMost : conductance step r ≤ Limits.conductanceEnd
 
--- LINE: "No line ends on ground"; "LINE of d = travel / step"
+-- LINE: "No line ends on ground"; "Allow any travel time of at least one step."
 pub record LineSound (head r : Row) : Type 0 where
   pub travelIn : Within 1 Limits.travelEnd (word r 4)
   pub fromOff : 1 ≤ from r
   pub toOff : 1 ≤ to r
-  pub even : delay (stepLength head) r * stepLength head ≡ travel r
   pub late : 1 ≤ delay (stepLength head) r
   pub ring : slots head r ≡ 2 * delay (stepLength head) r + depth head r
 
@@ -85,7 +85,7 @@ record Parts (step : ℕ) (r : Row) : Type 0 where
   ends : (isLine r && (eqb (from r) 0 || eqb (to r) 0)) ≡ false
   order : (isSwitch r && leb (opens r) (closes r)) ≡ false
   range : (isBranch r && not (leb 1 (conductance step r) && leb (conductance step r) Limits.conductanceEnd)) ≡ false
-  multiple : (isLine r && not (eqb (travel r % step) 0)) ≡ false
+  long : (isLine r && ltb (travel r) step) ≡ false
 
 parts : (head : Row) (before : List Row) (r : Row) → Clean head before r → Parts (stepLength head) r
 unfolding nodeFault valueFault travelFault
@@ -93,7 +93,7 @@ parts head before r c =
     let step = stepLength head in
     let n = none-of-four (outside true (fieldsOf (kind r)) (tail r)) (isBranch r && eqb (from r) (to r)) (isSource r && eqb (at r) 0) (isLine r && (eqb (from r) 0 || eqb (to r) 0)) (c .node) in
     let v = none-of-three (outside false (fieldsOf (kind r)) (tail r)) (isSwitch r && leb (opens r) (closes r)) (isBranch r && not (leb 1 (conductance step r) && leb (conductance step r) Limits.conductanceEnd)) (c .value) in
-    record { fields = in-range head r (c .node) (c .value); apart = n .1; off = n .2; ends = n .3; order = v .1; range = v .2; multiple = c .travel }
+    record { fields = in-range head r (c .node) (c .value); apart = n .1; off = n .2; ends = n .3; order = v .1; range = v .2; long = c .travel }
 
 study-sound : (h : Row) → kind h ≡ 0 → InRange h → StudySound h
 unfolding fieldsOf kinds
@@ -143,27 +143,21 @@ branch-sound step r p b =
 not-zero : (n : ℕ) → eqb n 0 ≡ false → 1 ≤ n
 not-zero n e = let h : n ≢ 0 = eqb-false n 0 e in omega arith
 
-line-sound : (head r : Row) → Parts (stepLength head) r → isLine r ≡ true → LineSound head r
+line-sound : (head r : Row) → 1 ≤ stepLength head → Parts (stepLength head) r → isLine r ≡ true → LineSound head r
 unfolding fieldsOf kinds slots
-line-sound head r p l =
+line-sound head r one p l =
     let step = stepLength head in
     let e = eqb-true (kind r) 4 l in
     let t = within 1 Limits.travelEnd (word r 4) (field 4 3 r e (p .fields) tt) in
     let o = unless (isLine r) (eqb (from r) 0 || eqb (to r) 0) (p .ends) l in
-    let m : travel r % step ≡ 0 = eqb-true (travel r % step) 0 (not-false _ (unless (isLine r) _ (p .multiple) l)) in
-    let d : delay step r * step ≡ travel r = omega (arith, mod-add-div' (travel r) step) in
+    let m : step ≤ travel r = ltb-false (travel r) step (unless (isLine r) _ (p .long) l) in
     record {
       travelIn = t;
       fromOff = not-zero (from r) (or-left (eqb (from r) 0) (eqb (to r) 0) o);
       toOff = not-zero (to r) (or-right (eqb (from r) 0) (eqb (to r) 0) o);
-      even = d;
-      late = late-one (delay step r) d (t .least);
+      late = le-div-iff-mul-le {k = step} {x = 1} {y = travel r} one .1 (omega arith);
       ring = rw l;
     }
-  where
-    late-one : (d : ℕ) → d * stepLength head ≡ travel r → 1 ≤ travel r → 1 ≤ d
-    late-one zero e h = absurd (omega arith)
-    late-one (suc d) e h = omega arith
 
 switch-sound : (step : ℕ) (r : Row) → Parts step r → isSwitch r ≡ true → SwitchSound r
 unfolding fieldsOf kinds
@@ -211,15 +205,15 @@ source-sound step r p s =
 pub study-of : (h : Row) → Taken true [] [] h → StudySound h
 study-of h t = study-sound h (eqb-true (kind h) 0 (t .study)) (in-range [] h (t .clean .node) (t .clean .value))
 
-pub row-of : (head : Row) (before : List Row) (r : Row) → Taken false head before r → RowSound head Limits.nodeEnd r
-row-of head before r t =
+pub row-of : (head : Row) (before : List Row) (r : Row) → 1 ≤ stepLength head → Taken false head before r → RowSound head Limits.nodeEnd r
+row-of head before r one t =
     let p = parts head before r (t .clean) in
     record {
       kindIs = kind-is r (t .known);
       kindLeast = not-zero (kind r) (t .study);
       kindMost = omega (arith, t .known, kind-count);
       branch = branch-sound _ r p;
-      line = line-sound head r p;
+      line = line-sound head r one p;
       switch = switch-sound _ r p;
       source = source-sound _ r p;
     }

@@ -26,7 +26,7 @@ module _ (h : Row) (rows : List Row) (e : passes (h ∷ rows) ≡ true) where
   taken-at i k = row-taken h rows i e k
 
   sound-at : (i : ℕ) → i < length rows → RowSound h Limits.nodeEnd (rowAt i)
-  sound-at i k = row-of h (take i rows) (rowAt i) (taken-at i k)
+  sound-at i k = row-of h (take i rows) (rowAt i) (study-sound .stepIn .least) (taken-at i k)
 
   pub node-most : nodeCount rows ≤ Limits.nodeEnd
   unfolding nodeCount

@@ -1,7 +1,7 @@
 -- "Over two well-formed states, an advance depends on nothing but the network, its own area's records, the far counts and the far values it
 -- reads." Assumes nothing.
-use Rattle.whole.specs.Plain.{ℕ, zero, suc, _+_, _-_, _≤_, _<_, _≡_, refl, sym, ap, _∙_, subst, inl, Bool, true, false}
-use Rattle.whole.specs.Plain.{cond, _&&_, _||_, List, [], _∷_, leb, ltb, ℤ, length, getD, leb-true, ltb-true, eqb-true}
+use Rattle.whole.specs.Plain.{ℕ, zero, suc, _+_, _≤_, _<_, _≡_, refl, sym, ap, _∙_, subst, inl, Bool, true, false}
+use Rattle.whole.specs.Plain.{cond, _&&_, _||_, List, [], _∷_, leb, ltb, ℤ, length, getD, leb-true, eqb-true}
 use Rattle.whole.specs.Plain.{arith, Words, z, word, nat}
 use Rattle.paper.specs.declared.Advance.{Advance}
 use Rattle.paper.specs.declared.Advance.the-variants.{Wait}
@@ -10,11 +10,12 @@ use Rattle.whole.specs.Places.{place}
 use Rattle.paper.specs.Rows.{Row, isLine, from, to, isL, isC}
 use Rattle.paper.specs.Areas.{Net, areaOf, areaCount, branchNumber, rowArea}
 use Rattle.paper.specs.Records.{countAt, countOf, wellFormed, historyAt, ownerOf}
-use Rattle.paper.specs.Legs.{Branch, Heard, here, sentTo, sentAt, heardBy, heard, legsOf}
+use Rattle.paper.specs.Legs.{Branch, Heard, here, sentTo, heardBy, heard, legsOf}
 use Rattle.paper.specs.Apart.{histories-in, end-of, owner-of, unused-zero}
 use Rattle.paper.specs.Solve.{Step, stop, move, solve}
 use Rattle.paper.specs.Advance.{Memory, Advanced, advanced, written, finish, takeStep, ready, late, waitsFor, firstLate, onNext, onNet}
 use Rattle.laws_facts.specs.Nets.{rowAt}
+use Rattle.laws_facts.specs.Travels.{Reads, received-same}
 use Rattle.laws_local.specs.Sound.{Sound}
 use Rattle.laws_local.specs.Own.{own-count, legs-same, map-same}
 use Rattle.laws_local.specs.Slots.{slotOf, delayAt}
@@ -109,34 +110,32 @@ pub record SameFor (N : Net) (a k : ℕ) (m m′ : Memory) : Type 0 where
       → countAtNode N (m .records) (to (rowAt N i)) ≡ countAtNode N (m′ .records) (to (rowAt N i))
   pub from-counts : (i : ℕ) → i < length (N .rows) → isLine (rowAt N i) ≡ true → areaOf N (to (rowAt N i)) ≡ a
       → countAtNode N (m .records) (from (rowAt N i)) ≡ countAtNode N (m′ .records) (from (rowAt N i))
-  pub to-sent : (i : ℕ) → i < length (N .rows) → isLine (rowAt N i) ≡ true → areaOf N (from (rowAt N i)) ≡ a → delayAt N i < k
-      → word (m .tos) (slotOf N i (k - delayAt N i)) ≡ word (m′ .tos) (slotOf N i (k - delayAt N i))
-  pub from-sent : (i : ℕ) → i < length (N .rows) → isLine (rowAt N i) ≡ true → areaOf N (to (rowAt N i)) ≡ a → delayAt N i < k
-      → word (m .froms) (slotOf N i (k - delayAt N i)) ≡ word (m′ .froms) (slotOf N i (k - delayAt N i))
+  pub to-sent : (i : ℕ) → i < length (N .rows) → isLine (rowAt N i) ≡ true → areaOf N (from (rowAt N i)) ≡ a → (x : ℕ) → Reads (N .head) (rowAt N i) k x
+      → word (m .tos) (slotOf N i x) ≡ word (m′ .tos) (slotOf N i x)
+  pub from-sent : (i : ℕ) → i < length (N .rows) → isLine (rowAt N i) ≡ true → areaOf N (to (rowAt N i)) ≡ a → (x : ℕ) → Reads (N .head) (rowAt N i) k x
+      → word (m .froms) (slotOf N i x) ≡ word (m′ .froms) (slotOf N i x)
 
 module _ (N : Net) (a k : ℕ) where
   abbrev lineHere : ℕ → (Row → ℕ) → Bool
   lineHere i end = isLine (rowAt N i) && here N a (end (rowAt N i))
 
   sent-same : (i : ℕ) (near : Row → ℕ) (st st′ : Words)
-      → (isLine (rowAt N i) ≡ true → areaOf N (near (rowAt N i)) ≡ a → delayAt N i < k → word st (slotOf N i (k - delayAt N i)) ≡ word st′ (slotOf N i (k - delayAt N i)))
+      → (isLine (rowAt N i) ≡ true → areaOf N (near (rowAt N i)) ≡ a → (x : ℕ) → Reads (N .head) (rowAt N i) k x → word st (slotOf N i x) ≡ word st′ (slotOf N i x))
       → cond (lineHere i near) (sentTo N k i (rowAt N i) st) z ≡ cond (lineHere i near) (sentTo N k i (rowAt N i) st′) z
-  unfolding sentTo sentAt
-  sent-same i near st st′ h = go (isLine (rowAt N i)) (here N a (near (rowAt N i))) (ltb 0 (k - delayAt N i)) refl refl refl
+  unfolding sentTo
+  sent-same i near st st′ h = go (isLine (rowAt N i)) (here N a (near (rowAt N i))) refl refl
     where
-      go : (x y t : Bool) → isLine (rowAt N i) ≡ x → here N a (near (rowAt N i)) ≡ y → ltb 0 (k - delayAt N i) ≡ t
-          → cond (x && y) (cond t (word st (slotOf N i (k - delayAt N i))) z) z ≡ cond (x && y) (cond t (word st′ (slotOf N i (k - delayAt N i))) z) z
-      go true true true p q r = let l : 0 < k - delayAt N i = ltb-true 0 _ r in h p (eqb-true _ a q) (omega arith)
-      go true true false p q r = refl
-      go true false t p q r = refl
-      go false y t p q r = refl
+      go : (x y : Bool) → isLine (rowAt N i) ≡ x → here N a (near (rowAt N i)) ≡ y → cond (x && y) (sentTo N k i (rowAt N i) st) z ≡ cond (x && y) (sentTo N k i (rowAt N i) st′) z
+      go true true p q = received-same (N .head) (rowAt N i) k (λ x. word st (slotOf N i x)) (λ x. word st′ (slotOf N i x)) (h p (eqb-true _ a q))
+      go true false p q = refl
+      go false y p q = refl
 
   pair : (p q u w : ℤ) → p ≡ u → q ≡ w → _≡_ {A = Heard} (record { atFrom = p; atTo = q }) (record { atFrom = u; atTo = w })
   pair p q u w e f = rw (e, f) refl
 
   pub heard-same : (froms tos froms′ tos′ : Words)
-      → ((i : ℕ) → i < length (N .rows) → isLine (rowAt N i) ≡ true → areaOf N (from (rowAt N i)) ≡ a → delayAt N i < k → word tos (slotOf N i (k - delayAt N i)) ≡ word tos′ (slotOf N i (k - delayAt N i)))
-      → ((i : ℕ) → i < length (N .rows) → isLine (rowAt N i) ≡ true → areaOf N (to (rowAt N i)) ≡ a → delayAt N i < k → word froms (slotOf N i (k - delayAt N i)) ≡ word froms′ (slotOf N i (k - delayAt N i)))
+      → ((i : ℕ) → i < length (N .rows) → isLine (rowAt N i) ≡ true → areaOf N (from (rowAt N i)) ≡ a → (x : ℕ) → Reads (N .head) (rowAt N i) k x → word tos (slotOf N i x) ≡ word tos′ (slotOf N i x))
+      → ((i : ℕ) → i < length (N .rows) → isLine (rowAt N i) ≡ true → areaOf N (to (rowAt N i)) ≡ a → (x : ℕ) → Reads (N .head) (rowAt N i) k x → word froms (slotOf N i x) ≡ word froms′ (slotOf N i x))
       → heard N a k froms tos ≡ heard N a k froms′ tos′
   unfolding heard heardBy
   heard-same froms tos froms′ tos′ g h =

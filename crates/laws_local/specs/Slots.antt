@@ -1,5 +1,5 @@
--- "Each line end keeps its last 2d sent values in a store of its own; slots stand in table order, step s in place s mod 2d": no two lines share a
--- slot, and a step writes one slot of each of its own line ends. Assumes nothing.
+-- "Each line end keeps its last" sent values "in a store of its own; slots stand in table order", step s in place s mod their number: no two lines
+-- share a slot, and a step writes one slot of each of its own line ends. Assumes nothing.
 use Rattle.whole.specs.Plain.{ℕ, _+_, _*_, _%_, _≤_, _<_, _≡_, refl, sym, ap, _∙_, _≢_, Bool, true, _&&_, List, ℤ}
 use Rattle.whole.specs.Plain.{length, mod-lt, add-left-cancel, decLt, arith, Words, word}
 use Rattle.whole.specs.Folds.{and-left}

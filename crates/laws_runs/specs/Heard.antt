@@ -1,7 +1,7 @@
--- T-received: what a line end hears at its area's accepted step k is what the far end sent at its own accepted step k - d of that run, and 0 where
--- k - d < 1; and there is one such step. Assumes nothing.
-use Rattle.whole.specs.Plain.{ℕ, suc, _+_, _-_, _≤_, _<_, _≡_, refl, sym, ap, _∙_, _⊎_, inl, inr, Bool, true, false}
-use Rattle.whole.specs.Plain.{_&&_, List, [], _∷_, _++_, eqb, ℤ, length, lt-ltb, le-ltb, eq-eqb, arith, Words, z, word}
+-- T-received: what a line end hears at its area's accepted step k is what it receives of what the far end sent at its own accepted steps of that run:
+-- at k - q, where the travel time lies between steps also at k - q - 1, and 0 before step 1; and there is one such step. Assumes nothing.
+use Rattle.whole.specs.Plain.{ℕ, suc, _+_, _≤_, _<_, _≡_, refl, sym, ap, _∙_, _⊎_, inl, inr, Bool, true, false}
+use Rattle.whole.specs.Plain.{_&&_, List, [], _∷_, _++_, eqb, ℤ, length, eq-eqb, arith, Words, word}
 use Rattle.paper.specs.declared.Advance.{Advance}
 use Rattle.paper.specs.declared.Advance.the-variants.{Took}
 use Rattle.paper.specs.Answers.{accepted}
@@ -9,9 +9,10 @@ use Rattle.paper.specs.Rows.{isLine}
 use Rattle.paper.specs.Faults.{depth}
 use Rattle.paper.specs.Areas.{Net}
 use Rattle.paper.specs.Records.{countOf, offset}
-use Rattle.paper.specs.Legs.{sentTo, sentAt}
+use Rattle.paper.specs.Legs as Legs
 use Rattle.paper.specs.Advance.{Memory, Advanced, advanceOf}
 use Rattle.laws_facts.specs.Nets.{netIn, rowAt, net-sound}
+use Rattle.laws_facts.specs.Travels.{Reads}
 use Rattle.laws_order.specs.Calls.{put}
 use Rattle.laws_order.specs.Ring.{Holds, places, holds-read}
 use Rattle.laws_local.specs.Sound.{sound}
@@ -28,11 +29,13 @@ use Rattle.laws_runs.specs.Received.{Side, fromSide, toSide, far, storeO
 
 -- the history of the end at side s of line i at step k, by the definition of a step: what stands in the far end's store
 abbrev pub hears : Net → Memory → ℕ → Side → ℕ → ℤ
-hears N m k s i = sentTo N k i (rowAt N i) (storeOf (far s) m)
+hears N m k s i = Legs.sentTo N k i (rowAt N i) (storeOf (far s) m)
 
 pub record Receives (net : Words) (m : Memory) (w : List ℕ) (k : ℕ) (s : Side) (i : ℕ) : Type 0 where
-  pub early : k ≤ delayAt (netIn net) i → hears (netIn net) (after net w m) k s i ≡ z
-  pub later : delayAt (netIn net) i < k → Sent net m w (far s) i (k - delayAt (netIn net) i) (hears (netIn net) (after net w m) k s i)
+  -- what the far end sent, by steps: of each that is read, at its own accepted step of the run
+  pub sent : ℕ → ℤ
+  pub steps : (x : ℕ) → Reads (netIn net .head) (rowAt (netIn net) i) k x → Sent net m w (far s) i x (sent x)
+  pub heard : hears (netIn net) (after net w m) k s i ≡ Legs.received (netIn net .head) (rowAt (netIn net) i) k sent
 
 module _ (net : Words) (lent : Memory) (ok : Lent net lent) where
   open FromReset (fromReset net lent) using (N, start, at)
@@ -68,20 +71,20 @@ module _ (net : Words) (lent : Memory) (ok : Lent net lent) where
     within fromSide = form .to-near i there line
     within toSide = form .from-near i there line
 
-    heard : (s : Side) → areaAt N s i ≡ a → d < k → Sent net start w (far s) i (k - d) (word (storeOf (far s) (at w)) (slotOf N i (k - d)))
-    heard s o l =
+    read : (s : Side) → areaAt N s i ≡ a → (x : ℕ) → Reads (N .head) (rowAt N i) k x → Sent net start w (far s) i x (word (storeOf (far s) (at w)) (slotOf N i x))
+    read s o x r =
         let own : k ≡ suc (count a w) = step-is a w k e in
         let near : count (areaAt N (far s) i) w ≤ count a w + d = rw o at (within s) in
         let h = slots-hold net lent ok (far s) i there line w in
         let h′ : Holds (storeOf (far s) (at w)) (offset N i) (places d (depth (N .head) (rowAt N i))) (count (areaAt N (far s) i) w) (Sent net start w (far s) i) = rw (line-slots N i line) at h in
         rw (line-slots N i line)
         (holds-read (storeOf (far s) (at w)) (offset N i) d (depth (N .head) (rowAt N i)) (count (areaAt N (far s) i) w) (count a w) (Sent net start w (far s) i) (sound N (net-sound net (ok .network)) .travels i line) h′
-        (omega (arith, ahead s o)) near (k - d) (omega arith) (omega arith) (omega arith))
+        (omega (arith, ahead s o)) near x (r .one) (omega (arith, r .newest)) (omega (arith, r .oldest)))
 
     -- T-received
     pub received : (s : Side) → areaAt N s i ≡ a → Receives net start w k s i
-    unfolding sentTo sentAt
-    received s o = record { early = λ l. rw (le-ltb 0 (k - d) (omega arith)); later = λ l. rw (lt-ltb 0 (k - d) (omega arith)) (heard s o l) }
+    unfolding Legs.sentTo
+    received s o = record { sent = λ x. word (storeOf (far s) (at w)) (slotOf N i x); steps = read s o; heard = refl }
 
   -- ---- there is one accepted step x of an area in a run
 

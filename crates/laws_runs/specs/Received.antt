@@ -1,5 +1,5 @@
--- "h is what the far end sent at step k - d, or 0 where k - d < 1": over every run, what a line end hears at its area's accepted step k is what stood
--- in the far end's slot right after the far area's own accepted step k - d of that run. Assumes nothing.
+-- What a line end sent in a run: of the steps that its area has taken, the last are in their slots, each as it stood right after that accepted step.
+-- Assumes nothing.
 use Rattle.whole.specs.Plain.{ℕ, suc, _+_, _-_, _%_, _≤_, _<_, _≡_, refl, sym, ap, _∙_, subst, _≢_, Bool, true, false}
 use Rattle.whole.specs.Plain.{List, [], _∷_, _++_, append-assoc, append-nil, ℤ, length, append-snoc, mod-lt, ℕ-discrete}
 use Rattle.whole.specs.Plain.{arith, Words, word}
@@ -115,7 +115,7 @@ module _ (net : Words) (lent : Memory) (ok : Lent net lent) where
       missed fromSide r l n = miss (λ b. b .fromEnd) r l n (m .froms)
       missed toSide r l n = miss (λ b. b .toEnd) r l n (m .tos)
 
-    -- of the steps that its area has taken in the run, the last 2d are in their slots
+    -- of the steps that its area has taken in the run, as many of the last as there are slots are in them
     abbrev Kept : List ℕ → Type 0
     Kept w = Holds (storeOf s (at w)) (offset N i) (slotsAt N i) (countOf (at w .records) b) (Sent net start w s i)
 

@@ -1,7 +1,7 @@
 -- "current magnitudes are at most 1.4·10^17": a conductance of 10^9 at most, times a voltage between two nodes of 4·10^7 at most, and a history of
 -- 10^17 at most. What is passed on is in its range by refusal 17. Assumes nothing.
-use Rattle.whole.specs.Plain.{ℕ, zero, suc, _*_, _-_, _^_, _≤_, _<_, _≡_, refl, sym, ap, _∙_, subst, Bool, true, false}
-use Rattle.whole.specs.Plain.{cond, _&&_, List, [], _∷_, eqb, ltb, ℤ, pos, natAbs, _-ℤ_, _*ℤ_, length, getD, replicate}
+use Rattle.whole.specs.Plain.{ℕ, zero, suc, _*_, _^_, _≤_, _<_, _≡_, refl, sym, ap, _∙_, subst, Bool, true, false}
+use Rattle.whole.specs.Plain.{cond, _&&_, List, [], _∷_, eqb, ℤ, pos, natAbs, _-ℤ_, _*ℤ_, length, getD, replicate}
 use Rattle.whole.specs.Plain.{leb-true, not-false, arith, Words, z, word, upTo, numbers}
 use Rattle.whole.specs.Int.{abs-neg, abs-add-le, abs-sub-le, abs-mul-le}
 use Rattle.whole.specs.Folds.{and-left, and-right, length-numbers, getD-map, getD-numbers}
@@ -11,15 +11,16 @@ use Rattle.paper.specs.Rows.{Row, isBranch, isLine, from, to}
 use Rattle.paper.specs.Conductance.{conductance}
 use Rattle.paper.specs.Areas.{Net, rowArea, step}
 use Rattle.paper.specs.Records.{historyAt, slotCount}
-use Rattle.paper.specs.Legs.{Leg, idle, otherEnd, Branch, branch, Heard, here, sentTo, sentAt, heardBy, heard, isOpen, conducts, lineEnd, lineLegs, plainLegs, legsBy, legsOf, through, current, passedOn}
+use Rattle.paper.specs.Legs.{Leg, idle, otherEnd, Branch, branch, Heard, here, sentTo, heardBy, heard, isOpen, conducts, lineEnd, lineLegs, plainLegs, legsBy, legsOf, through, current, passedOn}
 use Rattle.paper.specs.Apart.{histories-in, end-most}
 use Rattle.paper.specs.Solve.{beyond, firstBeyond}
 use Rattle.paper.specs.Advance.{Memory}
 use Rattle.laws_facts.specs.Nets.{NetSound, rowAt}
+use Rattle.laws_facts.specs.Travels.{received-size}
 use Rattle.paper.specs.Classes.{line-branch}
 use Rattle.laws_local.specs.Sound.{row-there}
 use Rattle.laws_local.specs.Own.{deaf, byKind, row-is, legs-length, branch-is}
-use Rattle.laws_local.specs.Slots.{slotOf, delayAt}
+use Rattle.laws_local.specs.Slots.{slotOf}
 use Rattle.laws_stays.specs.Formed.{Formed, slotEnd}
 use Rattle.laws_stays.specs.Volts.{AllVolts}
 
@@ -54,8 +55,10 @@ cond-size false x m h = omega arith
 
 module _ (N : Net) (m : Memory) (f : Formed N m) (s : NetSound N) (a k : ℕ) where
   sent-size : (i : ℕ) (st : Words) → ((j : ℕ) → natAbs (word st j) ≤ slotEnd N j) → natAbs (sentTo N k i (rowAt N i) st) ≤ Limits.historyEnd
-  unfolding sentTo sentAt
-  sent-size i st h = let j = slotOf N i (k - delayAt N i) in cond-size (ltb 0 (k - delayAt N i)) (word st j) Limits.historyEnd (omega (arith, h j, slot-most N j))
+  unfolding sentTo
+  sent-size i st h =
+      received-size (N .head) (rowAt N i) (s .study .stepIn .least) k (λ x. word st (slotOf N i x)) Limits.historyEnd
+      (λ x. let j = slotOf N i x in omega (arith, h j, slot-most N j))
 
   pub record HeardRanged (e : Heard) : Type 0 where
     pub atFrom : natAbs (e .atFrom) ≤ Limits.historyEnd

@@ -1,8 +1,8 @@
 -- What a step of one area says leaves no choice: two memories that are the step's result have the same voltages, currents, histories and sent
 -- values. Assumes nothing.
-use Rattle.whole.specs.Plain.{ℕ, zero, suc, _+_, _-_, _≤_, _<_, _≡_, refl, sym, ap, _∙_, _≢_, _⊎_, inl, inr, Bool, true}
+use Rattle.whole.specs.Plain.{ℕ, zero, suc, _+_, _≤_, _<_, _≡_, refl, sym, ap, _∙_, _≢_, _⊎_, inl, inr, Bool, true}
 use Rattle.whole.specs.Plain.{false, _||_, true≢false, List, [], _∷_, List·Memᴰ·cases-cons, List·Memᴰ·not-nil, ℤ, _+ℤ_}
-use Rattle.whole.specs.Plain.{length, getD, eqb-true, eq-eqb, decLt, arith}
+use Rattle.whole.specs.Plain.{length, getD, eqb-true, eq-eqb, arith}
 use Rattle.paper.specs.Doubles.{tenths-of}
 use Rattle.whole.specs.Folds.{and-left, and-right, none-if}
 use Rattle.whole.specs.Members.{Among}
@@ -11,11 +11,10 @@ use Rattle.paper.specs.Rows.{Row, kind, isBranch, isL, isC, isLine, isSwitch, i
 use Rattle.paper.specs.Classes.{by-branch}
 use Rattle.paper.specs.Faults.{fixes}
 use Rattle.paper.specs.Areas.{Net, rowArea, fixed, freeOf}
-use Rattle.paper.specs.Legs.{isOpen}
+use Rattle.paper.specs.Legs.{received, isOpen}
 use Rattle.paper.specs.Advance.{Memory}
 use Rattle.laws_facts.specs.Nets.{NetSound, rowAt, row-area-from, row-area-to}
 use Rattle.laws_local.specs.Nodes.{NodeOf, of-free}
-use Rattle.laws_local.specs.Slots.{delayAt}
 use Rattle.laws_demands.specs.Said.{voltage, fromCurrent, history, gu, gv, Obeys, EndObeys, Offered}
 
 -- where a number stands in a list
@@ -106,11 +105,7 @@ module _ (N : Net) (s : NetSound N) (a k : ℕ) (m n n′ : Memory) (S : Offered
     gv-one = rw (volt-one p node)
 
     pub current-one : current ≡ current′
-    current-one = go (decLt (delayAt N i) k)
-      where
-        go : Dec (delayAt N i < k) → current ≡ current′
-        go (yes d) = E .later d ∙ ap (λ (u : ℤ). u +ℤ far (k - delayAt N i)) gv-one ∙ sym (E′ .later d)
-        go (no d) = E .early (omega arith) ∙ gv-one ∙ sym (E′ .early (omega arith))
+    current-one = E .equation ∙ ap (λ (u : ℤ). u +ℤ received (N .head) (rowAt N i) k far) gv-one ∙ sym (E′ .equation)
 
     pub sends-one : sends ≡ sends′
     sends-one = E .sent ∙ rw (gv-one, current-one) (sym (E′ .sent))

@@ -29,7 +29,7 @@ pub record Advanced : Type 0 where
 abbrev pub advanced : Advance → Memory → Advanced
 advanced a m = record { answer = a; after = m }
 
--- ---- 13 WAIT: "a far area's count is below k - d"
+-- ---- 13 WAIT: "a far area's count is below k - d"; "The wait rule reads k - q"
 
 abbrev pub late : Net → Words → ℕ → Row → ℕ → Bool
 late N recs k r far = ltb (countOf recs (areaOf N far) + delay (step N) r) k

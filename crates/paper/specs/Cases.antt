@@ -5,11 +5,11 @@ use Rattle.paper.specs.declared.Reading.the-variants.{Read, Value, Doubl
 use Rattle.paper.specs.declared.Advance.{Advance}
 use Rattle.paper.specs.declared.Advance.the-variants.{Took, Network, State, Area, Done, Range, History}
 use Rattle.whole.specs.Int.{ring-laws}
+use Rattle.whole.specs.Mixing.{mixed-same}
 use Rattle.paper.specs.Limits as Limits
-use Rattle.paper.specs.Rows.{Row, from, to}
-use Rattle.paper.specs.Faults.{delay}
-use Rattle.paper.specs.Areas.{Net, step}
-use Rattle.paper.specs.Legs.{sentTo, sentAt, plainLegs, through, current}
+use Rattle.paper.specs.Rows.{Row, from, to, stepLength}
+use Rattle.paper.specs.Faults.{delay, rest}
+use Rattle.paper.specs.Legs.{received, sentAt, plainLegs, through, current}
 use Rattle.paper.specs.Reading.{readOf}
 use Rattle.paper.specs.Advance.{Memory, memory, advanceOf}
 use Rattle.paper.specs.Resetting.{fresh}
@@ -42,7 +42,7 @@ cases =
     ∷ runs (lines ("study 1000 2 0" ∷ "VS 1 1000 1 0" ∷ "SW 1 2 2000 1 2" ∷ "R 2 0 2000" ∷ [])) Read
     (call 1 (Took 1) (volts 2 (pos 500) ∷ []) ∷ call 1 (Took 2) (volts 2 z ∷ []) ∷ [])
     -- "in it 1 to 6 in turn": 3 before 4, and 5 before 6
-    ∷ runs (lines ("study 1000 1 0" ∷ "LINE 1 2 999 2500" ∷ [])) (Value 2) []
+    ∷ runs (lines ("study 1000 1 0" ∷ "LINE 1 2 999 999" ∷ [])) (Value 2) []
     ∷ runs (lines ("study 1000 1 0" ∷ "VS 1 0 1 0" ∷ (replicate 15 "IS 1 0 1 0" ++ ("VS 1 0 1 0" ∷ [])))) (Double 18) []
     -- "f = a(q,p)/a(p,p)": one quotient, for 49 times the double of 1/49 is not 1, and node 2 would be under a half
     ∷ runs (lines ("study 1000 1 1" ∷ "R 1 2 20408163265" ∷ "R 2 0 500000000000" ∷ "IS 2 1 1 0" ∷ [])) Read
@@ -109,7 +109,7 @@ lendings =
     -- "current magnitudes are at most 1.4·10^17"
     ∷ lends wired (inRecords 64 (pos (14 * 10 ^ 16)) ∷ inRecords 144 (negsuc (14 * 10 ^ 16 - 1)) ∷ []) 1 (Took 1)
     ∷ lends wired (inRecords 64 (pos (14 * 10 ^ 16 + 1)) ∷ []) 1 State ∷ lends wired (inRecords 144 (negsuc (14 * 10 ^ 16)) ∷ []) 1 State
-    -- "unused words are zero": a to current or a history of an R, a history of a line, a current of a source, a slot past 2d
+    -- "unused words are zero": a to current or a history of an R, a history of a line, a current of a source, a slot past 2q
     ∷ lends plain (inRecords 144 (pos 1) ∷ []) 1 State ∷ lends plain (inRecords 224 (pos 1) ∷ []) 1 State
     ∷ lends wired (inRecords 224 (pos 1) ∷ []) 1 State ∷ lends wired (inRecords 65 (pos 1) ∷ []) 1 State ∷ lends wired (inTos 4 (pos 1) ∷ []) 1 State
     -- "sent values are in range", in either store
@@ -134,7 +134,9 @@ pub opposite : (r : Row) (g : ℕ) (h : ℤ) (v : Words)
 unfolding plainLegs current through
 opposite r g h v = turned (pos g) (word v (from r)) (word v (to r)) h
 
--- "or 0 where k - d < 1", whatever stands in the slot
-pub early : (N : Net) (k i : ℕ) (r : Row) (store : Words) → k ≤ delay (step N) r → sentTo N k i r store ≡ z
-unfolding sentTo sentAt
-early N k i r store h = rw (le-ltb 0 (k - delay (step N) r) (omega arith))
+-- "values before step 1 are 0": so an end receives 0 until step q
+pub early : (head r : Row) (k : ℕ) (sent : ℕ → ℤ) → k ≤ delay (stepLength head) r → received head r k sent ≡ z
+unfolding received sentAt
+early head r k sent h =
+    let s = k - delay (stepLength head) r in
+    rw (le-ltb 0 s (omega arith), le-ltb 0 (s - 1) (omega arith)) (mixed-same (stepLength head) (rest (stepLength head) r) z)

@@ -114,8 +114,18 @@ table =
     -- "E8: E7 with C 2-0 of 1,000: step 1 is accepted, node 2 is 0."
     ∷ runs (lines ("study 1000 8 0" ∷ "VS 1 1000 1 0" ∷ "SW 1 2 2000 5 1000001" ∷ "C 2 0 1000" ∷ [])) Read
     (call 1 (Took 1) (volts 2 z ∷ []) ∷ [])
-    -- "E9: travel 2,500 on E5: 4."
-    ∷ runs (lines ("study 1000 8 0" ∷ "VS 1 1000 1 0" ∷ "LINE 1 2 400000 2500" ∷ [])) (Travel 3) []
+    -- "E9: travel 2,500 on E5", which "is accepted" since travel times may lie between steps; 4 "now means travel shorter than a step"
+    ∷ lists (lines ("study 1000 8 0" ∷ "VS 1 1000 1 0" ∷ "LINE 1 2 400000 2500" ∷ []))
+    (lines ("v 1 1 1000" ∷ "v 1 2 0" ∷ "i 1 1 2500000000 0" ∷
+    "v 2 1 1000" ∷ "v 2 2 0" ∷ "i 2 1 2500000000 0" ∷
+    "v 3 1 1000" ∷ "v 3 2 1000" ∷ "i 3 1 2500000000 0" ∷
+    "v 4 1 1000" ∷ "v 4 2 2000" ∷ "i 4 1 2500000000 0" ∷
+    "v 5 1 1000" ∷ "v 5 2 2000" ∷ "i 5 1 1250000000 0" ∷
+    "v 6 1 1000" ∷ "v 6 2 2000" ∷ "i 6 1 -1250000000 0" ∷
+    "v 7 1 1000" ∷ "v 7 2 1750" ∷ "i 7 1 -2500000000 0" ∷
+    "v 8 1 1000" ∷ "v 8 2 1000" ∷ "i 8 1 -2500000000 0" ∷
+    "done 8" ∷ []))
+    ∷ runs (lines ("study 1000 8 0" ∷ "VS 1 1000 1 0" ∷ "LINE 1 2 400000 999" ∷ [])) (Travel 3) []
     -- "E10: E3's VS with peak 20,000,000 and L of 500: g is 10^9; steps 1 and 2 pass, step 3 gives 17."
     ∷ runs (lines ("study 1000 5 0" ∷ "VS 1 20000000 1 0" ∷ "L 1 0 500" ∷ [])) Read
     (call 1 (Took 1) (siemens 1 (10 ^ 9) ∷ []) ∷ call 1 (Took 2) [] ∷ call 1 (History 1) [] ∷ [])

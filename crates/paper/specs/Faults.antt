@@ -28,9 +28,9 @@ valueFault head r =
     || (isSwitch r && leb (opens r) (closes r))
     || (isBranch r && not (leb Limits.conductanceLow (conductance (stepLength head) r) && leb (conductance (stepLength head) r) Limits.conductanceEnd))
 
--- 4 TRAVEL: "travel not a multiple of the step"
+-- 4 TRAVEL: "travel shorter than a step"
 unfoldable pub travelFault : Row → Row → Bool
-travelFault head r = isLine r && not (eqb (travel r % stepLength head) 0)
+travelFault head r = isLine r && ltb (travel r) (stepLength head)
 
 -- "A node with a VS is fixed"
 unfoldable pub fixes : ℕ → Row → Bool
@@ -40,19 +40,22 @@ fixes n r = isFixing r && eqb (at r) n
 unfoldable pub doubleFault : List Row → Row → Bool
 doubleFault before r = isFixing r && any (fixes (at r)) before
 
--- "LINE of d = travel / step"; "Each line end keeps its last 2d sent values"
+-- "q whole steps and a rest r in ns": q is 01's d, "LINE of d = travel / step"
 abbrev pub delay : ℕ → Row → ℕ
 delay step r = travel r / step
 
--- how many values older than that of step k - d an end reads: none
-abbrev pub depth : Row → Row → ℕ
-depth head r = 0
+abbrev pub rest : ℕ → Row → ℕ
+rest step r = travel r % step
 
--- the places of one end's ring: d for what is on its way, d for a lead of the far area, and the older ones
+-- how many values older than that of step k - q an end reads: that of step k - q - 1 where r is not 0, and none where it is
+unfoldable pub depth : Row → Row → ℕ
+depth head r = cond (eqb (rest (stepLength head) r) 0) 0 1
+
+-- "a store needs 2q + 1 slots where r is not 0", and 2q where it is: q for what is on its way, q for a lead of the far area, and the older one
 unfoldable pub slots : Row → Row → ℕ
 slots head r = cond (isLine r) (2 * delay (stepLength head) r + depth head r) 0
 
--- 6 FULL: "65th branch, 17th source, or 2d summed over lines past 4,096"
+-- 6 FULL: "65th branch, 17th source, or" the slots "summed over lines past 4,096"; "6 counts the new slots"
 unfoldable pub fullFault : Row → List Row → Row → Bool
 fullFault head before r =
     (isBranch r && leb Limits.branchEnd (count isBranch before))

@@ -1,11 +1,12 @@
 -- One row at one step, as two legs, one for the current that leaves its from node and one for that which leaves its to node:
 -- "i = g·u + h" with u the voltage of `near` less that of `far`. A line's end is a leg of its own, to ground: "at each end i = g·v + h, where v
--- is that end's voltage and h is what the far end sent". An area's step knows only its own legs. Assumes nothing.
+-- is that end's voltage and h is what the far end sent", or lies between two values that it sent. An area's step knows only its own legs. Assumes nothing.
 use Rattle.whole.specs.Plain.{ℕ, _+_, _-_, _%_, Bool, true, false, cond, not, _&&_, _||_, List, [], _∷_, map, leb, ltb}
 use Rattle.whole.specs.Plain.{eqb, ℤ, pos, negℤ, _+ℤ_, _-ℤ_, _*ℤ_, getD, length, Words, z, word, numbers}
-use Rattle.paper.specs.Rows.{Row, isBranch, isLine, isSwitch, isL, isC, from, to, closes, opens}
+use Rattle.whole.specs.Mixing.{mixed}
+use Rattle.paper.specs.Rows.{Row, isBranch, isLine, isSwitch, isL, isC, from, to, closes, opens, stepLength}
 use Rattle.paper.specs.Conductance.{conductance}
-use Rattle.paper.specs.Faults.{delay, slots}
+use Rattle.paper.specs.Faults.{delay, rest, slots}
 use Rattle.paper.specs.Areas.{Net, areaOf, rowArea, step}
 use Rattle.paper.specs.Where.{historyAt, offset}
 
@@ -43,13 +44,19 @@ branch r f t = record { row = r; fromEnd = f; toEnd = t }
 
 -- ---- what a line's ends receive
 
--- what an end sent at step s, "step s in place s mod 2d", or 0 where s < 1
-unfoldable pub sentAt : Net → ℕ → ℕ → Row → Words → ℤ
-sentAt N s i r store = cond (ltb 0 s) (word store (offset N i + s % slots (N .head) r)) z
+-- the value sent at step s: "values before step 1 are 0"
+unfoldable pub sentAt : (ℕ → ℤ) → ℕ → ℤ
+sentAt sent s = cond (ltb 0 s) (sent s) z
 
--- "h is what the far end sent at step k - d, or 0 where k - d < 1"
+-- "an end receives the value sent at step k - q plus (that of step k - q - 1 minus it) · r / step, rounded down": of what the far end sent, by steps
+unfoldable pub received : Row → Row → ℕ → (ℕ → ℤ) → ℤ
+received head r k sent =
+    let s = k - delay (stepLength head) r in
+    mixed (stepLength head) (rest (stepLength head) r) (sentAt sent s) (sentAt sent (s - 1))
+
+-- of what stands in the far end's store, the value of step s in place s mod its slots
 unfoldable pub sentTo : Net → ℕ → ℕ → Row → Words → ℤ
-sentTo N k i r store = sentAt N (k - delay (step N) r) i r store
+sentTo N k i r store = received (N .head) r k (λ s. word store (offset N i + s % slots (N .head) r))
 
 pub record Heard : Type 0 where
   pub atFrom : ℤ

@@ -139,14 +139,14 @@ nextOf N f j = nextIn N f (spotOf j)
 unfoldable pub ends : Net → List ℕ
 ends N = map (endOf N) (numbers 0 Limits.recordWords)
 
--- "areas at a line's two ends differ by at most d in count"
+-- "areas at a line's two ends differ by at most d in count": "the count difference allowed is q"
 unfoldable pub near : Net → Words → Row → Bool
 near N recs r =
     let f = countOf recs (areaOf N (from r)) in
     let t = countOf recs (areaOf N (to r)) in
     not (isLine r) || (leb f (t + delay (step N) r) && leb t (f + delay (step N) r))
 
--- "a line's 2d slots count as used before they are sent"
+-- a line's slots "count as used before they are sent"
 unfoldable pub storeFormed : Net → Words → Bool
 storeFormed N store = within (replicate (slotCount N) Limits.historyEnd) store
 

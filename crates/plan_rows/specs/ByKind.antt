@@ -1,8 +1,8 @@
 -- What goes by a row's kind alone, in the paper's words: its class, its slots, whose its ends are. Assumes nothing.
-use Rattle.whole.specs.Plain.{ℕ, _*_, _+_, max, _≡_, refl, Bool, true, false, cond, List, [], _∷_, pos, getD, add-zero}
+use Rattle.whole.specs.Plain.{ℕ, _*_, _+_, max, _≡_, refl, Bool, true, false, cond, List, [], _∷_, eqb, pos, getD}
 use Rattle.whole.specs.Plain.{arith}
 use Rattle.paper.specs.Rows.{Row, kind, branchKind, isBranch, isSource, isLine, stepLength}
-use Rattle.paper.specs.Faults.{delay, slots}
+use Rattle.paper.specs.Faults.{delay, rest, depth, slots}
 use Rattle.paper.specs.Classes.{one-sort}
 use Rattle.laws_facts.specs.Sound.{RowSound}
 
@@ -19,12 +19,13 @@ source-else r s b = go (isSource r) (rw b at (one-sort (kind r) (s .kindLeast) (
 
 -- ---- slots
 
-unfoldable pub slotsBy : ℕ → ℕ → ℕ
-slotsBy k d = cond (lineKind k) (2 * d) 0
+-- of q whole steps and a rest
+unfoldable pub slotsBy : ℕ → ℕ → ℕ → ℕ
+slotsBy k q rest = cond (lineKind k) (2 * q + cond (eqb rest 0) 0 1) 0
 
-pub slots-by : (head r : Row) → slotsBy (kind r) (delay (stepLength head) r) ≡ slots head r
-unfolding slotsBy slots
-slots-by head r = rw add-zero
+pub slots-by : (head r : Row) → slotsBy (kind r) (delay (stepLength head) r) (rest (stepLength head) r) ≡ slots head r
+unfolding slotsBy slots depth
+slots-by head r = refl
 
 -- ---- areas, by node, of an end from one node to another
 

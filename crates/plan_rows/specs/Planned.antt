@@ -14,7 +14,7 @@ use Rattle.plan_rows.specs.declared.Totals.{Totals}
 
 -- a row's line, and the row of a line
 abbrev pub wordsOf : Row → List ℕ
-wordsOf r = r .kind ∷ r .from ∷ r .to ∷ r .g ∷ r .delay ∷ r .slots ∷ r .place ∷ r .closes ∷ r .opens ∷ r .«from_area» ∷ r .«to_area» ∷ r .number ∷ []
+wordsOf r = r .kind ∷ r .from ∷ r .to ∷ r .g ∷ r .delay ∷ r .rest ∷ r .step ∷ r .slots ∷ r .place ∷ r .closes ∷ r .opens ∷ r .«from_area» ∷ r .«to_area» ∷ r .number ∷ []
 
 abbrev pub rowIn : List (List ℕ) → ℕ → Row
 rowIn plan i =
@@ -25,13 +25,15 @@ rowIn plan i =
       to = getD w 2 0;
       g = getD w 3 0;
       delay = getD w 4 0;
-      slots = getD w 5 0;
-      place = getD w 6 0;
-      closes = getD w 7 0;
-      opens = getD w 8 0;
-      «from_area» = getD w 9 0;
-      «to_area» = getD w 10 0;
-      number = getD w 11 0;
+      rest = getD w 5 0;
+      step = getD w 6 0;
+      slots = getD w 7 0;
+      place = getD w 8 0;
+      closes = getD w 9 0;
+      opens = getD w 10 0;
+      «from_area» = getD w 11 0;
+      «to_area» = getD w 12 0;
+      number = getD w 13 0;
     }
 
 -- a source has none of either
@@ -51,6 +53,8 @@ rowOf N i =
       to = toAt N i;
       g = conductanceAt N i;
       delay = Faults.delay (step N) r;
+      rest = Faults.rest (step N) r;
+      step = step N;
       slots = Faults.slots (N .head) r;
       place = Records.offset N i;
       closes = Rows.closes r;

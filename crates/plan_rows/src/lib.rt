@@ -16,14 +16,17 @@ use paper::Node;
 use paper::Room;
 use paper::kinds;
 
-// What a step needs of a row: its kind and its nodes, a source's other node being 0; its conductance; a line's delay, how many slots it has in each
-// store and where they begin; the steps at which a switch closes and opens; the area of each end, 0 for a source; and the branch's number.
+// What a step needs of a row: its kind and its nodes, a source's other node being 0; its conductance; a line's travel time as whole steps and a rest of
+// the step length, how many slots it has in each store and where they begin; the steps at which a switch closes and opens; the area of each end, 0 for a
+// source; and the branch's number.
 pub struct Row {
     pub kind: usize,
     pub from: usize,
     pub to: usize,
     pub g: usize,
     pub delay: usize,
+    pub rest: usize,
+    pub step: usize,
     pub slots: usize,
     pub place: usize,
     pub closes: usize,
@@ -33,8 +36,11 @@ pub struct Row {
     pub number: usize,
 }
 
+// how many words that is
+pub const WORDS: usize = 14;
+
 // a line for each row, its words in the same order
-pub type Table = [[usize; 12]; Room::ROWS];
+pub type Table = [[usize; WORDS]; Room::ROWS];
 
 pub fn row_at(plan: &Table, i: usize) -> Row
     requires { ⌜ i < Limits.rowEnd ⌝ }
@@ -47,13 +53,15 @@ pub fn row_at(plan: &Table, i: usize) -> Row
         to: w[2],
         g: w[3],
         delay: w[4],
-        slots: w[5],
-        place: w[6],
-        closes: w[7],
-        opens: w[8],
-        from_area: w[9],
-        to_area: w[10],
-        number: w[11],
+        rest: w[5],
+        step: w[6],
+        slots: w[7],
+        place: w[8],
+        closes: w[9],
+        opens: w[10],
+        from_area: w[11],
+        to_area: w[12],
+        number: w[13],
     }
 }
 
@@ -67,6 +75,8 @@ fn put_row(plan: &mut Table, i: usize, r: Row)
         r.to,
         r.g,
         r.delay,
+        r.rest,
+        r.step,
         r.slots,
         r.place,
         r.closes,
@@ -174,12 +184,15 @@ fn conductance_at(net: &[i64], i: usize, kind: usize, step: usize) -> usize
     text_faults::conductance(step as u64, kind, plan_record::number(net, i, 3) as u64) as usize
 }
 
-// "Each line end keeps its last 2d sent values"
-fn slots_of(kind: usize, delay: usize) -> usize
-    requires { ⌜ slotsBy kind delay ≤ Limits.storeWords ⌝ }
-    ensures { λ n. ⌜ n ≡ slotsBy kind delay ⌝ }
+// "a store needs 2q + 1 slots where r is not 0", and 2q where it is
+fn slots_of(kind: usize, delay: usize, rest: usize) -> usize
+    requires { ⌜ slotsBy kind delay rest ≤ Limits.storeWords ⌝ }
+    ensures { λ n. ⌜ n ≡ slotsBy kind delay rest ⌝ }
 {
-    if kind == kinds::LINE { 2 * delay } else { 0 }
+    if kind != kinds::LINE {
+        return 0;
+    }
+    2 * delay + num_share::older(rest as u64)
 }
 
 // The area at an end with node near: a line's ends are each their own node's; an R, L, C or SW is in its higher node's, ground being in none.
@@ -208,7 +221,7 @@ fn number_of(kind: usize, before: usize) -> usize
     }
 }
 
-// Row i, with its slots behind those of the rows before it; "LINE of d = travel / step"
+// Row i, with its slots behind those of the rows before it: "q whole steps and a rest r in ns"
 fn planned(
     net: &[i64],
     area: &[usize; Node::PLACES],
@@ -227,13 +240,16 @@ fn planned(
     let to = to_at(net, i, kind);
     let fourth = plan_record::number(net, i, 4);
     let delay = fourth / step;
+    let rest = fourth % step;
     Row {
         kind,
         from,
         to,
         g: conductance_at(net, i, kind, step),
         delay,
-        slots: slots_of(kind, delay),
+        rest,
+        step,
+        slots: slots_of(kind, delay, rest),
         place,
         closes: fourth,
         opens: plan_record::number(net, i, 5),

@@ -82,7 +82,7 @@ fn put_records(
 
 // ---- the line stores
 
-// "step s in place s mod 2d" of one line end's slots
+// The value of step s in place s mod the slots of one line end.
 fn put_slot(ring: &mut [i64], k: usize, x: i64)
     requires { ⌜ 0 < length (now ring) ⌝ }
     ensures { λ _. ⌜ is ring ≡ set (was ring) (k % length (was ring)) x ⌝ }

@@ -1,13 +1,14 @@
 -- What is heard, of a network's own legs: the rings are there, and the legs are then laid. Assumes nothing.
 use Rattle.whole.specs.Plain.{ℕ, _/_, _≤_, _<_, _≡_, refl, sym, ap, _∙_, true, cond, List, [], map, ℤ, length, getD}
-use Rattle.whole.specs.Plain.{length-map, getD-set-same, eq-eqb, arith, Words, z, word, nat}
+use Rattle.whole.specs.Plain.{length-map, getD-set-same, eq-eqb, le-of-lt, mod-lt, arith, Words, z, word, nat}
 use Rattle.whole.specs.Folds.{getD-map}
 use Rattle.paper.specs.Rows.{isLine}
-use Rattle.paper.specs.Faults.{delay, slots}
+use Rattle.paper.specs.Faults.{delay, rest, slots}
 use Rattle.paper.specs.Areas.{Net, step}
 use Rattle.paper.specs.Records.{offset, historyAt}
 use Rattle.paper.specs.Legs.{sentTo}
 use Rattle.laws_facts.specs.Nets.{NetSound, rowAt, slots-within}
+use Rattle.num_share.specs.Mixed.{Shared}
 use Rattle.step_received.specs.Received.{heard-is}
 use Rattle.plan_rows.specs.declared.Row.{Row}
 use Rattle.plan_rows.specs.Planned.{rowIn, rowOf, Planned}
@@ -15,7 +16,7 @@ use Rattle.plan_ends.specs.Own.{rowOfEnd, sideOfEnd, endAt}
 use Rattle.step_legs.specs.Wires.{wireAt}
 use Rattle.step_own.specs.Ends.{farStore, facing, hAt, Kept}
 use Rattle.step_own.specs.Laid.{Conducting, Laid, end-own, conducting-wires, conducting-same}
-use Rattle.step_histories.specs.Heard.{Ring, Hears, sentBy, historyOf, heardLine, all-heard}
+use Rattle.step_histories.specs.Heard.{Ring, Hears, sentBy, receivedBy, historyOf, heardLine, all-heard}
 
 -- ---- the plan's row
 module _ {N : Net} {plan : List (List ℕ)} (p : Planned N plan) (i : ℕ) (h : i < length (N .rows)) where
@@ -31,15 +32,30 @@ module _ {N : Net} {plan : List (List ℕ)} (p : Planned N plan) (i : ℕ) (h : 
   unfolding rowOf
   delay-is = ap (λ (r : Row). r .delay) (p .row i h)
 
+  rest-is : rowIn plan i .rest ≡ rest (step N) (rowAt N i)
+  unfolding rowOf
+  rest-is = ap (λ (r : Row). r .rest) (p .row i h)
+
+  step-is : rowIn plan i .step ≡ step N
+  unfolding rowOf
+  step-is = ap (λ (r : Row). r .step) (p .row i h)
+
+  shared : NetSound N → Shared (rowIn plan i .step) (rowIn plan i .rest)
+  shared s = let t = s .study .stepIn in rw (step-is, rest-is) (record { long = t .least; short = t .most; part = le-of-lt (mod-lt _ (t .least)) })
+
   ring-of : NetSound N → isLine (rowAt N i) ≡ true → Ring (rowIn plan i)
   ring-of s e =
       let l = s .row i h .line e in
-      record { some = omega (arith, slots-are, l .ring, l .late); inside = omega (arith, place-is, slots-are, slots-within N i h, s .slotMost) }
+      record {
+        some = omega (arith, slots-are, delay-is, l .ring, l .late);
+        inside = omega (arith, place-is, slots-are, slots-within N i h, s .slotMost);
+        shared = shared s;
+      }
 
   -- what its end receives
-  sent-is : (side : ℕ) (froms tos : Words) (k : ℕ) → sentBy (rowIn plan i) side froms tos k (rowIn plan i .delay) ≡ sentTo N k i (rowAt N i) (farStore side froms tos)
-  unfolding sentBy
-  sent-is side froms tos k = simp (place-is, slots-are, delay-is) (heard-is N k i (rowAt N i) (farStore side froms tos))
+  received-is : (side : ℕ) (froms tos : Words) (k : ℕ) → receivedBy (rowIn plan i) side froms tos k ≡ sentTo N k i (rowAt N i) (farStore side froms tos)
+  unfolding receivedBy sentBy
+  received-is side froms tos k = simp (place-is, slots-are, delay-is, rest-is, step-is) (heard-is N k i (rowAt N i) (farStore side froms tos))
 
 -- ---- the area's legs
 module _ {N : Net} {a k : ℕ} {plan : List (List ℕ)} {legs : List Words} (s : NetSound N) (p : Planned N plan) (c : Conducting N a k legs) where
@@ -61,7 +77,7 @@ module _ {N : Net} {a k : ℕ} {plan : List (List ℕ)} {legs : List Words} (s :
         let f = c .framed .line j h in
         let e = endAt N a j in
         rw (f .kind, f .row, f .end)
-        (ap (λ (x : ℤ). cond (isLine (rowOfEnd N e)) x (facing (sideOfEnd e) (word recs (historyAt (e / 2))))) (sent-is p (e / 2) (row-in j h) (sideOfEnd e) froms tos k))
+        (ap (λ (x : ℤ). cond (isLine (rowOfEnd N e)) x (facing (sideOfEnd e) (word recs (historyAt (e / 2))))) (received-is p (e / 2) (row-in j h) (sideOfEnd e) froms tos k))
 
     pub heard-laid : Laid N a k recs froms tos (map (heardLine plan recs froms tos k) legs)
     unfolding heardLine

@@ -6,7 +6,8 @@ ghost use Rattle.paper.specs.Records as Records;
 ghost use Rattle.plan_rows.specs.Planned.{rowIn};
 ghost use Rattle.step_legs.specs.Wires.{Wired};
 ghost use Rattle.step_own.specs.Ends.{facing, Kept};
-ghost use Rattle.step_histories.specs.Heard.{sideOf, Ring, sentBy, historyOf, heardLine, Hears};
+ghost use Rattle.step_histories.specs.Heard.{sideOf, Ring, Sent, sentBy, receivedBy};
+ghost use Rattle.step_histories.specs.Heard.{historyOf, heardLine, Hears};
 use paper::kinds;
 use paper::sections;
 use plan_rows::Row;
@@ -49,6 +50,20 @@ fn sent<'a>(r: Row, end: usize, froms: &'a [i64], tos: &'a [i64], k: usize, d: u
     step_received::received(froms, tos, side(end), r.place, r.slots, k, d)
 }
 
+// What a line's end receives at step k: "the value sent at step k - q plus (that of step k - q - 1 minus it) · r / step, rounded down". Where r is 0 the
+// older value is not read.
+fn received<'a>(r: Row, end: usize, froms: &'a [i64], tos: &'a [i64], k: usize) -> i64
+    requires { ⌜ Ring r × Sent (now froms) (now tos) ⌝ }
+    ensures { λ h. ⌜ h ≡ receivedBy r end (was froms) (was tos) k ⌝ }
+{
+    let newer = sent(r, end, froms, tos, k, r.delay);
+    if r.rest == 0 {
+        return newer;
+    }
+    let older = sent(r, end, froms, tos, k, r.delay + 1);
+    num_share::mixed(newer, older, r.rest as u64, r.step as u64)
+}
+
 // One leg's history at step k. Of an R or a SW, which holds nothing, the records' 0 is read.
 fn history<'a>(
     plan: &Table,
@@ -64,7 +79,7 @@ fn history<'a>(
 {
     if l.kind == kinds::LINE {
         let r = plan_rows::row_at(plan, l.row);
-        return sent(r, l.end, froms, tos, k, r.delay);
+        return received(r, l.end, froms, tos, k);
     }
     held(records, l.row, l.end)
 }

@@ -1,18 +1,19 @@
 -- What an area's own end is worth at most: its nodes, which are the area's or ground, its conductance, its history; and that one row's two ends leave
 -- two nodes. Assumes nothing.
 use Rattle.whole.specs.Plain.{ℕ, _+_, _-_, _*_, _/_, _%_, _≤_, _<_, _≡_, refl, sym, _∙_, _⊎_, inl, inr, Bool, true}
-use Rattle.whole.specs.Plain.{false, cond, [], eqb, ltb, negℤ, natAbs, length, eqb-true, decLt, arith, Words, z, word}
+use Rattle.whole.specs.Plain.{false, cond, [], eqb, negℤ, natAbs, length, eqb-true, decLt, arith, Words, word}
 use Rattle.whole.specs.Plain.{nat}
 use Rattle.whole.specs.Int.{abs-neg}
 use Rattle.paper.specs.Limits as Limits
 use Rattle.paper.specs.Rows.{Row, isBranch, isLine}
 use Rattle.paper.specs.Conductance.{conductance}
-use Rattle.paper.specs.Faults.{delay, slots}
+use Rattle.paper.specs.Faults.{slots}
 use Rattle.paper.specs.Areas.{Net, areaOf, rowArea, step}
 use Rattle.paper.specs.Records as Records
-use Rattle.paper.specs.Legs.{isOpen, conducts, sentTo, sentAt}
+use Rattle.paper.specs.Legs.{isOpen, conducts, sentTo}
 use Rattle.laws_facts.specs.Fields.{Within}
 use Rattle.laws_facts.specs.Sound.{BranchSound}
+use Rattle.laws_facts.specs.Travels.{received-size}
 use Rattle.laws_facts.specs.Nets.{NetSound, row-area-from, row-area-to}
 use Rattle.plan_ends.specs.Own as Own
 use Rattle.plan_ends.specs.Own.{of-sides, ownerOf, rowOfEnd, sideOfEnd, ownEnd, nearOf, farOf}
@@ -57,15 +58,18 @@ module _ (N : Net) (s : NetSound N) (a : ℕ) (one : 1 ≤ a) (e : ℕ) (l : e <
   g-most k = elim (isOpen N [] k (e / 2)) as (λ b. cond b 0 (conductance (step N) r) ≤ Limits.conductanceEnd) [ true ↦ omega arith | false ↦ own-sound .gMost ]
 
   pub h-most : {recs froms tos : Words} → Kept recs froms tos → (k : ℕ) → natAbs (hAt N k recs froms tos e) ≤ Limits.historyEnd
-  unfolding hAt sentTo sentAt facing farStore
-  h-most {recs} {froms} {tos} kept k = by (isLine r) (eqb (sideOfEnd e) 1) (ltb 0 (k - delay (step N) r)) (Records.offset N (e / 2) + (k - delay (step N) r) % slots (N .head) r)
+  unfolding hAt sentTo facing farStore
+  h-most {recs} {froms} {tos} kept k = by (isLine r) (eqb (sideOfEnd e) 1)
     where
-      by : (b f t : Bool) (j : ℕ) → natAbs (cond b (cond t (word (cond f tos froms) j) z) (cond f (word recs (Records.historyAt (e / 2))) (negℤ (word recs (Records.historyAt (e / 2)))))) ≤ Limits.historyEnd
-      by true true true j = kept .to-sent j
-      by true false true j = kept .from-sent j
-      by true f false j = omega arith
-      by false true t j = kept .held (e / 2) (omega (arith, s .rowMost))
-      by false false t j = omega (arith, abs-neg (word recs (Records.historyAt (e / 2))), kept .held (e / 2) (omega (arith, s .rowMost)))
+      sent-most : (f : Bool) (j : ℕ) → natAbs (word (cond f tos froms) j) ≤ Limits.historyEnd
+      sent-most true j = kept .to-sent j
+      sent-most false j = kept .from-sent j
+
+      by : (b f : Bool)
+          → natAbs (cond b (sentTo N k (e / 2) r (cond f tos froms)) (cond f (word recs (Records.historyAt (e / 2))) (negℤ (word recs (Records.historyAt (e / 2)))))) ≤ Limits.historyEnd
+      by true f = received-size (N .head) r (s .study .stepIn .least) k (λ x. word (cond f tos froms) (Records.offset N (e / 2) + x % slots (N .head) r)) Limits.historyEnd (λ x. sent-most f _)
+      by false true = kept .held (e / 2) (omega (arith, s .rowMost))
+      by false false = omega (arith, abs-neg (word recs (Records.historyAt (e / 2))), kept .held (e / 2) (omega (arith, s .rowMost)))
 
   -- ---- where its nodes are
   plain-node : isLine r ≡ false → (side : ℕ) → 1 ≤ side → side ≤ 2 → Ours N a (nat (word r side))

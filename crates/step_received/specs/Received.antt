@@ -1,11 +1,13 @@
--- What an end of a line receives: "what the far end sent at step k - d, or 0 where k - d < 1"; "step s in place s mod 2d". Assumes nothing.
+-- What an end of a line reads: what the far end sent d steps before step k, "or 0 where k - d < 1"; step s stands in place s mod the slots. Assumes
+-- nothing.
 use Rattle.whole.specs.Plain.{ℕ, _+_, _-_, _%_, _≤_, _<_, _≡_, refl, ap, cond, ltb, ℤ, length, take, drop, length-take}
 use Rattle.whole.specs.Plain.{length-drop, getD-take, getD-drop, lt-ltb, le-ltb, mod-lt, arith, Words, z, word}
+use Rattle.whole.specs.Mixing.{mixed}
 use Rattle.paper.specs.Rows.{Row}
-use Rattle.paper.specs.Faults.{slots, delay}
+use Rattle.paper.specs.Faults.{slots, delay, rest}
 use Rattle.paper.specs.Areas.{Net, step}
 use Rattle.paper.specs.Records.{offset}
-use Rattle.paper.specs.Legs.{sentTo, sentAt}
+use Rattle.paper.specs.Legs.{sentTo, received, sentAt}
 use Rattle.step_received.specs.declared.Side.{Side}
 use Rattle.step_received.specs.declared.Side.the-variants.{From, To}
 
@@ -50,7 +52,11 @@ module _ (side : Side) (froms tos : Words) (start slots : ℕ) (f : start + slot
           let g : 0 + s ≡ s = omega arith in
           rw (e, g, getD-take slots (drop start (farStore side froms tos)) s z l, getD-drop)
 
--- of a line's own ring: the paper's
-pub heard-is : (N : Net) (k i : ℕ) (r : Row) (store : Words) → heardFrom store (offset N i) (slots (N .head) r) k (delay (step N) r) ≡ sentTo N k i r store
-unfolding heardFrom sentTo sentAt
-heard-is N k i r store = refl
+-- of a line's own ring: what was sent q and q + 1 steps before mixes to the paper's
+module _ (N : Net) (k i : ℕ) (r : Row) (store : Words) where
+  abbrev ago : ℕ → ℤ
+  ago d = heardFrom store (offset N i) (slots (N .head) r) k d
+
+  pub heard-is : mixed (step N) (rest (step N) r) (ago (delay (step N) r)) (ago (delay (step N) r + 1)) ≡ sentTo N k i r store
+  unfolding heardFrom sentTo received sentAt
+  heard-is = let e : k - (delay (step N) r + 1) ≡ k - delay (step N) r - 1 = omega arith in rw e

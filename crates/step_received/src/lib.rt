@@ -20,7 +20,7 @@ fn far<'a>(froms: &'a [i64], tos: &'a [i64], side: Side, start: usize, end: usiz
     }
 }
 
-// "h is what the far end sent at step k - d, or 0 where k - d < 1": of the far end's part
+// What the far end sent "at step k - d, or 0 where k - d < 1": of the far end's part. A line's end asks for q steps before, and between steps also for q + 1.
 fn sent(part: &[i64], k: usize, d: usize) -> i64
     requires { ⌜ 0 < length (now part) ⌝ }
     ensures { λ r. ⌜ r ≡ heardFrom (was part) 0 (length (was part)) k d ⌝ }

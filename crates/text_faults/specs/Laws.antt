@@ -1,5 +1,5 @@
 -- From a row's words to what its faults ask. Assumes nothing.
-use Rattle.whole.specs.Plain.{ℕ, suc, _+_, _≤_, _<_, _≡_, refl, sym, _∙_, ap, Bool, true, false, not, cond, _&&_, _||_}
+use Rattle.whole.specs.Plain.{ℕ, suc, _+_, _%_, _≤_, _<_, _≡_, refl, sym, _∙_, ap, Bool, true, false, not, cond, _&&_, _||_}
 use Rattle.whole.specs.Plain.{true≢false, false≢true, List, [], _∷_, tail, T, leb, ltb, eqb, ℤ, pos, negsuc, natAbs}
 use Rattle.whole.specs.Plain.{nonNeg, length, ne-eqb, eqb-true, le-trans, div-le-self, arith, Words, word, nat, between}
 use Rattle.whole.specs.Plain.{count}
@@ -12,7 +12,7 @@ use Rattle.paper.specs.Limits as Limits
 use Rattle.paper.specs.Rows.{bytes, kinds, kind, fieldsOf, branchKind, sourceKind, isStudy, isBranch, stepLength, from, to, closes, opens, travel}
 use Rattle.paper.specs.Classes.{kind-count}
 use Rattle.paper.specs.Conductance.{conductance, ofOhms, ofHenries, ofFarads}
-use Rattle.paper.specs.Faults.{outside, nodeFault, valueFault, travelFault, slots}
+use Rattle.paper.specs.Faults.{outside, nodeFault, valueFault, travelFault, depth, slots}
 use Rattle.text_kinds.specs.Table.{namesOf, low, high, outsideFrom}
 use Rattle.text_kinds.specs.Fields.{each, names-few, fields-few, outside-names, outside-values, field-in, in-range}
 use Rattle.text_faults.specs.declared.Seen.{Seen}
@@ -126,12 +126,16 @@ line-travel w few step e f =
 
 -- ---- what is seen
 
-pub slots-small : (w : Words) → 6 ≤ length w → (step : ℕ) → valueFault (headOf step) w ≡ false → slots (headOf step) w ≤ 2000000000
-unfolding slots
+pub older-most : (b : Bool) → cond b 0 1 ≤ 1
+older-most true = omega arith
+older-most false = omega arith
+
+pub slots-small : (w : Words) → 6 ≤ length w → (step : ℕ) → valueFault (headOf step) w ≡ false → slots (headOf step) w ≤ 2000000001
+unfolding slots depth
 slots-small w few step f = by-test (eqb (kind w) 4) refl
   where
-    by-test : (t : Bool) → eqb (kind w) 4 ≡ t → slots (headOf step) w ≤ 2000000000
-    by-test true e = let t = line-travel w few step (eqb-true (kind w) 4 e) f in rw e (omega (arith, div-le-self (travel w) step))
+    by-test : (t : Bool) → eqb (kind w) 4 ≡ t → slots (headOf step) w ≤ 2000000001
+    by-test true e = let t = line-travel w few step (eqb-true (kind w) 4 e) f in rw e (omega (arith, div-le-self (travel w) step, older-most (eqb (travel w % step) 0)))
     by-test false e = rw e (omega arith)
 
 pub full-is : (s : Seen) (w : Words) {k n : ℕ} {br so : Bool} → k ≡ kind w → br ≡ branchKind k → so ≡ sourceKind k → n ≡ slots (headOf (s .step)) w

@@ -7,7 +7,7 @@ use Rattle.paper.specs.Limits as Limits
 use Rattle.paper.specs.Rows.{Row, bytes, kinds, kind, fieldsOf, isStudy, isBranch, isSource, isFixing, branchKind, sourceKind, fixingKind, at, stepLength}
 use Rattle.paper.specs.Classes.{kind-count, fixing-kinds}
 use Rattle.paper.specs.Conductance.{conductance, ofOhms, ofHenries, ofFarads}
-use Rattle.paper.specs.Faults.{outside, nodeFault, valueFault, travelFault, fixes, doubleFault, slots, fullFault, lineFault, rowFault}
+use Rattle.paper.specs.Faults.{outside, nodeFault, valueFault, travelFault, fixes, doubleFault, depth, slots, fullFault, lineFault, rowFault}
 use Rattle.paper.specs.Network.{Table, rowOfWords}
 use Rattle.text_kinds.specs.Table.{namesOf, low, high, outsideFrom}
 use Rattle.text_kinds.specs.Fields.{each, five, outside-names, field-in, in-range}
@@ -73,11 +73,11 @@ module _ (w : Words) (few : 6 ≤ length w) (known : kind w < 8) where
   row-kind = by-kind (λ v. kind (rowOfWords v) ≡ kind v) w few known refl refl refl refl refl refl refl refl
 
   pub row-line-fault : (head : Row) (before : List Row) → lineFault head before (rowOfWords w) ≡ lineFault head before w
-  unfolding words rowOfWords fieldsOf kinds bytes lineFault nodeFault valueFault travelFault doubleFault fullFault outside conductance ofOhms ofHenries ofFarads slots
+  unfolding words rowOfWords fieldsOf kinds bytes lineFault nodeFault valueFault travelFault doubleFault fullFault outside conductance ofOhms ofHenries ofFarads depth slots
   row-line-fault head before = by-kind (λ v. lineFault head before (rowOfWords v) ≡ lineFault head before v) w few known refl refl refl refl refl refl refl refl
 
   pub row-slots : (head : Row) → slots head (rowOfWords w) ≡ slots head w
-  unfolding words rowOfWords fieldsOf kinds bytes slots
+  unfolding words rowOfWords fieldsOf kinds bytes depth slots
   row-slots head = by-kind (λ v. slots head (rowOfWords v) ≡ slots head v) w few known refl refl refl refl refl refl refl refl
 
   pub row-fixes : (n : ℕ) → fixes n (rowOfWords w) ≡ fixes n w
@@ -112,7 +112,7 @@ seen-full s before w p q r = rw (p, q, r)
 
 -- of the study's row its step length alone matters
 by-step : (head : Row) (before : List Row) (w : Words) → lineFault (headOf (stepLength head)) before w ≡ lineFault head before w
-unfolding lineFault valueFault travelFault fullFault slots
+unfolding lineFault valueFault travelFault fullFault depth slots
 by-step head before w = refl
 
 module _ (s : Seen) (w : Words) (few : 6 ≤ length w) (known : kind w < 8) where
@@ -126,7 +126,7 @@ module _ (s : Seen) (w : Words) (few : 6 ≤ length w) (known : kind w < 8) wher
       by-test false f = rw (f, seen-double s before w h (source-node w few known f), seen-full s before w p q r)
 
   first-study : isStudy w ≡ true → s .slots ≡ 0 → seenFault s w ≡ lineFault [] [] w
-  unfolding words seenFault seenDouble seenFull fieldsOf branchKind sourceKind fixingKind kinds bytes lineFault nodeFault valueFault travelFault doubleFault fullFault outside conductance ofOhms ofHenries ofFarads slots sum
+  unfolding words seenFault seenDouble seenFull fieldsOf branchKind sourceKind fixingKind kinds bytes lineFault nodeFault valueFault travelFault doubleFault fullFault outside conductance ofOhms ofHenries ofFarads depth slots sum
   first-study =
       by-kind (λ v. isStudy v ≡ true → s .slots ≡ 0 → seenFault s v ≡ lineFault [] [] v) w few known
       (λ i e. rw e)

@@ -97,13 +97,13 @@ fn value_fault(step: u64, row: [i64; 8]) -> bool
     (k == 5) & (open <= close)
 }
 
-// 4 TRAVEL: "travel not a multiple of the step"
+// 4 TRAVEL: "travel shorter than a step"
 fn travel_fault(step: u64, row: [i64; 8]) -> bool
-    requires { ⌜ (kind row < 8) × (1 ≤ step) ⌝ }
+    requires { ⌜ kind row < 8 ⌝ }
     ensures { λ r. ⌜ r ≡ Faults.travelFault (headOf step) row ⌝ }
 {
     let travel = field(row, 4);
-    (kind_of(row) == 4) & !(travel % step == 0)
+    (kind_of(row) == 4) & (travel < step)
 }
 
 fn fixed_at(fixed: [bool; Node::PLACES], node: u64) -> bool
@@ -125,18 +125,19 @@ fn double_fault(seen: Seen, row: [i64; 8]) -> bool
     paper::kinds::is_fixing(kind_of(row)) & fixed_at(fixed, field(row, 1))
 }
 
-// "Each line end keeps its last 2d sent values"
+// "a store needs 2q + 1 slots where r is not 0", and 2q where it is
 fn slots_of(step: u64, row: [i64; 8]) -> usize
     requires { ⌜ (kind row < 8) × ((1 ≤ step) × (Faults.valueFault (headOf step) row ≡ false)) ⌝ }
     ensures { λ r. ⌜ r ≡ Faults.slots (headOf step) row ⌝ }
 {
     if kind_of(row) == 4 {
-        return 2 * (field(row, 4) / step) as usize;
+        let travel = field(row, 4);
+        return 2 * (travel / step) as usize + num_share::older(travel % step);
     }
     0
 }
 
-// 6 FULL: "65th branch, 17th source, or 2d summed over lines past 4,096"
+// 6 FULL: "65th branch, 17th source, or" the slots "summed over lines past 4,096"
 fn full_fault(seen: Seen, row: [i64; 8]) -> bool
     requires { ⌜ (kind row < 8) × (Held seen × (Faults.valueFault (headOf (seen .step)) row ≡ false)) ⌝ }
     ensures { λ r. ⌜ r ≡ seenFull seen row ⌝ }

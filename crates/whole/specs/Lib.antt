@@ -16,6 +16,7 @@ pub mod Prefix
 pub mod Ranges
 pub mod Rounding
 pub mod Floor
+pub mod Mixing
 pub mod Members
 pub mod Index
 pub mod Rising

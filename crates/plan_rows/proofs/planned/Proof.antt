@@ -1,5 +1,5 @@
 -- `plan_rows::planned` meets its contract: each word is what its own function gives. Assumes nothing.
-use Rattle.whole.specs.Plain.{_/_, _≤_, _≡_, sym, _∙_, arith}
+use Rattle.whole.specs.Plain.{_/_, _%_, _≤_, _≡_, sym, _∙_, arith}
 use borrow.Author.Needs.{needs}
 use Rattle.paper.specs.Limits as Limits
 use Rattle.paper.specs.Faults as Faults
@@ -28,9 +28,12 @@ travel-requires c κs =
 div-delay : tie.Need-div-delay
 div-delay c = let s = c .before .before .before .before in omega (arith, s .pre .1 .0 .1, sound s .study .stepIn .least)
 
+rem-rest : tie.Need-rem-rest
+rem-rest c = let s = c .before .before .before .before in omega (arith, s .pre .1 .0 .1, sound s .study .stepIn .least)
+
 -- the row's slots
 slots : (c : tie.After-number2) → let s = c .before .before .before .before in
-    slotsBy (c .before .before .before .kind .result) (c .number2 .result / s .args .step) ≡ Faults.slots (netIn (s .args .net .now) .head) (rowAt (netIn (s .args .net .now)) (s .args .i))
+    slotsBy (c .before .before .before .kind .result) (c .number2 .result / s .args .step) (c .number2 .result % s .args .step) ≡ Faults.slots (netIn (s .args .net .now) .head) (rowAt (netIn (s .args .net .now)) (s .args .i))
 slots c =
     let s = c .before .before .before .before in
     rw (c .before .before .before .kind .ensures, c .number2 .ensures, s .pre .1 .0 .1) (slots-by (netIn (s .args .net .now) .head) (rowAt (netIn (s .args .net .now)) (s .args .i)))
@@ -78,5 +81,5 @@ returns c =
 pub planned-spec : {M : Type 1} → statement M
 planned-spec =
     tie.close
-    (tie.spec (λ c κs. search needs) from-requires (λ c κs. search needs) travel-requires div-delay (λ c κs. search needs) slots-requires open-requires
+    (tie.spec (λ c κs. search needs) from-requires (λ c κs. search needs) travel-requires div-delay rem-rest (λ c κs. search needs) slots-requires open-requires
     (λ c κs. nodes (c .before .before .before .before)) (λ c κs. let n = nodes (c .before .before .before .before .before) in (n .1, n .0)) number-requires returns)

@@ -9,12 +9,9 @@ field-requires c κs = search needs
 kind-of-requires : tie.Need-kind-of-requires
 kind-of-requires c κs = search needs
 
-rem-result : tie.Need-rem-result
-rem-result c = search needs
-
 returns : tie.Need-returns
 unfolding travelFault
 returns c = rw (c .kind-of .ensures, c .before .field .ensures)
 
 pub travel-fault-spec : {M : Type 1} → statement M
-travel-fault-spec = tie.close (tie.spec field-requires kind-of-requires rem-result returns)
+travel-fault-spec = tie.close (tie.spec field-requires kind-of-requires returns)
