@@ -1,4 +1,4 @@
-// E1 to E10 of document 01 through the compiled calls, as a C program links them. Closing line: N passed, M failed.
+// E1 to E10 of document 01, E9 with a travel time between steps as document 02 has it, through the compiled calls, as a C program links them. Closing line: N passed, M failed.
 #include <emt.h>
 #include <stdio.h>
 #include <string.h>
@@ -46,15 +46,19 @@ static void e2(void) {
     expect("E2: one less", advance(1), 100 * EMT_UNBALANCED + 2);
 }
 
+// Two areas with a line between them, in turn: node 2 then has the next of the values.
+static void eight_steps(const char *what, const char *text, const int64_t *values) {
+    expect(what, start(text), 0);
+    for (int k = 1; k <= 8; k++) {
+        expect(what, advance(1), k);
+        expect(what, advance(2), k);
+        expect(what, records[EMT_VOLTAGE(2)], values[k - 1]);
+    }
+}
+
 static void e5_and_e6(void) {
     static const char text[] = "study\t1000\t8\t0\nVS\t1\t1000\t1\t0\nLINE\t1\t2\t400000\t2000\n";
-    static const int64_t values[] = {0, 0, 2000, 2000, 2000, 2000, 0, 0};
-    expect("E5", start(text), 0);
-    for (int k = 1; k <= 8; k++) {
-        expect("E5: area 1", advance(1), k);
-        expect("E5: area 2", advance(2), k);
-        expect("E5: node 2", records[EMT_VOLTAGE(2)], values[k - 1]);
-    }
+    eight_steps("E5", text, (int64_t[]){0, 0, 2000, 2000, 2000, 2000, 0, 0});
     expect("E6", start(text), 0);
     expect("E6: first", advance(1), 1);
     expect("E6: second", advance(1), 2);
@@ -74,7 +78,8 @@ int main(void) {
     steps("E4", "study\t1000\t3\t0\nVS\t1\t1000\t1\t0\nC\t1\t0\t1000\n", EMT_CURRENT(1), 3, (int64_t[]){2000000000, -2000000000, 2000000000});
     e5_and_e6();
     e7_and_e8();
-    expect("E9", start("study\t1000\t8\t0\nVS\t1\t1000\t1\t0\nLINE\t1\t2\t400000\t2500\n"), 100 * EMT_TRAVEL + 3);
+    eight_steps("E9", "study\t1000\t8\t0\nVS\t1\t1000\t1\t0\nLINE\t1\t2\t400000\t2500\n", (int64_t[]){0, 0, 1000, 2000, 2000, 2000, 1750, 1000});
+    expect("E9: shorter than a step", start("study\t1000\t8\t0\nVS\t1\t1000\t1\t0\nLINE\t1\t2\t400000\t999\n"), 100 * EMT_TRAVEL + 3);
     expect("E10", start("study\t1000\t3\t0\nVS\t1\t20000000\t1\t0\nL\t1\t0\t500\n"), 0);
     expect("E10: step 1", advance(1), 1);
     expect("E10: step 2", advance(1), 2);
