@@ -2,7 +2,7 @@
 //! answers its number and what the number carries, and every refusal leaves all lent memory unchanged.
 
 use crate::limits::Whole;
-use crate::network::Network;
+use crate::network::{Network, Travel};
 use crate::reader;
 use crate::record::{self, NETWORK_WORDS};
 use crate::refusal::{Refusal, Stop};
@@ -44,7 +44,22 @@ pub fn advance(
     tos: &mut [i64],
     area: u64,
 ) -> (u64, u64) {
-    match checked_step(network, records, froms, tos, area) {
+    advance_by(Travel::received, network, records, froms, tos, area)
+}
+
+/// What a line's end receives at a step, of the values that the far end's slots hold by step.
+pub type Received = fn(&Travel, Whole, &dyn Fn(Whole) -> Whole) -> Whole;
+
+/// The advance by this rule of what an end receives; the comparison plants wrong ones.
+pub fn advance_by(
+    received: Received,
+    network: &[i64],
+    records: &mut [i64],
+    froms: &mut [i64],
+    tos: &mut [i64],
+    area: u64,
+) -> (u64, u64) {
+    match checked_step(received, network, records, froms, tos, area) {
         Err(stop) => (stop.refusal.number(), stop.place as u64),
         Ok((network, area, taken)) => {
             let count = write_step(&network, area, &taken, records, froms, tos);
@@ -65,6 +80,7 @@ pub fn lent_network(words: &[i64], records: &[i64], froms: &[i64], tos: &[i64]) 
 
 /// Everything an advance judges, in the paper's order 9, 8, 10 to 17; it only reads.
 fn checked_step(
+    received: Received,
     words: &[i64],
     records: &[i64],
     froms: &[i64],
@@ -87,27 +103,34 @@ fn checked_step(
     if let Some(branch) = step::first_waiting_line(&network, area, step, &count_of) {
         return Err(Stop::at(Refusal::Wait, branch));
     }
-    let histories = lent_histories(&network, step, records, froms, tos);
+    let histories = lent_histories(received, &network, step, records, froms, tos);
     let taken = step::take_step(&network, area, step, &histories)?;
     Ok((network, area, taken))
 }
 
-/// L and C keep theirs in the records. A line's from end reads what the to end sent at step k - d, and the
-/// other way about; 0 where k - d < 1, whatever the slot holds.
-fn lent_histories(network: &Network, step: Whole, records: &[i64], froms: &[i64], tos: &[i64]) -> Histories {
+/// L and C keep theirs in the records. A line's from end receives what the to end sent, and the other way
+/// about; a value before step 1 is 0, whatever its slot holds.
+fn lent_histories(
+    received: Received,
+    network: &Network,
+    step: Whole,
+    records: &[i64],
+    froms: &[i64],
+    tos: &[i64],
+) -> Histories {
     let first = state::first_slots(network);
     let mut histories = Histories { at_from: Vec::new(), at_to: Vec::new() };
     for (index, branch) in network.branches.iter().enumerate() {
-        let (at_from, at_to) = match branch.delay() {
-            None => (records[state::history_place(branch.row)], 0),
-            Some(delay) if step - delay < 1 => (0, 0),
-            Some(delay) => {
-                let slot = state::slot_of_step(first[index], delay, step - delay);
-                (tos[slot], froms[slot])
+        let (at_from, at_to) = match branch.travel() {
+            None => (Whole::from(records[state::history_place(branch.row)]), 0),
+            Some(travel) => {
+                let slot = |sent: Whole| state::slot_of_step(first[index], travel, sent);
+                let heard = |store: &[i64]| received(&travel, step, &|sent| Whole::from(store[slot(sent)]));
+                (heard(tos), heard(froms))
             }
         };
-        histories.at_from.push(Whole::from(at_from));
-        histories.at_to.push(Whole::from(at_to));
+        histories.at_from.push(at_from);
+        histories.at_to.push(at_to);
     }
     histories
 }
@@ -132,8 +155,8 @@ fn write_step(
         put(records, state::from_current_place(branch.row), done.from_current);
         put(records, state::to_current_place(branch.row), done.to_current);
         put(records, state::history_place(branch.row), done.next_history);
-        if let Some(delay) = branch.delay() {
-            let slot = state::slot_of_step(first[done.branch], delay, Whole::from(count));
+        if let Some(travel) = branch.travel() {
+            let slot = state::slot_of_step(first[done.branch], travel, Whole::from(count));
             put(froms, slot, done.from_sent);
             put(tos, slot, done.to_sent);
         }

@@ -67,6 +67,35 @@ pub fn nearest_halves_up(numerator: Whole, denominator: Whole) -> Whole {
     (2 * numerator + denominator).div_euclid(2 * denominator)
 }
 
+/// How a line's travel time lies over the steps: q whole ones and a rest r in ns, shorter than a step.
+#[derive(Clone, Copy, PartialEq, Eq, Debug)]
+pub struct Travel {
+    pub whole_steps: Whole,
+    pub rest: Whole,
+    pub step_length: Whole,
+}
+
+impl Travel {
+    pub fn of(nanoseconds: Whole, step_length: Whole) -> Travel {
+        let (whole_steps, rest) = (nanoseconds / step_length, nanoseconds % step_length);
+        Travel { whole_steps, rest, step_length }
+    }
+
+    /// What each end's store needs: 2q slots, and one more where r is not 0.
+    pub fn slots(&self) -> Whole {
+        2 * self.whole_steps + Whole::from(self.rest != 0)
+    }
+
+    /// What an end receives at step k: the value that the far end sent at step k - q plus (that of step
+    /// k - q - 1 minus it) · r / step, rounded down. `sent` gives the far end's values; those before step 1 are 0.
+    pub fn received(&self, step: Whole, sent: &dyn Fn(Whole) -> Whole) -> Whole {
+        let value_of = |step: Whole| if step < 1 { 0 } else { sent(step) };
+        let newer = value_of(step - self.whole_steps);
+        let older = value_of(step - self.whole_steps - 1);
+        newer + ((older - newer) * self.rest).div_euclid(self.step_length)
+    }
+}
+
 impl Row {
     /// The conductance of a branch row; a source has none. Its fields must be in range.
     pub fn conductance(&self, step_length: Whole) -> Option<Whole> {
@@ -79,9 +108,9 @@ impl Row {
         }
     }
 
-    /// d of a line: its travel time in steps.
-    pub fn delay(&self, step_length: Whole) -> Option<Whole> {
-        (self.kind == Kind::Line).then(|| self.fields[3] / step_length)
+    /// The travel time of a line.
+    pub fn travel(&self, step_length: Whole) -> Option<Travel> {
+        (self.kind == Kind::Line).then(|| Travel::of(self.fields[3], step_length))
     }
 
     /// The nodes the row names.
@@ -107,7 +136,7 @@ pub enum Element {
     Resistor,
     Inductor,
     Capacitor,
-    Line { delay: Whole },
+    Line { travel: Travel },
     Switch { close: Whole, open: Whole },
 }
 
@@ -126,9 +155,9 @@ impl Branch {
         matches!(self.element, Element::Line { .. })
     }
 
-    pub fn delay(&self) -> Option<Whole> {
+    pub fn travel(&self) -> Option<Travel> {
         match self.element {
-            Element::Line { delay } => Some(delay),
+            Element::Line { travel } => Some(travel),
             _ => None,
         }
     }
@@ -264,7 +293,7 @@ fn branch_of_row(row: &Row, index: usize, step_length: Whole) -> Branch {
     let element = match row.kind {
         Kind::Inductor => Element::Inductor,
         Kind::Capacitor => Element::Capacitor,
-        Kind::Line => Element::Line { delay: row.fields[3] / step_length },
+        Kind::Line => Element::Line { travel: Travel::of(row.fields[3], step_length) },
         Kind::Switch => Element::Switch { close: row.fields[3], open: row.fields[4] },
         Kind::Resistor | Kind::VoltageSource | Kind::CurrentSource => Element::Resistor,
     };

@@ -74,7 +74,7 @@ fn table_line(line: &TextLine, study: &Study) -> Result<Row, Refusal> {
     if value_fault(&row, study.step_length) {
         return Err(Refusal::Value);
     }
-    if row.kind == Kind::Line && row.fields[3] % study.step_length != 0 {
+    if row.kind == Kind::Line && row.fields[3] < study.step_length {
         return Err(Refusal::Travel);
     }
     if second_voltage_source(&row, study) {
@@ -175,6 +175,7 @@ fn overfills(row: &Row, study: &Study) -> bool {
     let alike = study.rows.iter().filter(|earlier| earlier.kind.is_source() == row.kind.is_source()).count();
     let most = if row.kind.is_source() { limits::MOST_SOURCES } else { limits::MOST_BRANCHES };
     let all_rows = study.rows.iter().chain(std::iter::once(row));
-    let slots: Whole = all_rows.filter_map(|any| any.delay(study.step_length)).map(|delay| 2 * delay).sum();
+    let slots: Whole =
+        all_rows.filter_map(|any| any.travel(study.step_length)).map(|travel| travel.slots()).sum();
     alike >= most || slots > limits::MOST_SLOTS
 }

@@ -57,16 +57,18 @@ impl Run {
         Ok(step)
     }
 
-    /// A line end's history is what the far end sent d steps earlier, 0 where that was before step 1.
+    /// A line end's history is what it receives of the values that the far end sent.
     fn histories_at(&self, area: usize, step: Whole) -> Histories {
         let mut histories = Histories { at_from: self.histories.clone(), at_to: self.histories.clone() };
         for (index, branch) in self.network.branches.iter().enumerate() {
-            let Some(delay) = branch.delay() else { continue };
+            let Some(travel) = branch.travel() else { continue };
             if self.network.area_of[branch.from] == area {
-                histories.at_from[index] = sent_at(&self.sent_to[index], step - delay);
+                let sent = &self.sent_to[index];
+                histories.at_from[index] = travel.received(step, &|at| sent[at as usize - 1]);
             }
             if self.network.area_of[branch.to] == area {
-                histories.at_to[index] = sent_at(&self.sent_from[index], step - delay);
+                let sent = &self.sent_from[index];
+                histories.at_to[index] = travel.received(step, &|at| sent[at as usize - 1]);
             }
         }
         histories
@@ -86,13 +88,5 @@ impl Run {
             self.sent_to[index].extend(done.to_sent);
         }
         self.largest_imbalance = self.largest_imbalance.max(taken.largest_imbalance);
-    }
-}
-
-fn sent_at(sent: &[Whole], step: Whole) -> Whole {
-    if step < 1 {
-        0
-    } else {
-        sent[step as usize - 1]
     }
 }

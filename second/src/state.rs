@@ -1,7 +1,7 @@
 //! The lent state: where each value stands, and when the records are well formed.
 
 use crate::limits::{self, Whole};
-use crate::network::Network;
+use crate::network::{Network, Travel};
 use std::ops::RangeInclusive;
 
 pub const RECORD_WORDS: usize = 512;
@@ -34,20 +34,20 @@ pub fn history_place(row: usize) -> usize {
     HISTORIES + row
 }
 
-/// By branch, the first of a line's 2d slots, the same in both stores: slots stand in table order.
+/// By branch, the first of a line's slots, the same in both stores: slots stand in table order.
 pub fn first_slots(network: &Network) -> Vec<usize> {
     let mut next = 0;
     let mut first = Vec::new();
     for branch in &network.branches {
         first.push(next);
-        next += 2 * branch.delay().unwrap_or(0) as usize;
+        next += branch.travel().map_or(0, |travel| travel.slots() as usize);
     }
     first
 }
 
-/// Step s of a line end is in place s mod 2d of that line's slots.
-pub fn slot_of_step(first_slot: usize, delay: Whole, step: Whole) -> usize {
-    first_slot + step.rem_euclid(2 * delay) as usize
+/// Step s of a line end is in place s mod n of that line's n slots.
+pub fn slot_of_step(first_slot: usize, travel: Travel, step: Whole) -> usize {
+    first_slot + step.rem_euclid(travel.slots()) as usize
 }
 
 /// What each word of the records may hold; a word that nothing uses may hold 0 only.
@@ -71,9 +71,9 @@ pub fn record_ranges(network: &Network) -> Vec<RangeInclusive<Whole>> {
     ranges
 }
 
-/// How many words of each store the lines use; their 2d slots count as used before they are sent.
+/// How many words of each store the lines use; their slots count as used before they are sent.
 pub fn used_slots(network: &Network) -> usize {
-    network.branches.iter().filter_map(|branch| branch.delay()).map(|delay| 2 * delay as usize).sum()
+    network.branches.iter().filter_map(|branch| branch.travel()).map(|travel| travel.slots() as usize).sum()
 }
 
 /// Whether records and stores are well formed for the network.
@@ -89,11 +89,11 @@ pub fn well_formed(network: &Network, records: &[i64], froms: &[i64], tos: &[i64
     records_fit && store_fits(froms) && store_fits(tos) && counts_close(network, records)
 }
 
-/// The areas at a line's two ends differ by at most d in count.
+/// The areas at a line's two ends differ by at most q in count.
 fn counts_close(network: &Network, records: &[i64]) -> bool {
     network.branches.iter().all(|branch| {
-        let Some(delay) = branch.delay() else { return true };
+        let Some(travel) = branch.travel() else { return true };
         let count_at = |node: usize| Whole::from(records[count_place(network.area_of[node])]);
-        (count_at(branch.from) - count_at(branch.to)).abs() <= delay
+        (count_at(branch.from) - count_at(branch.to)).abs() <= travel.whole_steps
     })
 }

@@ -33,7 +33,7 @@ pub struct AreaStep {
     pub largest_imbalance: Whole,
 }
 
-/// The first line, in table order, with an end here whose far area's count is below k - d.
+/// The first line, in table order, with an end here whose far area's count is below k - q.
 /// `count_of` gives the count of an area.
 pub fn first_waiting_line(
     network: &Network,
@@ -42,10 +42,10 @@ pub fn first_waiting_line(
     count_of: &dyn Fn(usize) -> Whole,
 ) -> Option<usize> {
     let waits = |branch: &Branch| {
-        let Some(delay) = branch.delay() else { return false };
+        let Some(travel) = branch.travel() else { return false };
         let ends = [(branch.from, branch.to), (branch.to, branch.from)];
         ends.iter().any(|(near, far)| {
-            network.area_of[*near] == area && count_of(network.area_of[*far]) < step - delay
+            network.area_of[*near] == area && count_of(network.area_of[*far]) < step - travel.whole_steps
         })
     };
     network.branches.iter().position(waits).map(|index| index + 1)

@@ -89,8 +89,12 @@ fn e8_capacitor_holds_the_node() {
 }
 
 #[test]
-fn e9_travel_not_a_multiple() {
-    assert_eq!(listing(8, 0, &format!("{SOURCE}LINE\t1\t2\t400000\t2500\n")), "bad\t3\t4\n");
+fn e9_travel_between_steps() {
+    let got = listing(8, 0, &format!("{SOURCE}LINE\t1\t2\t400000\t2500\n"));
+    assert_eq!(column(&got, "v", "2"), [0, 0, 1000, 2000, 2000, 2000, 1750, 1000]);
+    assert_eq!(column(&got, "i", "1")[4..6], [1_250_000_000, -1_250_000_000]);
+    assert_eq!(last_line(&got), "done\t8");
+    assert_eq!(listing(8, 0, &format!("{SOURCE}LINE\t1\t2\t400000\t999\n")), "bad\t3\t4\n");
 }
 
 #[test]

@@ -2,7 +2,7 @@
 
 use second::areas::number_areas;
 use second::listing::listing_of;
-use second::network::{nearest_halves_up, Branch, Element, Source};
+use second::network::{nearest_halves_up, Branch, Element, Source, Travel};
 use second::solve::{double_of, solve};
 use second::step::whole_voltage;
 
@@ -81,7 +81,7 @@ fn areas_by_lowest_node() {
         branch(1, 0, Element::Resistor),
         branch(0, 3, Element::Capacitor),
         branch(4, 5, open),
-        branch(1, 3, Element::Line { delay: 1 }),
+        branch(1, 3, Element::Line { travel: Travel::of(1000, 1000) }),
     ];
     assert_eq!(number_areas(6, &branches), [0, 1, 2, 3, 2, 2, 4]);
 }

@@ -14,6 +14,8 @@ use super::slips;
 use super::studies;
 use super::tally::{Difference, Tally};
 use super::text_mode;
+use super::travel_slips;
+use super::travels;
 use super::widest;
 use super::write_slips;
 use super::writings;
@@ -22,6 +24,9 @@ const MOST_REPORTS: u64 = 10;
 const SHRINK_TRIES: usize = 3_000;
 /// Every how manyth study has each single word changed; that asks some 20,000 questions.
 const EVERY_WORD_TURN: u64 = 500;
+
+/// So many studies have travel times of every kind.
+const ALL_TRAVELS: u64 = 1_000;
 
 pub type Question<'a> = &'a dyn Fn(&[u8], &mut Tally) -> Result<(), Difference>;
 
@@ -35,7 +40,11 @@ pub fn compare_calls(arguments: &Arguments) -> bool {
     };
     let seed = arguments.number("--seed", 1);
     println!("seed {seed}");
-    let mut tally = compare_all(&calls, &Extent::of(arguments, seed), true);
+    let extent = Extent::of(arguments, seed);
+    let mut tally = compare_all(&calls, &extent, true);
+    if extent.studies >= ALL_TRAVELS {
+        travels::miss_nothing(&mut tally);
+    }
     if calls.write.is_some() {
         writings::miss_nothing(&mut tally);
     }
@@ -77,6 +86,7 @@ fn compare_all(calls: &Calls, extent: &Extent, aloud: bool) -> Tally {
         }
         let seed = extent.seed.wrapping_mul(0x0100_0000_01b3).wrapping_add(index);
         let text = studies::random_text(&mut Dice::new(seed));
+        travels::count_text(&text, &mut tally);
         let depth = if index % EVERY_WORD_TURN == 0 { Depth::EveryWord } else { Depth::Usual };
         let failed = tally.failed;
         ask(&text, aloud, &mut tally, &|text, tally| {
@@ -158,7 +168,8 @@ pub fn compare_self(arguments: &Arguments) -> bool {
     let mut tally = compare_all(&slips::own_calls(), &extent, true);
     writings::miss_nothing(&mut tally);
     // The planted ones need no list of texts but where the slip is the reader's.
-    let planted = [slips::planted(), list_slips::planted(), write_slips::planted()].concat();
+    let planted =
+        [slips::planted(), travel_slips::planted(), list_slips::planted(), write_slips::planted()].concat();
     for (name, calls, in_reader) in planted {
         let extent = Extent { fixed_list: usize::from(in_reader), edits: 0, texts: 50, ..extent };
         let found = compare_all(&calls, &extent, false).failed > 0;

@@ -2,6 +2,8 @@
 
 use super::dice::Dice;
 use super::edges;
+use super::studies;
+use crate::limits::{self, Whole};
 use crate::reader;
 
 /// Bytes that a reader may mistake for something else.
@@ -19,7 +21,7 @@ pub fn damaged(dice: &mut Dice, text: &[u8]) -> Vec<u8> {
             10 => with_line_damage(dice, &damaged),
             11..=13 => with_second_voltage_source(dice, &damaged),
             14..=16 => overfilled(dice, &damaged),
-            17 | 18 => with_odd_travel(dice, &damaged),
+            17 | 18 => with_some_travel(dice, &damaged),
             _ => with_end_damage(dice, &damaged),
         };
     }
@@ -113,16 +115,20 @@ fn overfilled(dice: &mut Dice, text: &[u8]) -> Vec<u8> {
     [text.to_vec(), line.repeat(times).into_bytes()].concat()
 }
 
-/// A further line that takes all slots left, or one step more.
+/// A further line that takes all slots left, or one more or less.
 fn with_line_for_all_slots(dice: &mut Dice, text: &[u8]) -> Vec<u8> {
     let Ok(study) = reader::read_study(text) else { return text.to_vec() };
-    let taken: i128 = study.rows.iter().filter_map(|row| row.delay(study.step_length)).sum();
-    let travel = (2_048 - taken + dice.pick(&[0, 1])) * study.step_length;
+    let lines = study.rows.iter().filter_map(|row| row.travel(study.step_length));
+    let left = limits::MOST_SLOTS - lines.map(|travel| travel.slots()).sum::<Whole>();
+    let travel = studies::travel_with_slots(left + dice.pick(&[-1, 0, 0, 1, 1]), study.step_length);
     [text.to_vec(), format!("LINE\t1\t2\t1000000\t{travel}\n").into_bytes()].concat()
 }
 
-fn with_odd_travel(dice: &mut Dice, text: &[u8]) -> Vec<u8> {
-    let travel = dice.spread(1, 1_000_000_000);
+/// A further line of any travel time, most of them about one step long.
+fn with_some_travel(dice: &mut Dice, text: &[u8]) -> Vec<u8> {
+    let step_length = reader::read_study(text).map_or(1_000, |study| study.step_length as i64);
+    let (anything, shorter) = (dice.spread(1, 1_000_000_000), dice.spread(1, step_length));
+    let travel = dice.pick(&[anything, shorter, shorter, step_length - 1, step_length, step_length + 1]);
     [text.to_vec(), format!("LINE\t1\t2\t1000000\t{travel}\n").into_bytes()].concat()
 }
 

@@ -3,6 +3,7 @@
 use super::ends_mode::Found;
 use super::foreign::Calls;
 use super::slips;
+use super::travel_slips;
 use crate::calls;
 use crate::limits::Whole;
 use crate::network::Network;
@@ -20,7 +21,12 @@ pub fn planted() -> Vec<(&'static str, Calls, Found)> {
         ("wait judged one step early", advance(advance_waiting_early), Found::TooShort),
         ("area waits for one that no line ties to it", advance(advance_waiting_apart), Found::TooShort),
         ("wait judged one step late", advance(advance_waiting_late), Found::StrangeAnswer),
-        ("store of d slots only", advance(slips::advance_short_store), Found::TwoOrders),
+        ("store of q slots only", advance(slips::advance_short_store), Found::TwoOrders),
+        (
+            "store of 2q slots where a rest is left",
+            advance(travel_slips::advance_even_store),
+            Found::TwoOrders,
+        ),
         (
             "far value of the last step sent, not of one travel time before",
             advance(advance_newest),
@@ -58,7 +64,7 @@ fn advance_done_early(network: &[i64], records: Words, froms: Words, tos: Words,
     calls::advance(network, records, froms, tos, area)
 }
 
-/// Waits for the far count k - d + 1.
+/// Waits for the far count k - q + 1.
 fn advance_waiting_early(words: &[i64], records: Words, froms: Words, tos: Words, area: u64) -> (u64, u64) {
     let network = network_of(words);
     if records.len() == state::RECORD_WORDS && is_area(&network, area) {
@@ -96,7 +102,8 @@ fn advance_waiting_late(words: &[i64], records: Words, froms: Words, tos: Words,
     for branch in network.branches.iter().filter(|branch| branch.is_line()) {
         for (near, far) in [(branch.from, branch.to), (branch.to, branch.from)] {
             let (near, far) = (network.area_of[near], network.area_of[far]);
-            let needed = before[area as usize - 1] + 1 - branch.delay().unwrap_or(0) as i64;
+            let whole_steps = branch.travel().map_or(0, |travel| travel.whole_steps as i64);
+            let needed = before[area as usize - 1] + 1 - whole_steps;
             if near as u64 == area && before[state::count_place(far)] == needed - 1 {
                 records[state::count_place(far)] = needed;
             }
@@ -119,10 +126,13 @@ fn advance_newest(words: &[i64], records: Words, froms: Words, tos: Words, area:
     let (mut heard_froms, mut heard_tos) = (froms.to_vec(), tos.to_vec());
     let count_of = |node: usize| Whole::from(records[state::count_place(network.area_of[node])]);
     for (index, branch) in network.branches.iter().enumerate() {
-        let Some(delay) = branch.delay() else { continue };
-        let slot = |step: Whole| state::slot_of_step(first[index], delay, step);
-        heard_tos[slot(count_of(branch.from) + 1 - delay)] = tos[slot(count_of(branch.to))];
-        heard_froms[slot(count_of(branch.to) + 1 - delay)] = froms[slot(count_of(branch.from))];
+        let Some(travel) = branch.travel() else { continue };
+        let slot = |step: Whole| state::slot_of_step(first[index], travel, step);
+        // Both values that the received one is made of.
+        for late in [travel.whole_steps, travel.whole_steps + 1] {
+            heard_tos[slot(count_of(branch.from) + 1 - late)] = tos[slot(count_of(branch.to))];
+            heard_froms[slot(count_of(branch.to) + 1 - late)] = froms[slot(count_of(branch.from))];
+        }
     }
     let answer = calls::advance(words, records, &mut heard_froms, &mut heard_tos, area);
     if answer.0 == 0 {
@@ -136,8 +146,8 @@ fn keep_sent(network: &Network, area: usize, step: Whole, sent: [&[i64]; 2], sto
     let first = state::first_slots(network);
     let [froms, tos] = stores;
     for (index, branch) in network.branches.iter().enumerate() {
-        let Some(delay) = branch.delay() else { continue };
-        let slot = state::slot_of_step(first[index], delay, step);
+        let Some(travel) = branch.travel() else { continue };
+        let slot = state::slot_of_step(first[index], travel, step);
         if network.area_of[branch.from] == area {
             froms[slot] = sent[0][slot];
         }

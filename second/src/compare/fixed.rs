@@ -21,7 +21,7 @@ const FAULTS: [&str; 6] = [
     "R\t01\t0\t1000\n",
     "R\t33\t0\t1000\n",
     "R\t1\t0\t999\n",
-    "LINE\t1\t2\t1000\t2500\n",
+    "LINE\t1\t2\t1000\t999\n",
     "VS\t1\t1\t1\t0\n",
     "R\t1\t0\t1000\n",
 ];
@@ -250,6 +250,8 @@ fn full_tables() -> Vec<Vec<u8>> {
         ("LINE\t1\t2\t400000\t1000\n", 64),
         ("LINE\t1\t2\t400000\t32000\n", 64),
         ("LINE\t1\t2\t400000\t33000\n", 62),
+        ("LINE\t1\t2\t400000\t31001\n", 64),
+        ("LINE\t1\t2\t400000\t32999\n", 63),
         ("IS\t1\t1\t1\t0\n", 16),
     ] {
         for times in [most - 1, most, most + 1] {
@@ -261,11 +263,15 @@ fn full_tables() -> Vec<Vec<u8>> {
         let lines: String = (1..=sources).map(|node| format!("VS\t{node}\t5\t1\t0\n")).collect();
         texts.push(format!("{STUDY}{lines}").into_bytes());
     }
-    for delay in [1, 2047, 2048, 2049, 1_000_000] {
-        let travel = delay * 1000;
-        texts.push(format!("{STUDY}LINE\t1\t2\t400000\t{travel}\n").into_bytes());
-        texts.push(format!("{STUDY}LINE\t3\t4\t400000\t1000\nLINE\t1\t2\t400000\t{travel}\n").into_bytes());
-        texts.push(format!("{STUDY}LINE\t1\t2\t400000\t{travel}\nLINE\t3\t4\t400000\t1000\n").into_bytes());
+    for whole in [0, 1, 2046, 2047, 2048, 2049, 1_000_000] {
+        for rest in [0, 1, 500, 999] {
+            let line = format!("LINE\t1\t2\t400000\t{}\n", whole * 1000 + rest);
+            texts.push(format!("{STUDY}{line}").into_bytes());
+            for other in ["LINE\t3\t4\t400000\t1000\n", "LINE\t3\t4\t400000\t1001\n"] {
+                texts.push(format!("{STUDY}{other}{line}").into_bytes());
+                texts.push(format!("{STUDY}{line}{other}").into_bytes());
+            }
+        }
     }
     texts.push(full_table().into_bytes());
     texts

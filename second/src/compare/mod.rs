@@ -23,6 +23,8 @@ pub mod stopping;
 pub mod studies;
 pub mod tally;
 pub mod text_mode;
+pub mod travel_slips;
+pub mod travels;
 pub mod widest;
 pub mod write_slips;
 pub mod writings;

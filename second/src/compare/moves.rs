@@ -308,12 +308,12 @@ fn set_counts(dice: &mut Dice, network: &Network, records: &mut [i64]) {
         let area = 1 + dice.below(network.area_count);
         let (mut low, mut high) = (0, steps);
         for branch in &network.branches {
-            let Some(delay) = branch.delay() else { continue };
+            let Some(travel) = branch.travel() else { continue };
             let (from, to) = (network.area_of[branch.from], network.area_of[branch.to]);
             if from != to && (from == area || to == area) {
                 let far = records[state::count_place(if from == area { to } else { from })];
-                low = low.max(far - delay as i64);
-                high = high.min(far + delay as i64);
+                low = low.max(far - travel.whole_steps as i64);
+                high = high.min(far + travel.whole_steps as i64);
             }
         }
         let inside = dice.between(low, high);

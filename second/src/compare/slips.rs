@@ -3,8 +3,9 @@
 
 use super::foreign::Calls;
 use crate::calls;
+use crate::limits::Whole;
 use crate::list;
-use crate::network::Network;
+use crate::network::{Network, Travel};
 use crate::record;
 use crate::state;
 use crate::write;
@@ -38,7 +39,7 @@ pub fn planted() -> Vec<(&'static str, Calls, bool)> {
         ("advance raises a count unearned", advance(advance_unearned), false),
         ("advance repeats step 1", advance(advance_repeating), false),
         ("near end's value used as history", advance(advance_near_end), false),
-        ("store of d slots only", advance(advance_short_store), false),
+        ("store of q slots only", advance(advance_short_store), false),
         ("unsent slot must be zero", advance(advance_unsent_zero), false),
         ("area beyond 32 bits cut short", advance(advance_short_area), false),
         ("place left out of refusals", advance(advance_without_place), false),
@@ -153,8 +154,20 @@ fn advance_near_end(network: &[i64], records: Words, froms: Words, tos: Words, a
     answer
 }
 
-/// Each value sent stands in the lower half of the line's slots too, as if there were only d of them.
+/// Each value sent stands in the lower half of the line's slots too, as if there were only q of them.
 pub fn advance_short_store(
+    network: &[i64],
+    records: Words,
+    froms: Words,
+    tos: Words,
+    area: u64,
+) -> (u64, u64) {
+    advance_storing(|travel| travel.whole_steps, network, records, froms, tos, area)
+}
+
+/// Each value that a from end sends stands also where it would with so many slots.
+pub fn advance_storing(
+    slots: fn(Travel) -> Whole,
     network: &[i64],
     records: Words,
     froms: Words,
@@ -169,9 +182,9 @@ pub fn advance_short_store(
     let network = Network::of_study(&study);
     let first = state::first_slots(&network);
     for (index, branch) in network.branches.iter().enumerate() {
-        if let Some(delay) = branch.delay().filter(|_| network.area_of[branch.from] == area as usize) {
-            let right = state::slot_of_step(first[index], delay, answer.1.into());
-            let short = first[index] + (answer.1 % delay as u64) as usize;
+        if let Some(travel) = branch.travel().filter(|_| network.area_of[branch.from] == area as usize) {
+            let right = state::slot_of_step(first[index], travel, answer.1.into());
+            let short = first[index] + (answer.1 % slots(travel) as u64) as usize;
             froms[short] = froms[right];
         }
     }

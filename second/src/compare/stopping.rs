@@ -3,7 +3,7 @@
 
 use super::dice::Dice;
 use super::exact::row;
-use super::studies::HIGHEST_LIMIT;
+use super::studies::{rest_of_a_step, HIGHEST_LIMIT};
 use crate::limits::{self, Whole};
 use crate::network::{Kind, Study};
 
@@ -156,9 +156,10 @@ impl Maker<'_> {
 
     fn add_line(&mut self, one: Whole, other: Whole) {
         let (from, to) = if self.dice.one_in(2) { (one, other) } else { (other, one) };
-        let delay = self.dice.pick(&[1, 1, 1, 2, 3, 7]);
+        let whole = self.dice.pick(&[1, 1, 1, 2, 3, 7]) * STEP_LENGTH;
+        let travel = whole + rest_of_a_step(self.dice, STEP_LENGTH);
         let impedance = self.resistance();
-        self.add(Kind::Line, &[from, to, impedance, delay * STEP_LENGTH]);
+        self.add(Kind::Line, &[from, to, impedance, travel]);
     }
 
     /// Rows and nodes change places, so that any area may be the first and any line the first of the table.

@@ -4,7 +4,7 @@
 use super::dice::Dice;
 use super::exact::{self, row};
 use crate::limits::{self, Whole};
-use crate::network::{Kind, Network, Row, Study};
+use crate::network::{Kind, Network, Row, Study, Travel};
 use crate::record;
 use crate::run::Run;
 
@@ -71,6 +71,22 @@ fn largest_imbalance(study: &Study) -> Whole {
         }
     }
     run.largest_imbalance
+}
+
+/// What a travel time may have beside its whole steps: nothing, a bit, all but a bit, half a step, anything.
+pub fn rest_of_a_step(dice: &mut Dice, step_length: Whole) -> Whole {
+    let anything = Whole::from(dice.between(0, step_length as i64 - 1));
+    dice.pick(&[0, 0, 0, 1, step_length - 1, step_length / 2, anything, anything]).min(step_length - 1)
+}
+
+/// The longest travel time that has just so many slots, of a step length over 1 where their number is odd; 0
+/// where there is none.
+pub fn travel_with_slots(slots: Whole, step_length: Whole) -> Whole {
+    match slots {
+        ..=1 => 0,
+        _ if slots % 2 == 0 => slots / 2 * step_length,
+        _ => (slots / 2 + 1) * step_length - 1,
+    }
 }
 
 struct Maker<'a> {
@@ -220,20 +236,33 @@ impl Maker<'_> {
             let from = self.node();
             let others: Vec<usize> = (1..=self.nodes).filter(|node| *node != from).collect();
             let to = self.dice.pick(&others);
-            let widest = (self.free_slots / 2).min(1_000_000_000 / self.study.step_length);
-            let delay = match self.dice.below(10) {
-                0 => self.dice.between(1, 2048),
-                1 | 2 => self.dice.between(1, 20),
-                _ => self.dice.between(1, 4),
-            };
-            let delay = Whole::from(delay).min(widest);
-            if delay > 0 {
-                self.free_slots -= 2 * delay;
+            if let Some(travel) = self.travel_time() {
                 let impedance = self.element_value(Kind::Line, self.temper == Temper::Stiff);
-                let fields = [from as Whole, to as Whole, impedance, delay * self.study.step_length];
-                self.study.rows.push(row(Kind::Line, &fields));
+                self.add_line(&[from as Whole, to as Whole, impedance, travel]);
             }
         }
+    }
+
+    fn add_line(&mut self, fields: &[Whole; 4]) {
+        self.free_slots -= Travel::of(fields[3], self.study.step_length).slots();
+        self.study.rows.push(row(Kind::Line, fields));
+    }
+
+    /// Some whole steps and a rest, as far as slots are left; none where not even one step has any.
+    fn travel_time(&mut self) -> Option<Whole> {
+        let step_length = self.study.step_length;
+        let widest = (self.free_slots / 2).min(limits::TRAVEL.end() / step_length);
+        let steps = match self.dice.below(10) {
+            0 => self.dice.between(1, 2048),
+            1 | 2 => self.dice.between(1, 20),
+            3 | 4 => 1,
+            _ => self.dice.between(1, 4),
+        };
+        let whole = Whole::from(steps).min(widest) * step_length;
+        let travel = whole + rest_of_a_step(self.dice, step_length);
+        let fits =
+            Travel::of(travel, step_length).slots() <= self.free_slots && limits::TRAVEL.contains(&travel);
+        (widest > 0).then_some(if fits { travel } else { whole })
     }
 
     fn add_sources(&mut self) {
@@ -286,11 +315,15 @@ impl Maker<'_> {
 
     /// 64 branches, 16 sources and, where two nodes and a long enough travel allow it, all 4,096 slots.
     fn fill_the_table(&mut self) {
-        let travel = self.free_slots / 2 * self.study.step_length;
+        let step_length = self.study.step_length;
+        if self.nodes > 1 && step_length > 1 && self.free_slots > 4 && self.dice.one_in(2) {
+            // A step and a bit has three slots, so that an odd number of them is left more often.
+            self.add_line(&[2, 1, 1_000_000, 2 * step_length - 1]);
+        }
+        let travel = travel_with_slots(self.free_slots, step_length);
         if self.nodes > 1 && limits::TRAVEL.contains(&travel) && self.row_count(false) < limits::MOST_BRANCHES
         {
-            self.free_slots = 0;
-            self.study.rows.push(row(Kind::Line, &[1, 2, 1_000_000, travel]));
+            self.add_line(&[1, 2, 1_000_000, travel]);
         }
         while self.row_count(false) < limits::MOST_BRANCHES {
             let (node, other) = (self.node(), self.node());
