@@ -11,17 +11,16 @@ use Rattle.paper.specs.Rows.{isFixing, isIS}
 use Rattle.paper.specs.Areas.{Net, fixed, freeOf, areaOf, branchNumber}
 use Rattle.paper.specs.Sources.{injected}
 use Rattle.paper.specs.Elimination.{voltages}
-use Rattle.paper.specs.Legs.{Leg, Branch, current, legsOf, heard, bothLegs}
+use Rattle.paper.specs.Legs.{Leg, Branch, legsOf, heard, bothLegs}
 use Rattle.paper.specs.Floating.{floating}
 use Rattle.paper.specs.Solve.{stop, solve, stillOf, system, proposed, outOfRange, settled, unbalanced, firstBeyond}
 use Rattle.laws_facts.specs.Nets.{NetSound}
 use Rattle.plan_ends.specs.Own.{sourceLines}
 use Rattle.plan_rows.specs.declared.Row.{Row}
 use Rattle.plan_rows.specs.Planned.{rowIn, rowOf, Planned}
-use Rattle.step_legs.specs.Wires.{legsIn, wiresIn, Wires, Sized}
+use Rattle.step_legs.specs.Wires.{wireIn, legsIn, wiresIn, Sized}
 use Rattle.step_legs.specs.Shares.{Volts}
-use Rattle.step_legs.specs.Sums.{Sums}
-use Rattle.step_legs.specs.Free.{Free}
+use Rattle.step_legs.specs.Free.{Free, InjectsWithin}
 use Rattle.step_factors.specs.Factors.{Serves}
 use Rattle.step_factors.specs.Positions.{bare}
 use Rattle.step_factors.specs.Proposed.{matrixOf}
@@ -36,8 +35,7 @@ use Rattle.step_own.specs.Paper as Own
 use Rattle.step_floating.specs.Free.{free-node, free-nodes}
 use Rattle.step_floating.specs.Local.{floating-joins, joins-bare}
 use Rattle.step_flow.specs.Flown.{flown, Long}
-use Rattle.step_flow.specs.Beyond.{beyondLine, firstRow, firstBy, first-by}
-use Rattle.step_flow.specs.Past.{Near, firstPast, past-unbalanced}
+use Rattle.step_flow.specs.Beyond.{beyondLeg, firstBy}
 use Rattle.step_prepare.specs.Serving.{Serving}
 use Rattle.step_solve.specs.Settling.{Solved, settled-volts}
 use Rattle.step_try.specs.declared.At.{At}
@@ -73,10 +71,12 @@ pub record Flowing (N : Net) (a k : ℕ) (recs froms tos v : Words) (lines : Lis
   pub flows : lines ≡ map (flown v) legs
 
 -- what 16 and 17 go by
-pub record Judged (legs : List Words) (free : List ℕ) (sums inject : Words) (at : At) : Type 0 where
-  pub wires : Wires legs
+pub record Flow (legs : List Words) (free : List ℕ) (inject v : Words) (at : At) : Type 0 where
+  pub sized : Sized legs
+  pub long : Long legs
   pub nodes : Free free
-  pub near : Near sums inject
+  pub injects : InjectsWithin inject
+  pub volts : Volts v
   pub limit-sign : T (nonNeg (at .limit))
   pub limit-end : ∣ at .limit ∣≤ 1000000000000000
 
@@ -99,21 +99,14 @@ module _ (k : ℕ) where
   flow-takes n e f = rw (e, f)
 
 -- the place is a row's
-pub place-most : (legs : List Words) → ((j : ℕ) → j < length legs → nat (word (getD legs j []) 2) < 80) → firstRow legs ≤ 80
-unfolding firstRow
-place-most [] h = omega arith
-place-most (l ∷ legs) h = either (beyondLine l) (firstRow legs) (place-most legs (λ j q. h (suc j) (omega arith)))
+pub place-most : (v : Words) (legs : List Words) → ((j : ℕ) → j < length legs → nat (word (getD legs j []) 2) < 80) → firstBy v (wiresIn legs) ≤ 80
+unfolding firstBy wiresIn
+place-most v [] h = omega arith
+place-most v (l ∷ legs) h = either (beyondLeg v (wireIn l)) (firstBy v (map wireIn legs)) (place-most v legs (λ j q. h (suc j) (omega arith)))
   where
     either : (t : Bool) (r : ℕ) → r ≤ 80 → cond t (suc (nat (word l 2))) r ≤ 80
     either true r q = omega (arith, h 0 (omega arith))
     either false r q = q
-
--- of the lines that a step has left, both places are those of the voltages
-pub flow-judged : (k most : ℕ) (v inject : Words) {sums : Words} {legs after : List Words} {free : List ℕ} (number : ℕ → ℕ) → Long legs → Free free
-    → Sums (current v) (legsIn legs) sums → after ≡ map (flown v) legs
-    → inFlow k (firstPast most sums inject free) (firstRow after) (number (firstRow after))
-    ≡ inFlow k (unbalanced most (legsIn legs) (λ p. word inject p) v free) (firstBy v (wiresIn legs)) (number (firstBy v (wiresIn legs)))
-flow-judged k most v inject {legs = legs} number n f s e = rw (e, first-by v legs n, past-unbalanced most v inject s f)
 
 pub record Tries (N : Net) (a k : ℕ) (recs froms tos : Words) (lines : List Words) (r : Outcome) : Type 0 where
   pub tried : Tried k (solve N a k (branches N a k recs froms tos)) (r .volts) (r .answer)

@@ -1,12 +1,14 @@
 // One step of one area tried, on what is kept for its switches' positions: 15, 16 and 17 in turn, or the voltages. Nothing lent for the study is written.
-ghost use Rattle.whole.specs.Plain.{ℕ, _-_, _≡_, nat};
+ghost use Rattle.whole.specs.Plain.{ℕ, _-_, _≡_, map, word, nat};
 ghost use Rattle.whole.specs.Loans.{was, is};
 ghost use Rattle.paper.specs.Areas.{Net};
+ghost use Rattle.paper.specs.Solve.{unbalanced};
 ghost use Rattle.plan_rows.specs.Planned.{rowIn};
+ghost use Rattle.step_legs.specs.Wires.{legsIn, wiresIn};
 ghost use Rattle.step_legs.specs.Written.{SameBut};
-ghost use Rattle.step_flow.specs.Past.{firstPast};
-ghost use Rattle.step_flow.specs.Beyond.{firstRow};
-ghost use Rattle.step_try.specs.Trying.{Trying, Known, Judged, inFlow, Tries};
+ghost use Rattle.step_flow.specs.Flown.{flown};
+ghost use Rattle.step_flow.specs.Beyond.{firstBy};
+ghost use Rattle.step_try.specs.Trying.{Trying, Known, Flow, inFlow, Tries};
 use paper::Advance;
 use paper::Node;
 use plan_rows::Table;
@@ -27,21 +29,24 @@ pub struct Outcome {
     pub volts: [i64; Node::PLACES],
 }
 
-// 16 and 17, from the currents that leave each node and what the legs pass on.
-fn judged(
+// 16 and 17, from the voltages; each leg's line then has its current and what it passes on.
+fn flowing(
     plan: &Table,
-    legs: &[Line],
+    legs: &mut [Line],
     free: &[usize],
-    sums: &[i64; Node::PLACES],
     inject: &[i64; Node::PLACES],
+    v: &[i64; Node::PLACES],
     at: At,
 ) -> Advance
-    requires { ⌜ Judged (now legs) (now free) (now sums) (now inject) at ⌝ }
+    requires { ⌜ Flow (now legs) (now free) (now inject) (now v) at ⌝ }
     ensures { λ r. ⌜ r
-        ≡ inFlow (at .k) (firstPast (nat (at .limit)) (was sums) (was inject) (was free)) (firstRow (was legs))
-        (rowIn (was plan) (firstRow (was legs) - 1) .number) ⌝ }
+        ≡ inFlow (at .k)
+        (unbalanced (nat (at .limit)) (legsIn (was legs)) (λ p. word (was inject) p) (was v) (was free))
+        (firstBy (was v) (wiresIn (was legs))) (rowIn (was plan) (firstBy (was v) (wiresIn (was legs)) - 1) .number) ⌝ }
+    ensures { λ _. ⌜ is legs ≡ map (flown (was v)) (was legs) ⌝ }
 {
-    let node = step_flow::balance(sums, inject, free, at.limit);
+    let sums = step_flow::flow(legs, v);
+    let node = step_flow::balance(&sums, inject, free, at.limit);
     if node != 0 {
         return Advance::Unbalanced(node as u64);
     }
@@ -82,8 +87,7 @@ pub fn try_step<'a>(
             volts: v,
         };
     }
-    let sums = step_flow::flow(legs, &v);
-    let answer = judged(plan, legs, free, &sums, &inject, at);
+    let answer = flowing(plan, legs, free, &inject, &v, at);
     Outcome {
         answer: answer,
         volts: v,

@@ -1,16 +1,14 @@
 -- `step_try::try_step` meets its contract: each part gives what the next asks, and the whole is the paper's step. Assumes nothing.
-use Rattle.whole.specs.Plain.{ℕ, _-_, _≡_, refl, _∙_, List, arith, Words}
+use Rattle.whole.specs.Plain.{ℕ, _≡_, refl, List, arith, Words}
 use borrow.Author.Needs.{needs}
 use Rattle.paper.specs.declared.Advance.the-variants.{Took, Range}
 use Rattle.paper.specs.Areas.{Net}
-use Rattle.plan_rows.specs.Planned.{rowIn}
 use Rattle.step_own.specs.Laid.{Laid}
 use Rattle.step_legs.specs.Written.{same-then}
 use Rattle.step_histories.specs.Heard.{all-heard}
 use Rattle.step_histories.specs.Laws.{hears}
-use Rattle.step_flow.specs.Flown.{flown-same, wires-stay}
-use Rattle.step_flow.specs.Past.{sums-near}
-use Rattle.step_try.specs.Trying.{Trying, all-sized, all-long, all-free, tries-range, tries-flow, flow-judged, heard-from, still-from, inject-from, drives, volts-from, serves-from, found-volts}
+use Rattle.step_flow.specs.Flown.{flown-same}
+use Rattle.step_try.specs.Trying.{Trying, all-sized, all-long, all-free, tries-range, tries-flow, heard-from, still-from, inject-from, drives, volts-from, serves-from, found-volts}
 use Rattle.step_try.proofs.try_step.Statement.{statement}
 use Rattle.step_try.proofs.try_step.Tie as tie
 
@@ -64,43 +62,36 @@ returns c =
     )
 
 -- ---- what flows
-flow-requires : tie.Need-flow-requires
-flow-requires c κs =
-    let e = c .before .before in
-    let s = e .before in
-    let d = driven s in
-    let t = start (heard d) .pre .trying in
-    (all-sized t (laid (heard d) t), found-volts _ _ _ _ _ (volts-from t (d .drive .ensures .0)) (s .solve .ensures .volts (e .if1 .left)))
-
-returns-2 : tie.Need-returns-2
-returns-2 c =
-    let f = c .before .before .before .before .before in
-    let e = f .before .before .before in
-    let s = e .before in
-    let d = driven s in (
-      λ N a t. record {
-        tried = tries-flow t (laid (heard d) t) (d .drive .last .1 .1 .1 .0) (inject-from t (d .drive .ensures .1 .0)) (still-from t (d .drive .ensures .0)) (s .solve .ensures) (e .if1 .left)
-            (c .judged .ensures ∙ flow-judged _ _ _ _ (λ p. rowIn (start (heard d) .args .plan .now) (p - 1) .number) (all-long t (laid (heard d) t)) (all-free t (laid (heard d) t)) (f .flow .ensures .0) (f .flow .ensures .1));
-        flowing = λ o. record { legs = after (heard d); laid = laid (heard d) t; flows = f .flow .ensures .1 };
-      },
-      same-then (all-heard _ _ _ _ _ _ (heard d .hear .ensures)) (flown-same _ _ (f .flow .ensures .1)),
-    )
-
-judged-requires : tie.Need-judged-requires
-judged-requires c κs =
-    let f = c .before .before .before .before in
-    let e = f .before .before .before in
+flowing-requires : tie.Need-flowing-requires
+flowing-requires c κs =
+    let e = c .before .before .before in
     let s = e .before in
     let d = driven s in
     let t = start (heard d) .pre .trying in
     let l = laid (heard d) t in
+    let q = t .sound .study .limitIn in
     record {
-      wires = rw (f .flow .ensures .1) (wires-stay _ _ (all-sized t l .wires));
+      sized = all-sized t l;
+      long = all-long t l;
       nodes = all-free t l;
-      near = sums-near (all-sized t l) (found-volts _ _ _ _ _ (volts-from t (d .drive .ensures .0)) (s .solve .ensures .volts (e .if1 .left))) (d .drive .ensures .1 .1) (f .flow .ensures .0);
+      injects = d .drive .ensures .1 .1;
+      volts = found-volts _ _ _ _ _ (volts-from t (d .drive .ensures .0)) (s .solve .ensures .volts (e .if1 .left));
       limit-sign = rw (t .limit) tt;
-      limit-end = rw (t .limit) (record { size = t .sound .study .limitIn .most });
+      limit-end = rw (t .limit) (record { size = q .most });
     }
 
+returns-2 : tie.Need-returns-2
+returns-2 c =
+    let f = c .before in
+    let e = f .before .before .before .before in
+    let s = e .before in
+    let d = driven s in (
+      λ N a t. record {
+        tried = tries-flow t (laid (heard d) t) (d .drive .last .1 .1 .1 .0) (inject-from t (d .drive .ensures .1 .0)) (still-from t (d .drive .ensures .0)) (s .solve .ensures) (e .if1 .left) (f .flowing .ensures .0);
+        flowing = λ o. record { legs = after (heard d); laid = laid (heard d) t; flows = f .flowing .ensures .1 };
+      },
+      same-then (all-heard _ _ _ _ _ _ (heard d .hear .ensures)) (flown-same _ _ (f .flowing .ensures .1)),
+    )
+
 pub try-step-spec : {M : Type 1} → statement M
-try-step-spec = tie.close (tie.spec hear-requires drive-requires solve-requires (λ c. search needs) returns flow-requires judged-requires (λ c. search needs) returns-2)
+try-step-spec = tie.close (tie.spec hear-requires drive-requires solve-requires (λ c. search needs) returns flowing-requires (λ c. search needs) returns-2)
