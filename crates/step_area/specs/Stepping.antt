@@ -27,7 +27,6 @@ use Rattle.step_own.specs.Paper.{own-floating}
 use Rattle.step_prepare.specs.Serving as Serving
 use Rattle.step_prepare.specs.Serving.{Serving}
 use Rattle.step_try.specs.declared.At.{At}
-use Rattle.step_try.specs.declared.Outcome.{Outcome}
 use Rattle.step_try.specs.Outcomes.{Tried, answered}
 use Rattle.step_try.specs.Trying.{Trying, branches, Flowing, Tries}
 use Rattle.step_commit.specs.Records.{Recordable, recordsPut}
@@ -175,12 +174,12 @@ module _ {N : Net} {low high : ℕ} {plan owns : List (List ℕ)} {legs : List W
       → Trying N (turn .area) plan (part (o .sources) (o .«sources_end») sources) (part (o .base) (o .«free_end») nodes) (legsOf′ o legs) f (m .records) (m .froms) (m .tos) at
   tries-at e = rw e tries
 
-  pub tried-at : {at : At} {lines : List Words} {r : Outcome} → at ≡ atOf o turn
+  pub tried-at : {at : At} {lines : List Words} {answer : Advance} {volts : Words} → at ≡ atOf o turn
       → ((N : Net) (a : ℕ) → Trying N a plan (part (o .sources) (o .«sources_end») sources) (part (o .base) (o .«free_end») nodes) (legsOf′ o legs) f (m .records) (m .froms) (m .tos) at
-      → Tries N a (at .k) (m .records) (m .froms) (m .tos) lines r)
-      → Tries N (turn .area) (turn .k) (m .records) (m .froms) (m .tos) lines r
-  tried-at {lines = lines} {r = r} e h =
-      subst (λ (k : ℕ). Tries N (turn .area) k (m .records) (m .froms) (m .tos) lines r) (ap (λ (x : At). x .k) e) (h N (turn .area) (tries-at e))
+      → Tries N a (at .k) (m .records) (m .froms) (m .tos) lines answer volts)
+      → Tries N (turn .area) (turn .k) (m .records) (m .froms) (m .tos) lines answer volts
+  tried-at {lines = lines} {answer = answer} {volts = volts} e h =
+      subst (λ (k : ℕ). Tries N (turn .area) k (m .records) (m .froms) (m .tos) lines answer volts) (ap (λ (x : At). x .k) e) (h N (turn .area) (tries-at e))
 
   module _ {new : List Words} (same : SameBut (legsOf′ o legs) new) where
     same-own : SameBut (ownLegs owns (turn .area) legs) new
@@ -199,14 +198,14 @@ module _ {N : Net} {low high : ℕ} {plan owns : List (List ℕ)} {legs : List W
     legs-after = rw (R .own) (put-own (R .tables) a (R .stepping .least) (R .stepping .most) new framed)
 
   -- the lines that a step is written from
-  module _ {lines : List Words} {r : Outcome} (t : Tries N (turn .area) (turn .k) (m .records) (m .froms) (m .tos) lines r) (e : accepted (r .answer) ≡ true) where
+  module _ {lines : List Words} {answer : Advance} {volts : Words} (t : Tries N (turn .area) (turn .k) (m .records) (m .froms) (m .tos) lines answer volts) (e : accepted answer ≡ true) where
     abbrev bs : List Branch
     bs = branches N (turn .area) (turn .k) (m .records) (m .froms) (m .tos)
 
-    took-it : Taken (turn .k) (r .answer) bs (r .volts) (solve N (turn .area) (turn .k) bs)
-    took-it = taken N a (turn .k) bs (r .answer) (r .volts) (t .tried) e
+    took-it : Taken (turn .k) answer bs volts (solve N (turn .area) (turn .k) bs)
+    took-it = taken N a (turn .k) bs answer volts (t .tried) e
 
-    flows : Flowing N (turn .area) (turn .k) (m .records) (m .froms) (m .tos) (r .volts) lines
+    flows : Flowing N (turn .area) (turn .k) (m .records) (m .froms) (m .tos) volts lines
     flows = t .flowing (took-it .answer)
 
     nodes-are : part (o .base) (o .«nodes_end») nodes ≡ ownNodes N (turn .area)
@@ -215,23 +214,23 @@ module _ {N : Net} {low high : ℕ} {plan owns : List (List ℕ)} {legs : List W
     pub records-asked : Recordable lines (part (o .base) (o .«nodes_end») nodes) (m .records) (turn .area) (turn .k)
     records-asked =
         rw (flows .flows, nodes-are)
-        (recordable (R .tables .sound) one (R .stepping .kept) (flows .laid) (r .volts) (omega (arith, R .tables .most, R .stepping .most)) (R .stepping .step))
+        (recordable (R .tables .sound) one (R .stepping .kept) (flows .laid) volts (omega (arith, R .tables .most, R .stepping .most)) (R .stepping .step))
 
     pub stores-asked : Sendable plan lines (m .froms) (m .tos)
-    stores-asked = rw (flows .flows) (sendable (R .tables .sound) one (R .stepping .kept) (flows .laid) (r .volts) (R .tables .planned))
+    stores-asked = rw (flows .flows) (sendable (R .tables .sound) one (R .stepping .kept) (flows .laid) volts (R .tables .planned))
 
     pub taken-written : {m′ : Memory}
-        → m′ ≡ memory (recordsPut lines (part (o .base) (o .«nodes_end») nodes) (r .volts) (turn .area) (turn .k) (m .records)) (sentBy plan (turn .k) fromEnd lines (m .froms)) (sentBy plan (turn .k) toEnd lines (m .tos))
-        → advanced (r .answer) m′ ≡ ready N (turn .area) (turn .k) m
+        → m′ ≡ memory (recordsPut lines (part (o .base) (o .«nodes_end») nodes) volts (turn .area) (turn .k) (m .records)) (sentBy plan (turn .k) fromEnd lines (m .froms)) (sentBy plan (turn .k) toEnd lines (m .tos))
+        → advanced answer m′ ≡ ready N (turn .area) (turn .k) m
     taken-written {m′} q =
-        taken-step N a (turn .k) m m′ (r .answer) (r .volts) took-it (q ∙ rw (flows .flows, nodes-are) (written-is one (flows .laid) (R .tables .planned) (r .volts) (R .tables .sound) (omega (arith, R .tables .most, R .stepping .most)) (R .stepping .kept .records-long)))
+        taken-step N a (turn .k) m m′ answer volts took-it (q ∙ rw (flows .flows, nodes-are) (written-is one (flows .laid) (R .tables .planned) volts (R .tables .sound) (omega (arith, R .tables .most, R .stepping .most)) (R .stepping .kept .records-long)))
 
   -- ---- from the table that the lines stand in again
-  module _ {lines : List Words} {r : Outcome} (same : SameBut (legsOf′ o legs) lines) (t : Tries N (turn .area) (turn .k) (m .records) (m .froms) (m .tos) lines r) (e : accepted (r .answer) ≡ true) where
+  module _ {lines : List Words} {answer : Advance} {volts : Words} (same : SameBut (legsOf′ o legs) lines) (t : Tries N (turn .area) (turn .k) (m .records) (m .froms) (m .tos) lines answer volts) (e : accepted answer ≡ true) where
     pub asked : Recordable (legsOf′ o (legsPut o legs lines)) (part (o .base) (o .«nodes_end») nodes) (m .records) (turn .area) (turn .k) × Sendable plan (legsOf′ o (legsPut o legs lines)) (m .froms) (m .tos)
     asked = rw (legs-after same) (records-asked t e, stores-asked t e)
 
-    pub moved : {recs froms tos : Words} → recs ≡ recordsPut (legsOf′ o (legsPut o legs lines)) (part (o .base) (o .«nodes_end») nodes) (r .volts) (turn .area) (turn .k) (m .records)
+    pub moved : {recs froms tos : Words} → recs ≡ recordsPut (legsOf′ o (legsPut o legs lines)) (part (o .base) (o .«nodes_end») nodes) volts (turn .area) (turn .k) (m .records)
         → froms ≡ sentBy plan (turn .k) fromEnd (legsOf′ o (legsPut o legs lines)) (m .froms) → tos ≡ sentBy plan (turn .k) toEnd (legsOf′ o (legsPut o legs lines)) (m .tos)
-        → advanced (r .answer) (memory recs froms tos) ≡ ready N (turn .area) (turn .k) m
+        → advanced answer (memory recs froms tos) ≡ ready N (turn .area) (turn .k) m
     moved x y w = taken-written t e (rw (x, y, w, legs-after same))

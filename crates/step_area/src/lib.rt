@@ -11,6 +11,7 @@ ghost use Rattle.paper.specs.Lent.{before, after};
 ghost use Rattle.step_area.specs.Tabled.{Known, Renews};
 ghost use Rattle.step_area.specs.Stepping.{atOf, Movable, Moves, Going, Steps};
 use paper::Advance;
+use paper::Node;
 use plan_own::Own;
 use plan_own::Owns;
 use plan_rows::Table;
@@ -119,7 +120,8 @@ fn stepped(
     let sources_from = o.sources;
     let sources_to = o.sources_end;
     let at = at_of(o, turn);
-    let tried = step_try::try_step(
+    let mut volts = [0; Node::PLACES];
+    let answer = step_try::try_step(
         plan,
         &sources[sources_from..sources_to],
         &nodes[free_from..free_to],
@@ -129,12 +131,11 @@ fn stepped(
         froms,
         tos,
         at,
+        &mut volts,
     );
-    let answer = tried.answer;
     if !took(answer) {
         return answer;
     }
-    let volts = tried.volts;
     step_commit::commit(
         plan,
         &legs[legs_from..legs_to],

@@ -39,7 +39,6 @@ use Rattle.step_flow.specs.Beyond.{beyondLeg, firstBy}
 use Rattle.step_prepare.specs.Serving.{Serving}
 use Rattle.step_solve.specs.Settling.{Solved, settled-volts}
 use Rattle.step_try.specs.declared.At.{At}
-use Rattle.step_try.specs.declared.Outcome.{Outcome}
 use Rattle.step_try.specs.Outcomes.{Tried, tried-stop, tried-move, inTurn, on-range, on-balance, on-history, on-none, solve-turns, found}
 use Rattle.step_try.specs.Beyond.{first-is, beyond-most}
 
@@ -108,9 +107,9 @@ place-most v (l ∷ legs) h = either (beyondLeg v (wireIn l)) (firstBy v (map wi
     either true r q = omega (arith, h 0 (omega arith))
     either false r q = q
 
-pub record Tries (N : Net) (a k : ℕ) (recs froms tos : Words) (lines : List Words) (r : Outcome) : Type 0 where
-  pub tried : Tried k (solve N a k (branches N a k recs froms tos)) (r .volts) (r .answer)
-  pub flowing : r .answer ≡ Took k → Flowing N a k recs froms tos (r .volts) lines
+pub record Tries (N : Net) (a k : ℕ) (recs froms tos : Words) (lines : List Words) (answer : Advance) (volts : Words) : Type 0 where
+  pub tried : Tried k (solve N a k (branches N a k recs froms tos)) volts answer
+  pub flowing : answer ≡ Took k → Flowing N a k recs froms tos volts lines
 
 -- ---- the try is the paper's step
 module _ {N : Net} {a : ℕ} {plan : List (List ℕ)} {sources : List Words} {free : List ℕ} {legs : List Words} {f : List (List Float)} {recs froms tos : Words} {at : At}

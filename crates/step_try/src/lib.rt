@@ -8,6 +8,7 @@ ghost use Rattle.step_legs.specs.Wires.{legsIn, wiresIn};
 ghost use Rattle.step_legs.specs.Written.{SameBut};
 ghost use Rattle.step_flow.specs.Flown.{flown};
 ghost use Rattle.step_flow.specs.Beyond.{firstBy};
+ghost use Rattle.step_sources.specs.Table.{none};
 ghost use Rattle.step_try.specs.Trying.{Trying, Known, Flow, inFlow, Tries};
 use paper::Advance;
 use paper::Node;
@@ -21,12 +22,6 @@ pub struct At {
     pub base: usize,
     pub k: usize,
     pub limit: i64,
-}
-
-// What a try came to: the answer, and the voltages by node where the step can be taken.
-pub struct Outcome {
-    pub answer: Advance,
-    pub volts: [i64; Node::PLACES],
 }
 
 // 16 and 17, from the voltages; each leg's line then has its current and what it passes on.
@@ -58,6 +53,7 @@ fn flowing(
     Advance::Took(at.k as u64)
 }
 
+// The voltages go into v, by node: they hold where the step can be taken.
 pub fn try_step<'a>(
     plan: &Table,
     sources: &[SourceLine],
@@ -68,28 +64,21 @@ pub fn try_step<'a>(
     froms: &'a [i64],
     tos: &'a [i64],
     at: At,
-) -> Outcome
+    v: &mut [i64; Node::PLACES],
+) -> Advance
     requires { ⌜ Known (now plan) (now sources) (now free) (now legs) (now factors) (now records) (now froms) (now tos)
-        at ⌝ }
+        at × (now v ≡ none) ⌝ }
     ensures { λ r. ⌜ ((N : Net) (a : ℕ)
         → Trying N a (was plan) (was sources) (was free) (was legs) (was factors) (was records) (was froms) (was tos) at
-        → Tries N a (at .k) (was records) (was froms) (was tos) (is legs) r) ⌝ }
+        → Tries N a (at .k) (was records) (was froms) (was tos) (is legs) r (is v)) ⌝ }
     ensures { λ _. ⌜ SameBut (was legs) (is legs) ⌝ }
 {
     step_histories::hear(plan, legs, records, froms, tos, at.k);
-    let mut v = [0; Node::PLACES];
     let mut inject = [0; Node::PLACES];
-    step_sources::drive(sources, at.k, &mut v, &mut inject);
-    let node = step_solve::solve(legs, free, &inject, factors, at.base, &mut v);
+    step_sources::drive(sources, at.k, v, &mut inject);
+    let node = step_solve::solve(legs, free, &inject, factors, at.base, v);
     if node != 0 {
-        return Outcome {
-            answer: Advance::Range(node as u64),
-            volts: v,
-        };
+        return Advance::Range(node as u64);
     }
-    let answer = flowing(plan, legs, free, &inject, &v, at);
-    Outcome {
-        answer: answer,
-        volts: v,
-    }
+    flowing(plan, legs, free, &inject, v, at)
 }

@@ -1,5 +1,5 @@
 -- `step_area::stepped` meets its contract: a try that fails writes nothing, and one that passes is written as the definition says. Assumes nothing.
-use Rattle.whole.specs.Plain.{_≡_, sym, _∙_, true, not-true, not-false, arith}
+use Rattle.whole.specs.Plain.{_≡_, refl, sym, _∙_, true, not-true, not-false, arith}
 use borrow.Author.Needs.{needs}
 use Rattle.paper.specs.Answers.{accepted}
 use Rattle.plan_own.specs.Owns.{Ours}
@@ -11,16 +11,16 @@ own : (s : tie.Start) → Ours (s .pre .net) (s .args .turn .area) (s .args .o) 
 own s = own-there (s .pre .ready)
 
 abbrev placed : tie.After-try-step → tie.After-at-of
-placed t = t .before .before .before .before .before .before .before
+placed t = t .before .before .before .before .before .before .before .before
 
 abbrev start : tie.After-try-step → tie.Start
 start t = placed t .before .before
 
 try-step-requires : tie.Need-try-step-requires
 try-step-requires c κs =
-    let p = c .before .before .before .before .before .before in
+    let p = c .before .before .before .before .before .before .before in
     let s = p .before .before in
-    record { net = s .pre .net; area = s .args .turn .area; trying = tries-at (s .pre .ready) (p .at-of .ensures) }
+    (record { net = s .pre .net; area = s .args .turn .area; trying = tries-at (s .pre .ready) (p .at-of .ensures) }, refl)
 
 returns : tie.Need-returns
 returns c =
@@ -37,12 +37,12 @@ returns c =
 abbrev tried : tie.Else1 → tie.After-try-step
 tried e = e .before .before .before
 
-accepts : (e : tie.Else1) → accepted (tried e .try-step .result .answer) ≡ true
+accepts : (e : tie.Else1) → accepted (tried e .try-step .result) ≡ true
 accepts e = sym (e .before .took .ensures) ∙ not-false _ (e .if1 .left)
 
 commit-requires : tie.Need-commit-requires
 commit-requires c κs =
-    let e = c .before .before .before .before .before .before .before .before in
+    let e = c .before .before .before .before .before .before .before in
     let t = tried e in
     let R = start t .pre .ready in
     asked R (t .try-step .ensures .1) (tried-at R (placed t .at-of .ensures) (t .try-step .ensures .0)) (accepts e)
@@ -50,7 +50,7 @@ commit-requires c κs =
 returns-2 : tie.Need-returns-2
 returns-2 c =
     let w = c .before .before .before in
-    let e = w .before .before .before .before .before .before .before .before .before in
+    let e = w .before .before .before .before .before .before .before .before in
     let t = tried e in
     let q = w .commit .ensures in
     record {
@@ -84,14 +84,14 @@ stepped-spec =
     (λ c. search needs)
     (λ c. search needs)
     returns
-    (λ c. record { fits = omega (arith, own (start (c .before .before .before .before)) .legs-in) })
-    (λ c. own (start (c .before .before .before .before)) .legs-in .0)
-    (λ c. omega (arith, own (start (c .before .before .before .before .before)) .legs-in))
-    (λ c. omega (arith, own (start (c .before .before .before .before .before)) .legs-in, tables-after (start (c .before .before .before .before .before) .pre .ready) (c .before .before .before .before .before .try-step .ensures .1) .tables .legs-long))
-    (λ c. record { fits = omega (arith, own (start (c .before .before .before .before .before .before)) .nodes-in) })
-    (λ c. omega (arith, own (start (c .before .before .before .before .before .before)) .nodes-in))
-    (λ c. omega (arith, own (start (c .before .before .before .before .before .before)) .nodes-in))
-    (λ c. omega (arith, own (start (c .before .before .before .before .before .before)) .nodes-in, start (c .before .before .before .before .before .before) .pre .ready .tables .tables .nodes-long))
+    (λ c. record { fits = omega (arith, own (start (c .before .before .before)) .legs-in) })
+    (λ c. own (start (c .before .before .before)) .legs-in .0)
+    (λ c. omega (arith, own (start (c .before .before .before .before)) .legs-in))
+    (λ c. omega (arith, own (start (c .before .before .before .before)) .legs-in, tables-after (start (c .before .before .before .before) .pre .ready) (c .before .before .before .before .try-step .ensures .1) .tables .legs-long))
+    (λ c. record { fits = omega (arith, own (start (c .before .before .before .before .before)) .nodes-in) })
+    (λ c. omega (arith, own (start (c .before .before .before .before .before)) .nodes-in))
+    (λ c. omega (arith, own (start (c .before .before .before .before .before)) .nodes-in))
+    (λ c. omega (arith, own (start (c .before .before .before .before .before)) .nodes-in, start (c .before .before .before .before .before) .pre .ready .tables .tables .nodes-long))
     commit-requires
     (λ c. search needs)
     (λ c. search needs)

@@ -21,7 +21,7 @@ Of h N a =
     Trying N a (s .plan .now) (s .sources .now) (s .free .now) (s .legs .now) (s .factors .now) (s .records .now) (s .froms .now) (s .tos .now) (s .at)
 
 hear-requires : tie.Need-hear-requires
-hear-requires c κs = let t = c .before .before .pre .trying in hears (t .sound) (t .planned) (t .serving .conducts) (t .one) (t .kept)
+hear-requires c κs = let t = c .before .before .pre .0 .trying in hears (t .sound) (t .planned) (t .serving .conducts) (t .one) (t .kept)
 
 -- the legs are laid
 abbrev after : tie.After-hear → List Words
@@ -35,7 +35,7 @@ abbrev heard : tie.After-drive → tie.After-hear
 heard d = d .before .before .before .before
 
 drive-requires : tie.Need-drive-requires
-drive-requires c κs = (drives (start (c .before .before .before) .pre .trying), (refl, refl))
+drive-requires c κs = let s = start (c .before .before .before) in (drives (s .pre .0 .trying), (s .pre .1, refl))
 
 -- ---- the voltages
 abbrev driven : tie.After-solve → tie.After-drive
@@ -44,7 +44,7 @@ driven s = s .before .before .before .before
 solve-requires : tie.Need-solve-requires
 solve-requires c κs =
     let d = c .before .before .before in
-    let t = start (heard d) .pre .trying in
+    let t = start (heard d) .pre .0 .trying in
     let l = laid (heard d) t in (
       (all-sized t l, volts-from t (d .drive .ensures .0), d .drive .ensures .1 .1, all-free t l),
       (t .room, serves-from t l),
@@ -67,7 +67,7 @@ flowing-requires c κs =
     let e = c .before .before .before in
     let s = e .before in
     let d = driven s in
-    let t = start (heard d) .pre .trying in
+    let t = start (heard d) .pre .0 .trying in
     let l = laid (heard d) t in
     let q = t .sound .study .limitIn in
     record {
