@@ -169,7 +169,7 @@ mod linked {
 
     /// Words of a lent room: plan, legs, factors, as the header has them; and of the guards around it.
     #[cfg(feature = "advance")]
-    const ROOM: [usize; 3] = [80 * 12, 160 * 9, 32 * 32];
+    const ROOM: [usize; 3] = [80 * 14, 160 * 9, 32 * 32];
     #[cfg(feature = "advance")]
     const GUARDS: usize = 16;
 
