@@ -2,7 +2,7 @@
 // A branch's place is its row; the row of a source stands as a branch from ground to ground, which is in no area.
 #include "rules.h"
 
-enum { NETWORK = 1024, RECORDS = 512, COUNTS = 0, VOLTAGES = 32, CURRENTS = 64, TO_CURRENTS = 144, HISTORIES = 224 };
+enum { NETWORK = 1024, RECORDS = 1024, COUNTS = 0, VOLTAGES = 32, CURRENTS = 64, TO_CURRENTS = 144, HISTORIES = 224, PEAKS = 304, PEAK_STEPS = 336 };
 
 // The network by its rows, each judged as the reader judges its line; false where one could not have been read.
 static bool load_network(const whole *net) {
@@ -47,7 +47,11 @@ static bool well_formed(const whole *records) {
         whole near = kind < VS ? most_current : 0, to = kind == LINE ? most_current : 0, past = kind == L || kind == C ? FAR : 0;
         if (beyond(records[CURRENTS + r], near) || beyond(records[TO_CURRENTS + r], to) || beyond(records[HISTORIES + r], past)) return false;
     }
-    if (!all_in(records + HISTORIES + ROWS, RECORDS - HISTORIES - ROWS, 0, 0)) return false;
+    for (int i = 0; i < NODES; i++) {
+        whole v = i < node_count ? records[VOLTAGES + i] : 0, most = i < node_count ? HIGHEST : 0, count = i < node_count ? count_at(records, i + 1) : 0;
+        if (!in(records[PEAKS + i], v < 0 ? -v : v, most) || !in(records[PEAK_STEPS + i], 0, count)) return false;
+    }
+    if (!all_in(records + PEAK_STEPS + NODES, RECORDS - PEAK_STEPS - NODES, 0, 0)) return false;
     for (int r = 0; r < places; r++) {
         const struct branch *b = &branches[r];
         if (b->kind == LINE && beyond(count_at(records, b->from) - count_at(records, b->to), b->d)) return false;
@@ -73,6 +77,15 @@ static uint64_t waiting(const struct area *a, whole k, const whole *records) {
     return 0;
 }
 
+// The largest magnitude of each node of the area so far, and the first step where it came.
+static void put_peaks(const struct area *a, whole k, whole *records) {
+    for (uint64_t left = a->nodes; left; left &= left - 1) {
+        int i = __builtin_ctzll(left) - 1;
+        whole v = records[VOLTAGES + i] < 0 ? -records[VOLTAGES + i] : records[VOLTAGES + i];
+        if (k == 1 || v > records[PEAKS + i]) records[PEAKS + i] = v, records[PEAK_STEPS + i] = k;
+    }
+}
+
 uint64_t plain_advance(const whole *network, size_t network_len, whole *records, size_t records_len, whole *froms, size_t froms_len, whole *tos, size_t tos_len,
                        uint64_t area, uint64_t *where) {
     *where = 0;
@@ -89,6 +102,7 @@ uint64_t plain_advance(const whole *network, size_t network_len, whole *records,
     struct answer got = advance(&areas[area - 1], k);
     *where = got.number == HISTORY ? number_of(got.place) : (uint64_t)got.place;
     if (got.number) return (uint64_t)got.number;
+    put_peaks(&areas[area - 1], k, records);
     *where = (uint64_t)(records[COUNTS + area - 1] = k);
     return 0;
 }

@@ -12,15 +12,15 @@ extern "C" {
 
 fn main() {
     let text = "study\t1000\t1\t0\nVS\t1\t1000\t1\t0\nR\t1\t2\t2000\nR\t2\t0\t2000\n";
-    let (mut network, mut records, mut froms, mut tos) = ([0i64; 1024], [0i64; 512], [0i64; 4096], [0i64; 4096]);
+    let (mut network, mut records, mut froms, mut tos) = ([0i64; 1024], [0i64; 1024], [0i64; 4096], [0i64; 4096]);
     let mut place = 0;
     let (n, r, f, t) = (network.as_mut_ptr(), records.as_mut_ptr(), froms.as_mut_ptr(), tos.as_mut_ptr());
     // SAFETY: each pointer comes with the length of its own array, and no two arrays overlap.
     let answers = unsafe {
         [
             emt_read(text.as_ptr(), text.len(), n, 1024, &mut place),
-            emt_reset(n, 1024, r, 512, f, 4096, t, 4096),
-            emt_advance(n, 1024, r, 512, f, 4096, t, 4096, 1, &mut place),
+            emt_reset(n, 1024, r, 1024, f, 4096, t, 4096),
+            emt_advance(n, 1024, r, 1024, f, 4096, t, 4096, 1, &mut place),
         ]
     };
     assert_eq!(answers, [0, 0, 0], "refused at {place}");

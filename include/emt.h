@@ -2,8 +2,8 @@
  *
  * The caller lends all memory; the library allocates nothing and keeps nothing between calls. Lent pieces must not overlap.
  * Every call settles its answer and every lent word on all inputs: a wrong length, a damaged record or a damaged text is refused by a
- * number, and a refused call leaves all lent memory as it was. One lent thing is left open, the room of emt_advance_in. What is answered beside the number (*line, *place, *written, *area, *number)
- * is always written.
+ * number, and a refused call leaves all lent memory as it was. One lent thing is left open, the room of emt_advance_in. What is answered beside
+ * the number (*line, *place, *voltage, *peak, *step, *written, *area, *number) is always written.
  *
  * Units: voltage 0.1 V, current 0.1 nA, conductance nS, time ns. */
 #ifndef EMT_H
@@ -18,7 +18,7 @@ extern "C" {
 
 /* ---- Lengths of lent memory; another length is refused by EMT_STORE */
 #define EMT_NETWORK_WORDS 1024 /* a network, as emt_read writes it */
-#define EMT_RECORD_WORDS 512   /* counts, voltages, currents, histories */
+#define EMT_RECORD_WORDS 1024  /* counts, voltages, currents, histories, peaks; as long as a network, so that the two exchanged are EMT_NETWORK */
 #define EMT_STORE_WORDS 4096   /* what the from ends of all lines sent; as many for the to ends */
 #define EMT_TEXT_BYTES 65536   /* the longest study text; a longer one is EMT_SIZE */
 #define EMT_LIST_BYTES 4160    /* the shortest buffer that emt_list takes; a longer one means fewer calls */
@@ -59,12 +59,15 @@ enum { EMT_R = 1, EMT_L = 2, EMT_C = 3, EMT_LINE = 4, EMT_SW = 5, EMT_VS = 6, EM
 #define EMT_CURRENT(row) (64 + (row))        /* leaves the from node */
 #define EMT_TO_CURRENT(row) (144 + (row))    /* of a line: leaves the to node */
 #define EMT_HISTORY_OF(row) (224 + (row))    /* of L and C */
+#define EMT_PEAK(node) (304 + (node) - 1)    /* the voltage's largest magnitude over all steps of the node's area */
+#define EMT_PEAK_STEP(node) (336 + (node) - 1) /* the first step where it came; 0 before any step */
 
-/* ---- Answers. Reading: 9, 7, then 1 to 6; resetting: 9, 8; advancing: 9, 8, then 10 to 17; listing: 9, 8, 10; writing: 9, 8. */
+/* ---- Answers. Reading: 9, 7, then 1 to 6; resetting: 9, 8; advancing: 9, 8, then 10 to 17; listing: 9, 8, 10; writing: 9, 8; asking
+ * for a node: 9, 8, 10, 2. */
 enum {
     EMT_ACCEPTED = 0,
     EMT_FORM = 1,        /* a line's word, fields or spelling */
-    EMT_NODE = 2,        /* node over 32, both ends equal, source or line end on ground */
+    EMT_NODE = 2,        /* node over 32, both ends equal, source or line end on ground; asking: no such node */
     EMT_VALUE = 3,       /* a field, or the conductance it gives, out of range */
     EMT_TRAVEL = 4,      /* travel time shorter than the step */
     EMT_DOUBLE = 5,      /* a second VS on a node */
@@ -117,6 +120,11 @@ static inline uint64_t emt_advance_in(const int64_t *network, size_t network_len
     return emt_advance_in_tables(network, network_len, records, records_len, froms, froms_len, tos, tos_len, area, place, room->plan,
                                  room->legs, room->factors, room_bytes);
 }
+
+/* Tells of a node (from 1) its voltage, its peak, that is the largest magnitude of its voltage over all steps of its area, and the first step
+ * where it came: both 0 before any step. Answers 0, or 9, 8, 10 of the records alone, or 2 for no such node; then all three are 0. */
+uint64_t emt_node(const int64_t *network, size_t network_len, const int64_t *records, size_t records_len, uint64_t node,
+                  int64_t *voltage, uint64_t *peak, uint64_t *step);
 
 /* Advances all areas in rising order, full step after full step, and lists each into out: the lines of emtrun. *written bytes
  * of out are written. Answers 0 when done, EMT_MORE, EMT_STOPPED, or 8 to 10. With EMT_STOPPED *area is the area that was refused its

@@ -1,5 +1,6 @@
 #!/usr/bin/env bash
-# The library as its customers link it: the three callers of examples/, E1 to E10 through the compiled calls, a listing that stops, and a study that is changed and written out again.
+# The library as its customers link it: the three callers of examples/, E1 to E10 through the compiled calls, a listing that stops, a study that is changed and written out again, and tables
+# of peaks.
 # LIBEMT=PATH takes this archive and makes none.
 # Closing line: N passed, M failed.
 set -u
@@ -65,21 +66,24 @@ for caller in $callers; do
     fi
 done
 
-# examples/redraw.c: expect WHAT STATUS FILE WORD.. runs it with these words; it must write just the file, and end with this status
-compile "$work/redraw" examples/redraw.c "$archive" || stop "examples/redraw.c does not compile"
+# expect EXAMPLE WHAT STATUS FILE WORD.. runs the example with these words; it must write just the file, and end with this status
 expect() {
-    local what=$1 status=$2 file=$3
-    shift 3
-    run "$work/redraw" "$@" >"$work/told" 2>"$work/said"
+    local example=$1 what=$2 status=$3 file=$4
+    shift 4
+    run "$work/$example" "$@" >"$work/told" 2>"$work/said"
     if [ $? -eq "$status" ] && cmp -s "$work/told" "$file"; then
         passed=$((passed + 1))
     else
-        echo "redraw, $what:"
+        echo "$example, $what:"
         diff "$work/told" "$file" | head -n 10
         cat "$work/said"
         failed=$((failed + 1))
     fi
 }
+for example in redraw peaks; do
+    compile "$work/$example" examples/$example.c "$archive" || stop "examples/$example.c does not compile"
+done
+
 tr ' ' '\t' >"$work/drawn.txt" <<'END'
 study 1000 8 0
 R 1 2 2000
@@ -96,12 +100,33 @@ LINE 2 3 400000 2000
 IS 3 5 1 0
 R 3 0 1000
 END
-expect "a file" 0 "$work/redrawn.txt" 3 1000 "$work/drawn.txt"
-expect "standard input" 0 "$work/redrawn.txt" 3 1000 <"$work/drawn.txt"
-expect "the value it had" 0 studies/areas.txt 8 600000 studies/areas.txt
-expect "a line" 1 /dev/null 2 1000 "$work/drawn.txt"
-expect "a value out of range" 1 /dev/null 3 999 "$work/drawn.txt"
-expect "no study" 1 /dev/null 1 1000 examples/redraw.c
+expect redraw "a file" 0 "$work/redrawn.txt" 3 1000 "$work/drawn.txt"
+expect redraw "standard input" 0 "$work/redrawn.txt" 3 1000 <"$work/drawn.txt"
+expect redraw "the value it had" 0 studies/areas.txt 8 600000 studies/areas.txt
+expect redraw "a line" 1 /dev/null 2 1000 "$work/drawn.txt"
+expect redraw "a value out of range" 1 /dev/null 3 999 "$work/drawn.txt"
+expect redraw "no study" 1 /dev/null 1 1000 examples/redraw.c
+
+# examples/peaks.c: peaks WHAT STATUS FIELD.. runs it on $work/study.txt; these fields, three of each node, must be its table
+peaks() {
+    local what=$1 status=$2
+    shift 2
+    printf '%s\t%s\t%s\n' node 'peak, V' step "$@" >"$work/table"
+    expect peaks "$what" "$status" "$work/table" <"$work/study.txt"
+}
+# The wave doubles at the open end at step 3 and is back at node 2 at step 4; by step 6 node 2 has 100.0 V again, and its peak stays.
+printf 'study\t1000\t6\t0\nVS\t1\t1000\t1\t0\nLINE\t1\t2\t400000\t1000\nLINE\t2\t3\t400000\t1000\n' >"$work/study.txt"
+peaks "three nodes" 0 1 100.0 1 2 200.0 4 3 200.0 3
+# Without sign: -20.0 V at step 4.
+printf 'study\t1000\t4\t0\nVS\t1\t-300\t2\t3\nR\t1\t0\t1000000\n' >"$work/study.txt"
+peaks "a falling ramp" 0 1 20.0 4
+# Node 2 hangs in the air at step 3: the peaks are those of the two steps before.
+printf 'study\t1000\t9\t0\nVS\t1\t8\t1\t0\nSW\t1\t2\t1000\t1\t3\n' >"$work/study.txt"
+peaks "a run that stops" 1 1 0.8 1 2 0.8 1
+# The table of README.md.
+cp studies/lightning.txt "$work/study.txt"
+peaks "lightning" 0 1 1123848.5 106 2 1123848.5 136 3 1159848.5 76
+expect peaks "no study" 1 /dev/null <examples/peaks.c
 
 echo "$passed passed, $failed failed"
 [ "$failed" -eq 0 ]

@@ -1,6 +1,6 @@
 #!/usr/bin/env bash
 # Every number of include/emt.h is the definitions' own: limits and lengths (crates/paper/specs/Limits), where the records have their words (Where), the
-# numbers of the answers (Answers, Pieces), the size of the lent room (crates/emt/specs/Numbered). Closing line: N passed, M failed.
+# numbers of the answers (Answers, Looking, Pieces), the size of the lent room (crates/emt/specs/Numbered). Closing line: N passed, M failed.
 set -u
 cd "$(dirname "$0")/.." || exit 1
 
@@ -35,7 +35,7 @@ while [ $# -gt 1 ]; do
 done
 
 # a word's place, asked for area, node and row 7
-set -- COUNT countAt VOLTAGE voltAt CURRENT currentAt TO_CURRENT toCurrentAt HISTORY_OF historyAt
+set -- COUNT countAt VOLTAGE voltAt CURRENT currentAt TO_CURRENT toCurrentAt HISTORY_OF historyAt PEAK peakAt PEAK_STEP peakStepAt
 while [ $# -gt 1 ]; do
     place=$(sed -nE "s/^$2 (N )?[anr] = //p" $specs/Where.antt)
     expect "EMT_$1(7)" "$((${place//[anr]/7}))"
@@ -50,7 +50,7 @@ expect 'sizeof(struct emt_room)' "$((room))"
 # refusals by name; what is accepted is 0
 while read -r name number; do
     expect "EMT_${name^^}" "$number"
-done < <(sed -nE 's/^(reading|resetting|advance|listing|writing)Number \(?([A-Z]\.)?([A-Za-z]+)(( [a-z])+\))? = ([1-9][0-9]*)$/\3 \6/p' $specs/Answers.antt $specs/Pieces.antt | sort -u)
+done < <(sed -nE 's/^(reading|resetting|advance|looking|listing|writing)Number \(?([A-Z]\.)?([A-Za-z]+)(( [a-z])+\))? = ([1-9][0-9]*)$/\3 \6/p' $specs/Answers.antt $specs/Looking.antt $specs/Pieces.antt | sort -u)
 
 {
     echo '#include <emt.h>'

@@ -10,7 +10,7 @@ use lib.Ieee as Ieee
 FLOATS = ("add", "sub", "mul", "div", "ofInt")
 MEANING = "crates/paper/specs/"
 FOLDS = "crates/whole/specs/"
-LAWS = ("Apart", "Classes", "Computing", "Examples", "Cases", "Kept", "Total", "Places", "One")
+LAWS = ("Apart", "Classes", "Computing", "Examples", "Cases", "Asked", "Kept", "Total", "Places", "One")
 
 
 def opened(path):

@@ -1,8 +1,9 @@
-//! The paper's three calls over lent memory (the listing by pieces is in list.rs, the writer in write.rs): each
-//! answers its number and what the number carries, and every refusal leaves all lent memory unchanged.
+//! The paper's three calls over lent memory (the listing by pieces is in list.rs, the writer in write.rs, the
+//! question for a node in node.rs): each answers its number and what the number carries, and every refusal leaves all lent memory unchanged.
 
 use crate::limits::Whole;
 use crate::network::{Network, Travel};
+use crate::peaks::Peak;
 use crate::reader;
 use crate::record::{self, NETWORK_WORDS};
 use crate::refusal::{Refusal, Stop};
@@ -148,6 +149,9 @@ fn write_step(
     let count = records[state::count_place(area)];
     for (node, voltage) in &taken.voltages {
         records[state::voltage_place(*node)] = *voltage as i64;
+        let peak = lent_peak(records, *node).after(Whole::from(count), *voltage);
+        records[state::peak_place(*node)] = peak.magnitude as i64;
+        records[state::peak_step_place(*node)] = peak.step as i64;
     }
     let first = state::first_slots(network);
     for done in &taken.branches {
@@ -162,6 +166,11 @@ fn write_step(
         }
     }
     count
+}
+
+pub fn lent_peak(records: &[i64], node: usize) -> Peak {
+    let word = |place: usize| Whole::from(records[place]);
+    Peak { magnitude: word(state::peak_place(node)), step: word(state::peak_step_place(node)) }
 }
 
 fn put(words: &mut [i64], place: usize, value: Option<Whole>) {

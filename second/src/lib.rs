@@ -12,6 +12,8 @@ pub mod limits;
 pub mod list;
 pub mod listing;
 pub mod network;
+pub mod node;
+pub mod peaks;
 pub mod reader;
 pub mod record;
 pub mod refusal;

@@ -12,6 +12,8 @@ const MILLIARD: Whole = 1_000_000_000;
 
 pub const HIGHEST_VOLTAGE: Whole = 20 * MILLION;
 pub const VOLTAGE: RangeInclusive<Whole> = -HIGHEST_VOLTAGE..=HIGHEST_VOLTAGE;
+/// A magnitude of voltages.
+pub const PEAK: RangeInclusive<Whole> = 0..=HIGHEST_VOLTAGE;
 pub const CONDUCTANCE: RangeInclusive<Whole> = 1..=MILLIARD;
 
 /// A history, or a value that a line end sends.

@@ -1,8 +1,10 @@
 //! A whole run from rest. Every value that a line end ever sent is kept, so that no ring, no slot and no
-//! remainder stands between a reading and the step it asks for.
+//! remainder stands between a reading and the step it asks for. So is every voltage, and a peak is looked for
+//! among them when it is asked for.
 
 use crate::limits::Whole;
 use crate::network::Network;
+use crate::peaks::Peak;
 use crate::refusal::{Refusal, Stop};
 use crate::step::{self, AreaStep, Histories};
 
@@ -19,6 +21,8 @@ pub struct Run {
     /// By branch, then by step: the value sent at step s stands in place s - 1.
     sent_from: Vec<Vec<Whole>>,
     sent_to: Vec<Vec<Whole>>,
+    /// By node, then by step; place 0 is ground's.
+    past_voltages: Vec<Vec<Whole>>,
     pub largest_imbalance: Whole,
 }
 
@@ -33,6 +37,7 @@ impl Run {
             histories: vec![0; branches],
             sent_from: vec![Vec::new(); branches],
             sent_to: vec![Vec::new(); branches],
+            past_voltages: vec![Vec::new(); network.node_count + 1],
             largest_imbalance: 0,
             network,
         }
@@ -57,6 +62,10 @@ impl Run {
         Ok(step)
     }
 
+    pub fn peak(&self, node: usize) -> Peak {
+        Peak::of_all(&self.past_voltages[node])
+    }
+
     /// A line end's history is what it receives of the values that the far end sent.
     fn histories_at(&self, area: usize, step: Whole) -> Histories {
         let mut histories = Histories { at_from: self.histories.clone(), at_to: self.histories.clone() };
@@ -78,6 +87,7 @@ impl Run {
         self.counts[area] += 1;
         for (node, voltage) in &taken.voltages {
             self.voltages[*node] = *voltage;
+            self.past_voltages[*node].push(*voltage);
         }
         for done in &taken.branches {
             let index = done.branch;

@@ -170,8 +170,13 @@ fn unfit_states() {
     assert_eq!(refused(&|lent| lent.records[0] = 3), 10);
     assert_eq!(refused(&|lent| lent.records[0] = 2), 13);
     assert_eq!(refused(&|lent| lent.records[2] = 1), 10);
-    assert_eq!(refused(&|lent| lent.records[32] = 20_000_000), 0);
-    assert_eq!(refused(&|lent| lent.records[32] = 20_000_001), 10);
+    // A voltage goes with its peak.
+    let set_voltage = |lent: &mut Lent, voltage: i64| {
+        lent.records[32] = voltage;
+        lent.records[304] = voltage.abs();
+    };
+    assert_eq!(refused(&|lent| set_voltage(lent, -20_000_000)), 0);
+    assert_eq!(refused(&|lent| set_voltage(lent, -20_000_001)), 10);
     assert_eq!(refused(&|lent| lent.records[34] = 1), 10);
     // Row 0 is the source, row 1 the line: the source's words are unused, a line keeps no history.
     assert_eq!(refused(&|lent| lent.records[64] = 1), 10);
@@ -180,6 +185,8 @@ fn unfit_states() {
     assert_eq!(refused(&|lent| lent.records[145] = 1), 0);
     assert_eq!(refused(&|lent| lent.records[225] = 1), 10);
     assert_eq!(refused(&|lent| lent.records[511] = 1), 10);
+    assert_eq!(refused(&|lent| lent.records[1023] = 1), 10);
+    assert_eq!(refused(&|lent| lent.records.truncate(512)), 9);
     assert_eq!(refused(&|lent| lent.froms[3] = 100_000_000_000_000_000), 0);
     assert_eq!(refused(&|lent| lent.froms[3] = 100_000_000_000_000_001), 10);
     assert_eq!(refused(&|lent| lent.tos[4] = 1), 10);
@@ -200,6 +207,8 @@ fn advance_depends_on_its_own_area_only() {
         let area = 1 + dice.below(network.area_count.max(1));
         for node in (1..=network.node_count).filter(|node| network.area_of[*node] != area) {
             other.records[state::voltage_place(node)] = dice.between(-20_000_000, 20_000_000);
+            other.records[state::peak_place(node)] = 20_000_000;
+            other.records[state::peak_step_place(node)] = 0;
         }
         for branch in &network.branches {
             other.records[state::from_current_place(branch.row)] = dice.between(-1_000_000, 1_000_000);
@@ -210,8 +219,10 @@ fn advance_depends_on_its_own_area_only() {
         let answers = (advance(&mut one, area as u64), advance(&mut other, area as u64));
         assert_eq!(answers.0, answers.1, "seed {seed}");
         let own = (1..=network.node_count).filter(|node| network.area_of[*node] == area);
-        for place in own.map(state::voltage_place) {
-            assert_eq!(one.records[place], other.records[place], "seed {seed}");
+        for node in own {
+            for place in [state::voltage_place(node), state::peak_place(node), state::peak_step_place(node)] {
+                assert_eq!(one.records[place], other.records[place], "seed {seed}");
+            }
         }
         assert_eq!((one.froms, one.tos), (other.froms, other.tos), "seed {seed}");
     }

@@ -1,4 +1,4 @@
-// E1 to E10 of document 01, E9 with a travel time between steps as document 02 has it, through the compiled calls, as a C program links them. Closing line: N passed, M failed.
+// E1 to E10 of document 01, E9 with a travel time between steps and peaks as document 02 has them, through the compiled calls, as a C program links them. Closing line: N passed, M failed.
 #include <emt.h>
 #include <stdio.h>
 #include <string.h>
@@ -71,6 +71,39 @@ static void e7_and_e8(void) {
     steps("E8", "study\t1000\t9\t0\nVS\t1\t1000\t1\t0\nSW\t1\t2\t1000\t5\t9\nC\t2\t0\t1000\n", EMT_VOLTAGE(2), 1, (int64_t[]){0});
 }
 
+// What is told of a node: the answer, and voltage, peak and step.
+static void tells(const char *what, uint64_t node, uint64_t answer, int64_t voltage, uint64_t peak, uint64_t step) {
+    int64_t v = -1;
+    uint64_t p = 1, s = 1;
+    expect(what, (int64_t)emt_node(network, EMT_NETWORK_WORDS, records, EMT_RECORD_WORDS, node, &v, &p, &s), (int64_t)answer);
+    expect(what, v, voltage);
+    expect(what, (int64_t)p, (int64_t)peak);
+    expect(what, (int64_t)s, (int64_t)step);
+}
+
+// E5's peaks, asked by node number before any step and after the last; then a peak below the voltage's magnitude, and exchanged arguments.
+static void peaks(void) {
+    expect("peaks", start("study\t1000\t8\t0\nVS\t1\t-1000\t1\t0\nLINE\t1\t2\t400000\t2000\n"), 0);
+    tells("peaks: before any step", 2, EMT_ACCEPTED, 0, 0, 0);
+    for (int k = 1; k <= 8; k++) {
+        expect("peaks: area 1", advance(1), k);
+        expect("peaks: area 2", advance(2), k);
+    }
+    tells("peaks: node 1", 1, EMT_ACCEPTED, -1000, 1000, 1);
+    tells("peaks: node 2", 2, EMT_ACCEPTED, 0, 2000, 3);
+    expect("peaks: in the records", records[EMT_PEAK(2)], 2000);
+    expect("peaks: and their steps", records[EMT_PEAK_STEP(2)], 3);
+    tells("peaks: ground", 0, EMT_NODE, 0, 0, 0);
+    tells("peaks: no such node", 3, EMT_NODE, 0, 0, 0);
+    records[EMT_PEAK(1)] = 999;
+    tells("peaks: below the voltage", 1, EMT_STATE, 0, 0, 0);
+    expect("peaks: and so advancing", advance(1), 100 * EMT_STATE);
+    int64_t v;
+    uint64_t p, s;
+    expect("peaks: exchanged", (int64_t)emt_node(records, EMT_RECORD_WORDS, network, EMT_NETWORK_WORDS, 1, &v, &p, &s), EMT_NETWORK);
+    expect("peaks: an older length", (int64_t)emt_node(network, EMT_NETWORK_WORDS, records, 512, 1, &v, &p, &s), EMT_STORE);
+}
+
 int main(void) {
     e1();
     e2();
@@ -80,6 +113,7 @@ int main(void) {
     e7_and_e8();
     eight_steps("E9", "study\t1000\t8\t0\nVS\t1\t1000\t1\t0\nLINE\t1\t2\t400000\t2500\n", (int64_t[]){0, 0, 1000, 2000, 2000, 2000, 1750, 1000});
     expect("E9: shorter than a step", start("study\t1000\t8\t0\nVS\t1\t1000\t1\t0\nLINE\t1\t2\t400000\t999\n"), 100 * EMT_TRAVEL + 3);
+    peaks();
     expect("E10", start("study\t1000\t3\t0\nVS\t1\t20000000\t1\t0\nL\t1\t0\t500\n"), 0);
     expect("E10: step 1", advance(1), 1);
     expect("E10: step 2", advance(1), 2);

@@ -21,7 +21,7 @@ use Rattle.step_factors.specs.Factors.{Square}
 use Rattle.step_area.specs.declared.Turn.{Turn}
 use Rattle.step_area.specs.Tabled.{Tables}
 use Rattle.step_area.specs.Stepping.{Stepping}
-use Rattle.call_state.specs.Judged.{Long}
+use Rattle.call_state.specs.Judged.{Long, MappedOf}
 use Rattle.call_state.specs.Kept.{kept}
 
 -- a network that passes, its plan and its areas by node
@@ -38,6 +38,9 @@ turnAt t a k = record { area = a; k = k; limit = t .limit }
 module _ {net : Words} {plan : List (List ℕ)} {areas : List ℕ} {totals : Totals} (s : Seen net plan areas totals) where
   pub of : Of (netIn net) plan totals
   of = of-record net (s .network) (s .planned) (s .counts)
+
+  pub mapped-of : MappedOf (netIn net) plan areas totals
+  mapped-of = record { of = of; mapped = s .mapped }
 
   pub given : {fixed : List Bool} → Flagged (netIn net) fixed → Given net plan areas fixed totals
   given f = record { network = s .network; planned = s .planned; mapped = s .mapped; flagged = f; counted = s .counts }

@@ -60,7 +60,7 @@ fn on_network(
         (is plan) (is areas) ⌝ }
 {
     let totals = plan_rows::make(net, areas, plan);
-    if !call_state::well_formed(plan, totals, records, froms, tos) {
+    if !call_state::well_formed(plan, areas, totals, records, froms, tos) {
         return refused(totals, Advance::State);
     }
     if area < 1 {

@@ -2,9 +2,11 @@
 ghost use Rattle.whole.specs.Plain.{_≡_, _+_};
 ghost use Rattle.paper.specs.Answers.{readingNumber, readingLine, resettingNumber, advanceNumber, advancePlace, advanceCount};
 ghost use Rattle.paper.specs.Answers.{writingNumber, writingBytes};
+ghost use Rattle.paper.specs.Looking.{lookingNumber, toldVoltage, toldPeak, toldStep};
 ghost use Rattle.paper.specs.Pieces.{listingNumber, stopArea, stopNumber, stopPlace};
 use paper::Advance;
 use paper::Listing;
+use paper::Looking;
 use paper::Reading;
 use paper::Resetting;
 use paper::Writing;
@@ -105,6 +107,55 @@ pub fn place_or_count(answer: Advance) -> u64
         Advance::Range(node) => node,
         Advance::Unbalanced(node) => node,
         Advance::History(branch) => branch,
+    }
+}
+
+pub fn looking_number(answer: Looking) -> u64
+    ensures { λ r. ⌜ r ≡ lookingNumber answer ⌝ }
+{
+    match answer {
+        Looking::Told(_, _, _) => 0,
+        Looking::Node => 2,
+        Looking::Network => 8,
+        Looking::Store => 9,
+        Looking::State => 10,
+    }
+}
+
+// What is told of a node; 0 of a refusal.
+pub fn told_voltage(answer: Looking) -> i64
+    ensures { λ r. ⌜ r ≡ toldVoltage answer ⌝ }
+{
+    match answer {
+        Looking::Told(voltage, _, _) => voltage,
+        Looking::Node => 0,
+        Looking::Network => 0,
+        Looking::Store => 0,
+        Looking::State => 0,
+    }
+}
+
+pub fn told_peak(answer: Looking) -> u64
+    ensures { λ r. ⌜ r ≡ toldPeak answer ⌝ }
+{
+    match answer {
+        Looking::Told(_, peak, _) => peak,
+        Looking::Node => 0,
+        Looking::Network => 0,
+        Looking::Store => 0,
+        Looking::State => 0,
+    }
+}
+
+pub fn told_step(answer: Looking) -> u64
+    ensures { λ r. ⌜ r ≡ toldStep answer ⌝ }
+{
+    match answer {
+        Looking::Told(_, _, step) => step,
+        Looking::Node => 0,
+        Looking::Network => 0,
+        Looking::Store => 0,
+        Looking::State => 0,
     }
 }
 

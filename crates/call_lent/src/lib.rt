@@ -1,4 +1,4 @@
-// 9 STORE: "a lent length wrong: network 1,024 signed 64-bit words, records 512, line stores 4,096 each"
+// 9 STORE: "a lent length wrong: network 1,024 signed 64-bit words, .. line stores 4,096 each"; with peaks (02) "Records become 1,024 words"
 ghost use Rattle.whole.specs.Plain.{_≡_};
 ghost use Rattle.whole.specs.Loans.{was};
 ghost use Rattle.paper.specs.Advance as Paper;

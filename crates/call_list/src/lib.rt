@@ -9,8 +9,8 @@ ghost use Rattle.paper.specs.Pieces.{stepsTaken, level, pieceOf, onLevel, Lists
 ghost use Rattle.paper.specs.Lent.{lent, before, after};
 ghost use Rattle.laws_facts.specs.Nets.{netIn};
 ghost use Rattle.plan_record.specs.Mapped.{Mapped};
-ghost use Rattle.plan_net.specs.Of.{Of, OfSome};
-ghost use Rattle.call_state.specs.Judged.{Long};
+ghost use Rattle.plan_net.specs.Of.{Of};
+ghost use Rattle.call_state.specs.Judged.{Long, MappedOf, MappedSome};
 ghost use Rattle.list_round.specs.Round.{InStep};
 ghost use Rattle.list_pieces.specs.Sofar.{Gives};
 use list_pieces::Piece;
@@ -21,12 +21,19 @@ use plan_rows::Table;
 use plan_rows::Totals;
 
 // 10, or not: the state is well formed, and all areas have taken as many steps.
-fn in_step(plan: &Table, totals: Totals, records: &[i64], froms: &[i64], tos: &[i64]) -> bool
-    requires { ⌜ OfSome (now plan) totals × Long (now records) (now froms) (now tos) ⌝ }
-    ensures { λ r. ⌜ ((N : Net) → Of N (was plan) totals → r
+fn in_step(
+    plan: &Table,
+    area: &[usize; Node::PLACES],
+    totals: Totals,
+    records: &[i64],
+    froms: &[i64],
+    tos: &[i64],
+) -> bool
+    requires { ⌜ MappedSome (now plan) (now area) totals × Long (now records) (now froms) (now tos) ⌝ }
+    ensures { λ r. ⌜ ((N : Net) → MappedOf N (was plan) (was area) totals → r
         ≡ (wellFormed N (was records) (was froms) (was tos) && level N (was records))) ⌝ }
 {
-    if !call_state::well_formed(plan, totals, records, froms, tos) {
+    if !call_state::well_formed(plan, area, totals, records, froms, tos) {
         return false;
     }
     let taken = call_counts::steps_taken(records, totals.areas, totals.steps);
@@ -96,7 +103,7 @@ fn on_network(
     let mut area = [0; Node::PLACES];
     let mut plan = [[0; plan_rows::WORDS]; Room::ROWS];
     let totals = plan_rows::make(net, &mut area, &mut plan);
-    if !in_step(&plan, totals, records, froms, tos) {
+    if !in_step(&plan, &area, totals, records, froms, tos) {
         return Piece {
             answer: Listing::State,
             count: 0,

@@ -1,19 +1,21 @@
 -- What a well-formed state gives its callers: counts that are numbers of steps, none past the study's. Assumes nothing.
-use Rattle.whole.specs.Plain.{ℕ, _+_, _-_, _≤_, _≡_, refl, sym, _∙_, true, true≢false, List, ℤ, pos, negsuc, nonNeg}
+use Rattle.whole.specs.Plain.{ℕ, _+_, _-_, _≤_, _≡_, refl, sym, ap, _∙_, true, true≢false, List, ℤ, pos, negsuc, nonNeg}
 use Rattle.whole.specs.Plain.{length, take, leb-true, eq-eqb, ne-eqb, le-trans, ℕ-discrete, arith, Words, word, nat}
 use Rattle.whole.specs.Plain.{upTo, every}
 use Rattle.whole.specs.Folds.{and-left, and-right}
 use Rattle.whole.specs.Within.{take-every}
 use Rattle.paper.specs.Limits as Limits
-use Rattle.paper.specs.Areas.{Net}
+use Rattle.paper.specs.Areas.{Net, areaOf, areaCount}
 use Rattle.paper.specs.Records.{countOf, wellFormed}
+use Rattle.laws_facts.specs.Nets.{area-of}
 use Rattle.plan_rows.specs.declared.Totals.{Totals}
+use Rattle.paper.specs.Apart.{state-records}
 use Rattle.plan_net.specs.Of.{Of}
 use Rattle.call_counts.specs.Counts.{CountsIn, Counted}
 use Rattle.call_counts.specs.Lines.{counted}
 use Rattle.call_counts.specs.Level.{takenBy}
-use Rattle.call_state.specs.Judged.{Long, partFormed, sectionFormed, countsFormed, formedBy}
-use Rattle.call_state.specs.Formed.{few, formed-is}
+use Rattle.call_state.specs.Judged.{Long, MappedOf, partFormed, sectionFormed, countsFormed, NodesCounted}
+use Rattle.call_state.specs.Formed.{few, counts-formed}
 
 number-is : (x : ℤ) → nonNeg x ≡ true → x ≡ pos (nat x)
 number-is (pos n) e = refl
@@ -43,13 +45,23 @@ module _ (recs : Words) (areas most : ℕ) (long : length recs ≡ Limits.record
             };
       }
 
+-- each node is of one of the areas
+pub nodes-counted : {N : Net} {plan : List (List ℕ)} {areas : List ℕ} {t : Totals} {recs : Words} → MappedOf N plan areas t → CountsIn recs (t .areas) → NodesCounted areas (t .nodes) recs
+nodes-counted {N} {plan} {areas} {t} {recs} o c =
+    let n : t .nodes ≡ N .nodes = ap (λ (u : Totals). u .nodes) (o .of .counts) in
+    let a : t .areas ≡ areaCount N = ap (λ (u : Totals). u .areas) (o .of .counts) in
+    let s = o .of .sound in
+    record {
+      few = omega (arith, s .nodeMost);
+      node = λ i l h. rw (o .mapped .area-at i (omega (arith, s .nodeMost))) (c .at (areaOf N i) (s .areaLeast i l (omega arith)) (omega (arith, area-of N i)));
+    }
+
 -- ---- of a state that is well formed
 
 module _ {N : Net} {plan : List (List ℕ)} {t : Totals} {recs froms tos : Words} (o : Of N plan t) (k : Long recs froms tos)
     (e : wellFormed N recs froms tos ≡ true) where
   counts-good : countsFormed recs (t .areas) (t .steps) ≡ true
-  unfolding formedBy
-  counts-good = and-left _ _ (sym (formed-is o k) ∙ e)
+  counts-good = counts-formed recs o (k .records-long) (state-records N recs froms tos e)
 
   pub formed-counts : CountsIn recs (t .areas)
   formed-counts = counts-in recs (t .areas) (t .steps) (k .records-long) (few o .areas) counts-good (few o .steps)

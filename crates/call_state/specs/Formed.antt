@@ -1,21 +1,22 @@
 -- 10 STATE: what the judge decides by the plan is `wellFormed`, of every network that the plan is of. Assumes nothing.
-use Rattle.whole.specs.Plain.{ℕ, _+_, _-_, _≤_, _≡_, refl, ap, _∙_, Bool, true, false, cond, _&&_, _||_, and-assoc}
-use Rattle.whole.specs.Plain.{and-comm, and-true, List, [], length, List·getD-eq-default, lt-ltb, le-ltb, zero-add}
+use Rattle.whole.specs.Plain.{ℕ, _+_, _-_, _≤_, _≡_, refl, sym, ap, _∙_, Bool, true, false, cond, _&&_, _||_, and-assoc}
+use Rattle.whole.specs.Plain.{and-comm, and-true, List, [], nonNeg, length, take, List·getD-eq-default, lt-ltb, le-ltb, zero-add}
 use Rattle.whole.specs.Plain.{arith, Words, word, upTo, every, within, sum, numbers}
+use Rattle.whole.specs.Folds.{and-left, and-right, both}
 use Rattle.whole.specs.Members.{Among}
 use Rattle.paper.specs.Limits as Limits
 use Rattle.paper.specs.Rows as Rows
 use Rattle.paper.specs.Rows.{isBranch, isLine, isL, isC, steps}
 use Rattle.paper.specs.Areas.{Net, areaCount}
-use Rattle.paper.specs.Records.{slotCount, Section, sections, sectionsEnd, endOf, ends, near, storeFormed, wellFormed}
-use Rattle.paper.specs.Apart.{counts-in, voltages-in, currents-in, toCurrents-in, histories-in, end-of, end-past, ends-at}
+use Rattle.paper.specs.Records.{slotCount, Section, sections, sectionsEnd, endOf, ends, near, peaked, recordsFormed, storeFormed, wellFormed}
+use Rattle.paper.specs.Apart.{counts-in, voltages-in, currents-in, toCurrents-in, histories-in, peaks-in, peakSteps-in, end-of, end-past, ends-at}
 use Rattle.laws_facts.specs.Nets.{NetSound, rowAt, area-count-most}
 use Rattle.plan_rows.specs.declared.Totals.{Totals}
 use Rattle.plan_rows.specs.Planned.{Planned, rowIn}
 use Rattle.plan_net.specs.Of.{Of}
 use Rattle.call_counts.specs.Counts.{nearBy}
 use Rattle.call_counts.specs.Lines.{kind-is, near-is}
-use Rattle.call_state.specs.Judged.{Long, partFormed, sectionFormed, ofKind, wordsFormed, countsFormed, rowFormed, plannedFormed, tailsFormed, formedBy}
+use Rattle.call_state.specs.Judged.{Long, MappedOf, partFormed, sectionFormed, ofKind, wordsFormed, countsFormed, rowFormed, plannedFormed, tailsFormed, nodesFormed, peakedBy, formedBy}
 use Rattle.call_state.specs.Sections.{every-places, within-places, every-both, every-from, held, used-part, one-end, only-section, follows, covered}
 
 and-swap : (a b c : Bool) → (a && (b && c)) ≡ (b && (a && c))
@@ -24,10 +25,10 @@ and-swap false true c = refl
 and-swap false false c = refl
 
 -- the same tests, as the paper and as the judge have them
-arranged : (sign counts volts i zᵢ t zₜ h zₕ rest near from to : Bool)
-    → (sign && ((counts && (volts && ((i && zᵢ) && ((t && zₜ) && ((h && zₕ) && true))))) && rest) && near && from && to)
-    ≡ (sign && counts && (volts && ((i && (t && h) && near) && ((zᵢ && (zₜ && (zₕ && rest))) && (from && to)))))
-arranged sign counts volts i zᵢ t zₜ h zₕ rest near from to = simp (and-assoc, and-comm, and-swap, and-true)
+arranged : (sign counts volts i zᵢ t zₜ h zₕ peaks steps rest near peaked : Bool)
+    → (sign && ((counts && (volts && ((i && zᵢ) && ((t && zₜ) && ((h && zₕ) && (peaks && (steps && true))))))) && rest) && near && peaked)
+    ≡ (sign && counts && ((volts && (peaks && steps)) && ((i && (t && h) && near) && ((zᵢ && (zₜ && (zₕ && rest))) && peaked))))
+arranged sign counts volts i zᵢ t zₜ h zₕ peaks steps rest near peaked = simp (and-assoc, and-comm, and-swap, and-true)
 
 module _ {N : Net} {plan : List (List ℕ)} (s : NetSound N) (p : Planned N plan) (recs : Words) (long : length recs ≡ Limits.recordWords) where
   abbrev n : ℕ
@@ -52,6 +53,16 @@ module _ {N : Net} {plan : List (List ℕ)} (s : NetSound N) (p : Planned N plan
   volts-are =
       one-end recs (endOf N) 32 (N .nodes) 64 Limits.voltageEnd (omega (arith, s .nodeMost)) (omega arith)
       (λ j h. end-of N voltages-in j (omega (arith, s .nodeMost)) ∙ rw (lt-ltb j (N .nodes) h)) (λ j h u. end-of N voltages-in j (omega arith) ∙ rw (le-ltb j (N .nodes) h))
+
+  peaks-are : every ok (numbers 304 32) ≡ sectionFormed recs 304 (N .nodes) 336 Limits.voltageEnd
+  peaks-are =
+      one-end recs (endOf N) 304 (N .nodes) 336 Limits.voltageEnd (omega (arith, s .nodeMost)) (omega arith)
+      (λ j h. end-of N peaks-in j (omega (arith, s .nodeMost)) ∙ rw (lt-ltb j (N .nodes) h)) (λ j h u. end-of N peaks-in j (omega arith) ∙ rw (le-ltb j (N .nodes) h))
+
+  peak-steps-are : every ok (numbers 336 32) ≡ sectionFormed recs 336 (N .nodes) 368 (steps (N .head))
+  peak-steps-are =
+      one-end recs (endOf N) 336 (N .nodes) 368 (steps (N .head)) (omega (arith, s .nodeMost)) (omega arith)
+      (λ j h. end-of N peakSteps-in j (omega (arith, s .nodeMost)) ∙ rw (lt-ltb j (N .nodes) h)) (λ j h u. end-of N peakSteps-in j (omega arith) ∙ rw (le-ltb j (N .nodes) h))
 
   rest-is : every ok (numbers sectionsEnd (Limits.recordWords - sectionsEnd)) ≡ partFormed recs sectionsEnd Limits.recordWords 0
   unfolding every numbers
@@ -88,7 +99,8 @@ module _ {N : Net} {plan : List (List ℕ)} (s : NetSound N) (p : Planned N plan
       && (sectionFormed recs 32 (N .nodes) 64 Limits.voltageEnd
       && ((every (own 64 (isOf isBranch) Limits.currentEnd) (numbers 0 n) && partFormed recs (64 + n) 144 0)
       && ((every (own 144 (isOf isLine) Limits.currentEnd) (numbers 0 n) && partFormed recs (144 + n) 224 0)
-      && ((every (own 224 (isOf stores) Limits.historyEnd) (numbers 0 n) && partFormed recs (224 + n) 304 0) && true))))) && partFormed recs 304 512 0)
+      && ((every (own 224 (isOf stores) Limits.historyEnd) (numbers 0 n) && partFormed recs (224 + n) 304 0)
+      && (sectionFormed recs 304 (N .nodes) 336 Limits.voltageEnd && (sectionFormed recs 336 (N .nodes) 368 (steps (N .head)) && true))))))) && partFormed recs sectionsEnd Limits.recordWords 0)
   unfolding sections every Rows.branchKind Rows.kinds
   records-are =
       sections-are
@@ -98,6 +110,8 @@ module _ {N : Net} {plan : List (List ℕ)} (s : NetSound N) (p : Planned N plan
         rows-section currents-in (isOf isBranch) refl refl (omega arith) (λ i. refl),
         rows-section toCurrents-in (isOf isLine) refl refl (omega arith) (λ i. refl),
         rows-section histories-in (isOf stores) refl refl (omega arith) (λ i. refl),
+        peaks-are,
+        peak-steps-are,
         rest-is,
       )
 
@@ -129,18 +143,41 @@ few {N} {plan} {t} o =
     let areas : areaCount N ≤ Limits.nodeEnd = omega (arith, area-count-most N s, s .nodeMost) in
     rw (o .counts) (record { rows = s .rowMost; nodes = s .nodeMost; areas = areas; slots = s .slotMost; steps = s .study .stepsIn .most })
 
--- all of it
-pub formed-is : {N : Net} {plan : List (List ℕ)} {t : Totals} {recs froms tos : Words} → Of N plan t → Long recs froms tos
-    → wellFormed N recs froms tos ≡ formedBy plan t recs froms tos
-unfolding wellFormed formedBy countsFormed tailsFormed storeFormed
-formed-is {N} {plan} {t} {recs} {froms} {tos} o k =
-    let s = o .sound in
-    let p = o .planned in
+-- of well-formed records, the counts
+pub counts-formed : {N : Net} {plan : List (List ℕ)} {t : Totals} (recs : Words) → Of N plan t → length recs ≡ Limits.recordWords → recordsFormed N recs ≡ true
+    → countsFormed recs (t .areas) (t .steps) ≡ true
+unfolding recordsFormed countsFormed
+counts-formed {N} recs o long e =
+    let c₁ = every nonNeg (take Limits.nodeEnd recs) in
+    let c₂ = within (ends N) recs in
+    let c₃ = every (near N recs) (N .rows) in
+    let e₂ = and-left (c₁ && c₂) c₃ (and-left (c₁ && c₂ && c₃) _ e) in
+    rw (o .counts) (both (and-left c₁ c₂ e₂) (and-left _ _ (and-left _ _ (sym (records-are (o .sound) (o .planned) recs long) ∙ and-right c₁ c₂ e₂))))
+
+-- the peaks, by the areas that the plan has beside it
+peaks-by : {N : Net} {plan : List (List ℕ)} {areas : List ℕ} {t : Totals} → MappedOf N plan areas t → (recs : Words) → every (peaked N recs) (numbers 1 (N .nodes)) ≡ every (peakedBy areas recs) (numbers 1 (N .nodes))
+unfolding peaked peakedBy
+peaks-by {N} o recs = every-from _ _ 0 1 (N .nodes) (λ n l h. rw (zero-add n, o .mapped .area-at n (omega (arith, o .of .sound .nodeMost))))
+
+-- all of the records
+pub formed-is : {N : Net} {plan : List (List ℕ)} {areas : List ℕ} {t : Totals} (recs : Words) → MappedOf N plan areas t → length recs ≡ Limits.recordWords
+    → recordsFormed N recs ≡ formedBy plan areas t recs
+unfolding recordsFormed formedBy countsFormed nodesFormed tailsFormed
+formed-is recs o long =
+    let s = o .of .sound in
+    let p = o .of .planned in
+    rw (o .of .counts, records-are s p recs long, rows-are s p recs long, peaks-by o recs, arranged)
+
+-- with the stores
+pub state-is : {N : Net} {plan : List (List ℕ)} {areas : List ℕ} {t : Totals} {recs froms tos : Words} → MappedOf N plan areas t → Long recs froms tos
+    → wellFormed N recs froms tos
+    ≡ (recordsFormed N recs && (sectionFormed froms 0 (t .slots) Limits.storeWords Limits.historyEnd && sectionFormed tos 0 (t .slots) Limits.storeWords Limits.historyEnd))
+unfolding wellFormed storeFormed
+state-is {N} {plan} {areas} {t} {recs} {froms} {tos} o k =
+    let s = o .of .sound in
     rw (
-      o .counts,
-      records-are s p recs (k .records-long),
-      rows-are s p recs (k .records-long),
+      o .of .counts,
       only-section froms (slotCount N) Limits.storeWords Limits.historyEnd (s .slotMost) (k .froms-long),
       only-section tos (slotCount N) Limits.storeWords Limits.historyEnd (s .slotMost) (k .tos-long),
-      arranged,
+      and-assoc,
     )

@@ -1,20 +1,32 @@
 -- What each part of the judge of records and line stores decides, by the plan. Assumes nothing.
-use Rattle.whole.specs.Plain.{ℕ, _+_, _-_, _≡_, Bool, cond, _&&_, _||_, List, [], _∷_, pos, nonNeg, length, take, drop}
+use Rattle.whole.specs.Plain.{ℕ, _+_, _-_, _≤_, _≡_, Bool, cond, _&&_, _||_, List, [], _∷_, pos, nonNeg, length, getD, take, drop}
 use Rattle.whole.specs.Plain.{Words, word, upTo, every, numbers}
 use Rattle.paper.specs.Limits as Limits
 use Rattle.paper.specs.Rows as Rows
 use Rattle.paper.specs.Rows.{isBranch, isLine, isL, isC}
-use Rattle.paper.specs.Records.{currentAt, toCurrentAt, historyAt, counts, voltages, currents, toCurrents, histories, sectionsEnd}
+use Rattle.paper.specs.Areas.{Net}
+use Rattle.paper.specs.Records.{currentAt, toCurrentAt, historyAt, countOf, counts, voltages, currents, toCurrents, histories, peaks, peakSteps, sectionsEnd, peakFormed}
+use Rattle.plan_record.specs.Mapped.{Mapped}
 use Rattle.plan_rows.specs.declared.Row.{Row}
 use Rattle.plan_rows.specs.declared.Totals.{Totals}
 use Rattle.plan_rows.specs.Planned.{rowIn}
-use Rattle.call_counts.specs.Counts.{nearBy}
+use Rattle.plan_net.specs.Of.{Of}
+use Rattle.call_counts.specs.Counts.{CountIn, nearBy}
 
 -- what is lent has its lengths
 pub record Long (recs froms tos : Words) : Type 0 where
   pub records-long : length recs ≡ Limits.recordWords
   pub froms-long : length froms ≡ Limits.storeWords
   pub tos-long : length tos ≡ Limits.storeWords
+
+-- the network that a plan is of, with its areas by node; and that there is one
+pub record MappedOf (N : Net) (plan : List (List ℕ)) (areas : List ℕ) (totals : Totals) : Type 0 where
+  pub of : Of N plan totals
+  pub mapped : Mapped N areas
+
+pub record MappedSome (plan : List (List ℕ)) (areas : List ℕ) (totals : Totals) : Type 0 where
+  pub net : Net
+  pub of : MappedOf net plan areas totals
 
 -- the words from..end are within an end
 unfoldable pub partFormed : Words → ℕ → ℕ → ℕ → Bool
@@ -50,13 +62,28 @@ unfoldable pub tailsFormed : Words → ℕ → Bool
 tailsFormed recs rows =
     partFormed recs (currentAt rows) (toCurrents .start) 0
     && (partFormed recs (toCurrentAt rows) (histories .start) 0
-    && (partFormed recs (historyAt rows) sectionsEnd 0 && partFormed recs sectionsEnd Limits.recordWords 0))
+    && (partFormed recs (historyAt rows) (peaks .start) 0 && partFormed recs sectionsEnd Limits.recordWords 0))
 
--- all of it
-unfoldable pub formedBy : List (List ℕ) → Totals → Words → Words → Words → Bool
-formedBy plan t recs froms tos =
+-- the words of the nodes
+unfoldable pub nodesFormed : Words → ℕ → ℕ → Bool
+nodesFormed recs nodes steps =
+    sectionFormed recs (voltages .start) nodes (currents .start) Limits.voltageEnd
+    && (sectionFormed recs (peaks .start) nodes (peakSteps .start) Limits.voltageEnd && sectionFormed recs (peakSteps .start) nodes sectionsEnd steps)
+
+-- a node's peak against its voltage, and the peak's step against the count of its area
+unfoldable pub peakedBy : List ℕ → Words → ℕ → Bool
+peakedBy areas recs n =
+    peakFormed (word recs (voltages .start + n - 1)) (word recs (peaks .start + n - 1)) (word recs (peakSteps .start + n - 1)) (countOf recs (getD areas n 0))
+
+-- each node's area is counted
+pub record NodesCounted (areas : List ℕ) (nodes : ℕ) (recs : Words) : Type 0 where
+  pub few : nodes ≤ Limits.nodeEnd
+  pub node : (n : ℕ) → 1 ≤ n → n ≤ nodes → CountIn recs (getD areas n 0)
+
+-- all of the records
+unfoldable pub formedBy : List (List ℕ) → List ℕ → Totals → Words → Bool
+formedBy plan areas t recs =
     countsFormed recs (t .areas) (t .steps)
-    && (sectionFormed recs (voltages .start) (t .nodes) (currents .start) Limits.voltageEnd
+    && (nodesFormed recs (t .nodes) (t .steps)
     && (every (plannedFormed plan recs) (numbers 0 (t .rows))
-    && (tailsFormed recs (t .rows)
-    && (sectionFormed froms 0 (t .slots) Limits.storeWords Limits.historyEnd && sectionFormed tos 0 (t .slots) Limits.storeWords Limits.historyEnd))))
+    && (tailsFormed recs (t .rows) && every (peakedBy areas recs) (numbers 1 (t .nodes)))))

@@ -1,16 +1,17 @@
 // 10 STATE: lent records and line stores, judged exactly, by the plan. No function has the network record: what is said is said of every network that the
 // plan is of.
-ghost use Rattle.whole.specs.Plain.{_+_, _≤_, _<_, _≡_, cond, T, natAbs, nonNeg, length, upTo, word, every, numbers};
+ghost use Rattle.whole.specs.Plain.{_+_, _≤_, _<_, _≡_, cond, T, natAbs, nonNeg, length, getD, upTo, word, every, numbers};
 ghost use Rattle.whole.specs.Loans.{was};
 ghost use Rattle.paper.specs.Limits as Limits;
 ghost use Rattle.paper.specs.Areas.{Net};
-ghost use Rattle.paper.specs.Records.{wellFormed};
-ghost use Rattle.plan_net.specs.Of.{Of, OfSome};
-ghost use Rattle.call_counts.specs.Counts.{LineIn, Counted};
-ghost use Rattle.call_state.specs.Judged.{Long, partFormed, sectionFormed, countsFormed, tailsFormed};
-ghost use Rattle.call_state.specs.Judged.{wordsFormed, rowFormed, plannedFormed};
+ghost use Rattle.paper.specs.Records.{peakFormed, recordsFormed, wellFormed};
+ghost use Rattle.call_counts.specs.Counts.{CountIn, LineIn, Counted};
+ghost use Rattle.call_state.specs.Judged.{Long, MappedOf, MappedSome, partFormed, sectionFormed, countsFormed};
+ghost use Rattle.call_state.specs.Judged.{wordsFormed, rowFormed, plannedFormed, tailsFormed, nodesFormed};
+ghost use Rattle.call_state.specs.Judged.{peakedBy, NodesCounted};
 use paper::Current;
 use paper::History;
+use paper::Node;
 use paper::Room;
 use paper::Voltage;
 use paper::kinds;
@@ -133,35 +134,121 @@ fn tails_formed(records: &[i64], rows: usize) -> bool
 {
     let currents = unused(records, sections::CURRENTS + rows, sections::TO_CURRENTS);
     let to_currents = unused(records, sections::TO_CURRENTS + rows, sections::HISTORIES);
-    let histories = unused(records, sections::HISTORIES + rows, sections::END);
+    let histories = unused(records, sections::HISTORIES + rows, sections::PEAKS);
     let rest = unused(records, sections::END, Room::RECORDS);
     currents & (to_currents & (histories & rest))
 }
 
-// All of it. Where the counts are no numbers of steps nothing goes by them.
+// The words of the nodes: voltages and peaks in range, a peak's step one of the study's.
+fn nodes_formed(records: &[i64], nodes: usize, steps: usize) -> bool
+    requires { ⌜ (nodes ≤ Limits.nodeEnd) × (steps ≤ Limits.stepsEnd) × (length (now records) ≡ Limits.recordWords) ⌝ }
+    ensures { λ r. ⌜ r ≡ nodesFormed (was records) nodes steps ⌝ }
+{
+    let volts = section(
+        records,
+        sections::VOLTS,
+        nodes,
+        sections::CURRENTS,
+        Voltage::MAX,
+    );
+    let peaks = section(
+        records,
+        sections::PEAKS,
+        nodes,
+        sections::PEAK_STEPS,
+        Voltage::MAX,
+    );
+    let their_steps = section(
+        records,
+        sections::PEAK_STEPS,
+        nodes,
+        sections::END,
+        steps as i64,
+    );
+    volts & (peaks & their_steps)
+}
+
+// Not "one below the voltage's magnitude, or a step past the count": of a node's voltage, its peak, the peak's step and its area's count.
+fn peak_formed(volt: i64, peak: i64, step: i64, count: usize) -> bool
+    requires { ⌜ count ≤ Limits.stepsEnd ⌝ }
+    ensures { λ r. ⌜ r ≡ peakFormed volt peak step count ⌝ }
+{
+    if peak < 0 {
+        return false;
+    }
+    if step < 0 {
+        return false;
+    }
+    let reached = whole::within(volt, peak);
+    let counted = whole::within(step, count as i64);
+    reached & counted
+}
+
+// The same of node n, which is of an area that is counted.
+fn node_formed(areas: &[usize; Node::PLACES], records: &[i64], n: usize) -> bool
+    requires { ⌜ (1 ≤ n) × (n ≤ Limits.nodeEnd) × (length (now records) ≡ Limits.recordWords) ⌝ }
+    requires { ⌜ CountIn (now records) (getD (now areas) n 0) ⌝ }
+    ensures { λ r. ⌜ r ≡ peakedBy (was areas) (was records) n ⌝ }
+{
+    let count = call_counts::count_of(records, areas[n]);
+    peak_formed(
+        records[sections::VOLTS + n - 1],
+        records[sections::PEAKS + n - 1],
+        records[sections::PEAK_STEPS + n - 1],
+        count,
+    )
+}
+
+// The same of every node.
+fn peaks_formed(areas: &[usize; Node::PLACES], records: &[i64], nodes: usize) -> bool
+    requires { ⌜ NodesCounted (now areas) nodes (now records) × (length (now records) ≡ Limits.recordWords) ⌝ }
+    ensures { λ r. ⌜ r ≡ every (peakedBy (was areas) (was records)) (numbers 1 nodes) ⌝ }
+{
+    let mut all = true;
+    let mut passed = 0;
+    while passed < nodes {
+        passed += 1;
+        let good = node_formed(areas, records, passed);
+        all = all & good;
+    }
+    all
+}
+
+// The records alone. Where the counts are no numbers of steps nothing goes by them.
+pub fn records_formed(
+    plan: &Table,
+    areas: &[usize; Node::PLACES],
+    totals: Totals,
+    records: &[i64],
+) -> bool
+    requires { ⌜ MappedSome (now plan) (now areas) totals × (length (now records) ≡ Limits.recordWords) ⌝ }
+    ensures { λ r. ⌜ ((N : Net) → MappedOf N (was plan) (was areas) totals → r ≡ recordsFormed N (was records)) ⌝ }
+{
+    if !counts_formed(records, totals.areas, totals.steps) {
+        return false;
+    }
+    let nodes = nodes_formed(records, totals.nodes, totals.steps);
+    let rows = rows_formed(plan, records, totals.rows);
+    let unused = tails_formed(records, totals.rows);
+    let peaks = peaks_formed(areas, records, totals.nodes);
+    nodes & (rows & (unused & peaks))
+}
+
+// All of it.
 pub fn well_formed(
     plan: &Table,
+    areas: &[usize; Node::PLACES],
     totals: Totals,
     records: &[i64],
     froms: &[i64],
     tos: &[i64],
 ) -> bool
-    requires { ⌜ OfSome (now plan) totals × Long (now records) (now froms) (now tos) ⌝ }
-    ensures { λ r. ⌜ ((N : Net) → Of N (was plan) totals → r ≡ wellFormed N (was records) (was froms) (was tos)) ⌝ }
+    requires { ⌜ MappedSome (now plan) (now areas) totals × Long (now records) (now froms) (now tos) ⌝ }
+    ensures { λ r. ⌜ ((N : Net) → MappedOf N (was plan) (was areas) totals
+        → r ≡ wellFormed N (was records) (was froms) (was tos)) ⌝ }
 {
-    if !counts_formed(records, totals.areas, totals.steps) {
-        return false;
-    }
-    let volts = section(
-        records,
-        sections::VOLTS,
-        totals.nodes,
-        sections::CURRENTS,
-        Voltage::MAX,
-    );
-    let rows = rows_formed(plan, records, totals.rows);
-    let unused = tails_formed(records, totals.rows);
+    let kept = records_formed(plan, areas, totals, records);
     let from = section(froms, 0, totals.slots, Room::STORE, History::MAX);
     let to = section(tos, 0, totals.slots, Room::STORE, History::MAX);
-    volts & (rows & (unused & (from & to)))
+    kept & (from & to)
 }

@@ -1,12 +1,13 @@
 -- The calls as C sees them: the paper's number for the answer, and beside it the line, the place or the count, or what stopped a listing;
 -- and T-one, that each contract leaves nothing open. Assumes nothing.
-use Rattle.whole.specs.Plain.{ℕ, _+_, _*_, _≡_, sym, _∙_, cond, eqb, eq-eqb, ne-eqb, List, _++_, length, drop, Words}
+use Rattle.whole.specs.Plain.{ℕ, _+_, _*_, _≡_, sym, _∙_, cond, eqb, eq-eqb, ne-eqb, List, _++_, ℤ, length, drop, Words}
 use Rattle.paper.specs.declared.Advance.the-variants.{Store}
 use Rattle.paper.specs.Answers.{readingNumber, readingLine, resettingNumber, advanceNumber, advancePlace, advanceCount}
 use Rattle.paper.specs.Answers.{writingNumber, writingBytes}
 use Rattle.paper.specs.Reading.{readOf}
 use Rattle.paper.specs.Advance.{Memory, Advanced, advanced, advanceOf}
 use Rattle.paper.specs.Resetting.{resetOf}
+use Rattle.paper.specs.Looking.{lookingNumber, toldVoltage, toldPeak, toldStep, lookOf}
 use Rattle.paper.specs.Pieces.{listingNumber, stopArea, stopNumber, stopPlace, listOf}
 use Rattle.paper.specs.Writing.{writeOf}
 
@@ -66,6 +67,15 @@ advance-in-one room net a m p q = (p .answer ∙ sym (q .answer), (p .place-of �
 pub in-room : (net : Words) (a : ℕ) (m : Memory) {x l : ℕ} {v : Memory} → AdvancesIn roomBytes net a m x l v → AdvancesBy net a m x l v
 unfolding advanceIn
 in-room net a m p = record { answer = p .answer; place-of = p .place-of; memory = p .memory }
+
+pub record LooksBy (net recs : Words) (n number : ℕ) (voltage : ℤ) (peak step : ℕ) : Type 0 where
+  pub answer : number ≡ lookingNumber (lookOf net recs n)
+  pub voltage-of : voltage ≡ toldVoltage (lookOf net recs n)
+  pub peak-of : peak ≡ toldPeak (lookOf net recs n)
+  pub step-of : step ≡ toldStep (lookOf net recs n)
+
+pub look-by-one : (net recs : Words) (n : ℕ) {x y p q s t : ℕ} {v w : ℤ} → LooksBy net recs n x v p s → LooksBy net recs n y w q t → (x ≡ y) × ((v ≡ w) × ((p ≡ q) × (s ≡ t)))
+look-by-one net recs n a b = (a .answer ∙ sym (b .answer), (a .voltage-of ∙ sym (b .voltage-of), (a .peak-of ∙ sym (b .peak-of), a .step-of ∙ sym (b .step-of))))
 
 pub record ListsBy (net : Words) (m : Memory) (out : List ℕ) (answered written area number place : ℕ) (b : List ℕ) (after : Memory) : Type 0 where
   pub answer : answered ≡ listingNumber (listOf net m (length out) .answer)

@@ -2,7 +2,7 @@
 // the crates below, by one name.
 ghost use Rattle.whole.specs.Loans.{was, is};
 ghost use Rattle.paper.specs.Lent.{before, after};
-ghost use Rattle.emt.specs.Numbered.{ReadsBy, ResetsBy, AdvancesBy, AdvancesIn, ListsBy, WritesBy};
+ghost use Rattle.emt.specs.Numbered.{ReadsBy, ResetsBy, AdvancesBy, AdvancesIn, LooksBy, ListsBy, WritesBy};
 use call_advance::Legs;
 use paper::Advance;
 use plan_rows::Table;
@@ -86,6 +86,28 @@ pub extern "C" fn emt_advance_in_tables(
     let told = call_advance::advance_in(network, records, froms, tos, area, plan, legs, factors);
     *place = call_answers::place_or_count(told);
     call_answers::advance_number(told)
+}
+
+// A node's voltage, its largest magnitude and the first step where it came: "so that asking doesn't go through the listing".
+pub use call_node::node;
+
+// All three are written whatever the answer is: 0 of a refusal.
+#[no_mangle]
+pub extern "C" fn emt_node(
+    network: &[i64],
+    records: &[i64],
+    node: usize,
+    voltage: &mut i64,
+    peak: &mut u64,
+    step: &mut u64,
+) -> u64
+    ensures { λ r. ⌜ LooksBy (was network) (was records) node r (is voltage) (is peak) (is step) ⌝ }
+{
+    let answer = call_node::node(network, records, node);
+    *voltage = call_answers::told_voltage(answer);
+    *peak = call_answers::told_peak(answer);
+    *step = call_answers::told_step(answer);
+    call_answers::looking_number(answer)
 }
 
 // Advances all areas in rising order, full step after full step, and lists each, until the next might not fit into the buffer, an area is refused or all

@@ -2,6 +2,7 @@
 use Rattle.whole.specs.Plain.{ℕ, _≡_, refl, Bool, true, false, _&&_, eqb, length, eqb-true, Words}
 use Rattle.paper.specs.declared.Advance.the-variants.{Store, Network, State}
 use Rattle.whole.specs.Folds.{and-left, and-right}
+use Rattle.paper.specs.Limits as Limits
 use Rattle.paper.specs.Network.{isNetwork}
 use Rattle.paper.specs.Areas.{Net}
 use Rattle.paper.specs.Records.{wellFormed}
@@ -19,22 +20,22 @@ pub record Judged (net : Words) (m : Memory) : Type 0 where
 pub fits-long : (net : Words) (m : Memory) → fits net m ≡ true → Long m
 unfolding fits
 fits-long net m e = record {
-  records = eqb-true (length (m .records)) 512 (and-right n r e₂);
-  froms = eqb-true (length (m .froms)) 4096 (and-right (n && r) f e₃);
-  tos = eqb-true (length (m .tos)) 4096 (and-right (n && r && f) t e);
+  records = eqb-true (length (m .records)) Limits.recordWords (and-right n r e₂);
+  froms = eqb-true (length (m .froms)) Limits.storeWords (and-right (n && r) f e₃);
+  tos = eqb-true (length (m .tos)) Limits.storeWords (and-right (n && r && f) t e);
 }
   where
     n : Bool
-    n = eqb (length net) 1024
+    n = eqb (length net) Limits.networkWords
 
     r : Bool
-    r = eqb (length (m .records)) 512
+    r = eqb (length (m .records)) Limits.recordWords
 
     f : Bool
-    f = eqb (length (m .froms)) 4096
+    f = eqb (length (m .froms)) Limits.storeWords
 
     t : Bool
-    t = eqb (length (m .tos)) 4096
+    t = eqb (length (m .tos)) Limits.storeWords
 
     e₃ : n && r && f ≡ true
     e₃ = and-left (n && r && f) t e

@@ -7,7 +7,7 @@ use Rattle.paper.specs.Rows.{isBranch, isR, isL, isC, isLine, isSwitch, isFixin
 use Rattle.paper.specs.Conductance.{conductance}
 use Rattle.paper.specs.Areas.{Net, areaOf, areaCount, rowArea, step, fixed, freeOf}
 use Rattle.paper.specs.Sources.{source, injected}
-use Rattle.paper.specs.Records.{countAt, voltAt, currentAt, toCurrentAt, historyAt, countOf, ownerOf}
+use Rattle.paper.specs.Records.{countAt, voltAt, currentAt, toCurrentAt, historyAt, peakAt, peakStepAt, newPeak, newPeakStep, countOf, ownerOf}
 use Rattle.paper.specs.Legs.{Branch, bothLegs, received, heard, isOpen, legsOf}
 use Rattle.paper.specs.Doubles.{asVoltage, nearestOf}
 use Rattle.paper.specs.Elimination.{voltages}
@@ -30,6 +30,13 @@ pub record IsArea (N : Net) (a : ℕ) : Type 0 where
 abbrev pub voltage : Net → Memory → ℕ → ℤ
 voltage N m zero = z
 voltage N m (suc n) = word (m .records) (voltAt N (suc n))
+
+-- a node's peak and the peak's step (02)
+abbrev pub peakIn : Net → Memory → ℕ → ℤ
+peakIn N m p = word (m .records) (peakAt N p)
+
+abbrev pub peakStepIn : Net → Memory → ℕ → ℤ
+peakStepIn N m p = word (m .records) (peakStepAt N p)
 
 -- of the row in place i: the current that leaves its from node, that which leaves a line's to node, and the history
 abbrev pub fromCurrent : Memory → ℕ → ℤ
@@ -117,6 +124,9 @@ pub record Offered (N : Net) (a k : ℕ) (m n : Memory) : Type 0 where
   pub fixed-node : (p i : ℕ) → NodeOf N a p → i < length (N .rows) → isFixing (rowAt N i) ≡ true → at (rowAt N i) ≡ p → voltage N n p ≡ source N k (rowAt N i)
   -- a free node has the double of the stated elimination, rounded to the nearest whole number
   pub free-node : (q : ℕ) → q < length (freeOf N a) → nearestOf (getD (solution N a k m) q nan) ≡ asVoltage (voltage N n (getD (freeOf N a) q 0))
+  -- "each node's largest magnitude and the first step where it came" (02), fixed nodes' too
+  pub peak : (p : ℕ) → NodeOf N a p → peakIn N n p ≡ newPeak k (voltage N n p) (peakIn N m p)
+  pub peak-step : (p : ℕ) → NodeOf N a p → peakStepIn N n p ≡ newPeakStep k (voltage N n p) (peakIn N m p) (peakStepIn N m p)
   -- each branch of the area obeys its own equation
   pub plain : (i : ℕ) → i < length (N .rows) → isBranch (rowAt N i) ≡ true → isLine (rowAt N i) ≡ false → rowArea N (rowAt N i) ≡ a → Obeys N k m n i
   pub from-end : (i : ℕ) → i < length (N .rows) → isLine (rowAt N i) ≡ true → areaOf N (from (rowAt N i)) ≡ a

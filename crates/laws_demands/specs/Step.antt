@@ -1,5 +1,5 @@
 -- T-step: the step that 16 and 17 judge is the offer of the branch equations, and an accepted step writes it. Assumes nothing.
-use Rattle.whole.specs.Plain.{ℕ, _≡_, refl, sym, ap, _∙_, inr, getD, eq-eqb, Words, word}
+use Rattle.whole.specs.Plain.{ℕ, _≡_, refl, sym, ap, _∙_, inr, ℤ, getD, eq-eqb, Words, word}
 use Rattle.paper.specs.declared.Advance.the-variants.{Took}
 use Rattle.paper.specs.Doubles.{asVoltage}
 use Rattle.whole.specs.Folds.{and-left, and-right, both}
@@ -8,14 +8,15 @@ use Rattle.paper.specs.Answers.{accepted}
 use Rattle.paper.specs.Rows.{isLine, at}
 use Rattle.paper.specs.Faults.{fixes}
 use Rattle.paper.specs.Areas.{Net, freeOf}
+use Rattle.paper.specs.Records.{newPeak, newPeakStep}
 use Rattle.paper.specs.Advance.{Memory, Advanced, written, advanceOf}
 use Rattle.laws_facts.specs.Nets.{rowAt, netIn}
 use Rattle.laws_local.specs.Own.{from-own, to-own}
 use Rattle.laws_local.specs.Nodes.{NodeOf, free-of}
-use Rattle.laws_local.specs.Written.{count-put, records-keep}
+use Rattle.laws_local.specs.Written.{count-put, peak-put, peak-step-put, records-keep}
 use Rattle.laws_local.specs.Slots.{sent-other}
 use Rattle.laws_local.specs.Outcome.{stepOf, legsNow, taken}
-use Rattle.laws_demands.specs.Said.{voltage, offer, Offered, Stepped}
+use Rattle.laws_demands.specs.Said.{voltage, peakIn, peakStepIn, offer, Offered, Stepped}
 use Rattle.laws_demands.specs.Judged.{Asked, asked, call-of}
 use Rattle.laws_demands.specs.Volts.{fixed-volt, free-whole}
 use Rattle.laws_demands.specs.Branches.{Now, now, snd, volt-of, plain-obeys, from-obeys, to-obeys}
@@ -36,6 +37,8 @@ module _ (N : Net) (a : ℕ) (m : Memory) (ok : Asked N a m) where
     count = count-put N a k (m .records) ears v (snd N a m ok) (m .records) (ok .long .records) (ok .area .one) (ok .area .most);
     fixed-node = λ p i h l e q. volt p h ∙ fixed-volt N (ok .net) a k (legsNow N a m) p i h l (both e (eq-eqb (at (rowAt N i)) p q));
     free-node = λ q h. free-whole N (ok .net) a k (legsNow N a m) (all-inside N a m ok r) q h ∙ ap asVoltage (sym (volt (getD (freeOf N a) q 0) (free-of N a (among-at (freeOf N a) q 0 h) .0)));
+    peak = λ p h. peak-put N a k (m .records) ears v (snd N a m ok) (m .records) (ok .long .records) p h ∙ ap (λ (x : ℤ). newPeak k x (peakIn N m p)) (sym (volt p h));
+    peak-step = λ p h. peak-step-put N a k (m .records) ears v (snd N a m ok) (m .records) (ok .long .records) p h ∙ ap (λ (x : ℤ). newPeakStep k x (peakIn N m p) (peakStepIn N m p)) (sym (volt p h));
     plain = plain-obeys N a m ok;
     from-end = from-obeys N a m ok;
     to-end = to-obeys N a m ok;

@@ -1,12 +1,13 @@
 -- Two memories over which the same step writes: each word of them is left alone in both, or is the same in both afterwards. Assumes nothing.
-use Rattle.whole.specs.Plain.{ℕ, zero, suc, _-_, _≤_, _<_, _≡_, refl, sym, _∙_, _⊎_, inl, inr, Bool, true, false, List}
-use Rattle.whole.specs.Plain.{[], _∷_, ℤ, length, set, length-set, getD-set-other, suc-inj, suc-ne-zero, ℕ-discrete}
+use Rattle.whole.specs.Plain.{ℕ, zero, suc, _-_, _≤_, _<_, _≡_, refl, sym, ap, _∙_, _⊎_, inl, inr, Bool, true, false, List}
+use Rattle.whole.specs.Plain.{_+_, [], _∷_, ltb, ℤ, length, set, length-set, getD-set-other, suc-inj, suc-ne-zero, ℕ-discrete}
 use Rattle.whole.specs.Plain.{decLt, arith, Words, z, word}
 use Rattle.whole.specs.Members.{Among, All, all-among}
 use Rattle.whole.specs.Turns.{run, turns}
-use Rattle.paper.specs.Areas.{Net}
-use Rattle.paper.specs.Records.{Section, sections, ownerOf, nextOf}
-use Rattle.paper.specs.Apart.{next-of, owned}
+use Rattle.paper.specs.Limits as Limits
+use Rattle.paper.specs.Areas.{Net, areaOf}
+use Rattle.paper.specs.Records.{peakAt, peakStepAt, Section, peaks, peakSteps, sections, ownerOf, nextOf}
+use Rattle.paper.specs.Apart.{peaks-in, peakSteps-in, owner-of, next-of, owned}
 use Rattle.paper.specs.Legs.{End, Branch}
 use Rattle.paper.specs.Advance.{putIf, found, newRecords, putSent, newStore}
 use Rattle.laws_local.specs.Written.{records-keep, records-own, records-past}
@@ -58,11 +59,25 @@ untouched : (w w′ : Words) (j : ℕ) → length w ≡ length w′ → Alike w 
 untouched w w′ j e = record { long = e; touch = inl (refl, refl) }
 
 -- what a step writes is made of its area's own words
-next-same : (N : Net) (a k : ℕ) (bs : List Branch) (v w w′ : Words) → ((j : ℕ) → ownerOf N j ≡ a → word w j ≡ word w′ j)
-    → {s : Section} → Among s sections → (i : ℕ) → s .next N (found k bs v w) i ≡ s .next N (found k bs v w′) i
-unfolding sections All
-next-same N a k bs v w w′ own =
-    all-among (λ s. (i : ℕ) → s .next N (found k bs v w) i ≡ s .next N (found k bs v w′) i) sections (λ i. refl, (λ i. refl, (λ i. refl, (λ i. refl, (λ i. refl, tt)))))
+module _ (N : Net) (a k : ℕ) (bs : List Branch) (v w w′ : Words) (own : (j : ℕ) → ownerOf N j ≡ a → word w j ≡ word w′ j) where
+  abbrev Same : Section → Type 0
+  Same s = (i : ℕ) → i < s .words → s .used N i ≡ true → s .area N i ≡ a → s .next N (found k bs v w) i ≡ s .next N (found k bs v w′) i
+
+  own-same : {s : Section} → Among s sections → (i j : ℕ) → i < s .words → s .used N i ≡ true → s .area N i ≡ a → j ≡ s .start + i → word w j ≡ word w′ j
+  own-same m i j l u o e = own j (ap (ownerOf N) e ∙ owner-of N m i l ∙ rw u o)
+
+  peak-same : (i : ℕ) → i < Limits.nodeEnd → ltb i (N .nodes) ≡ true → areaOf N (suc i) ≡ a → word w (peakAt N (suc i)) ≡ word w′ (peakAt N (suc i))
+  peak-same i l u o = own-same peaks-in i _ l u o (omega arith)
+
+  next-same : {s : Section} → Among s sections → Same s
+  unfolding sections All
+  next-same = all-among Same sections (λ i _ _ _. refl, (λ i _ _ _. refl, (λ i _ _ _. refl, (λ i _ _ _. refl, (λ i _ _ _. refl, (to-peak, (to-step, tt)))))))
+    where
+      to-peak : Same peaks
+      to-peak i l u o = rw (peak-same i l u o)
+
+      to-step : Same peakSteps
+      to-step i l u o = rw (peak-same i l u o, own-same peakSteps-in i (peakStepAt N (suc i)) l u o (omega arith))
 
 pub records-touch : (N : Net) (a k : ℕ) (bs : List Branch) (v w w′ : Words) (j : ℕ) → 1 ≤ a → length w ≡ length w′ → ((j : ℕ) → ownerOf N j ≡ a → word w j ≡ word w′ j)
     → Touch w (newRecords N a k bs v w) w′ (newRecords N a k bs v w′) j
@@ -71,9 +86,10 @@ records-touch N a k bs v w w′ j one e own = go (ℕ-discrete (ownerOf N j) a) 
     go : Dec (ownerOf N j ≡ a) → Dec (j < length w) → Touch w (newRecords N a k bs v w) w′ (newRecords N a k bs v w′) j
     go (no n) l = inl (records-keep N a k bs v w j n, records-keep N a k bs v w′ j n)
     go (yes o) (yes l) =
-        let s = owned N a j one o .at in
+        let p = owned N a j one o in
+        let s = p .at in
         let same : nextOf N (found k bs v w) j ≡ nextOf N (found k bs v w′) j =
-        rw (s .is, next-of N (s .among) (s .place) (s .inside) (found k bs v w), next-of N (s .among) (s .place) (s .inside) (found k bs v w′)) (next-same N a k bs v w w′ own (s .among) (s .place)) in
+        rw (s .is, next-of N (s .among) (s .place) (s .inside) (found k bs v w), next-of N (s .among) (s .place) (s .inside) (found k bs v w′)) (next-same N a k bs v w w′ own (s .among) (s .place) (s .inside) (p .used) (p .area)) in
         inr (records-own N a k bs v w j l o ∙ same ∙ sym (records-own N a k bs v w′ j (omega arith) o))
     go (yes o) (no l) = inr (records-past N a k bs v w j (omega arith) ∙ sym (records-past N a k bs v w′ j (omega arith)))
 

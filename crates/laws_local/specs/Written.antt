@@ -1,12 +1,14 @@
 -- The records after an accepted step: the words of its area, what it puts there, and that it writes no others. Assumes nothing.
-use Rattle.whole.specs.Plain.{ℕ, zero, suc, _+_, _-_, _≤_, _<_, _≡_, refl, ap, _∙_, _≢_, true, _&&_, _||_, List, []}
-use Rattle.whole.specs.Plain.{_∷_, pos, length, List·getD-eq-default, eq-eqb, ne-eqb, lt-ltb, arith, Words, z, word}
+use Rattle.whole.specs.Plain.{ℕ, zero, suc, _+_, _-_, _≤_, _<_, _≡_, refl, sym, ap, _∙_, subst, _≢_, true, cond, _&&_, _||_, List, []}
+use Rattle.whole.specs.Plain.{_∷_, ltb, pos, length, List·getD-eq-default, eq-eqb, ne-eqb, lt-ltb, arith, Words, z, word}
 use Rattle.whole.specs.Folds.{and-left, and-right}
 use Rattle.whole.specs.Members.{Among}
+use Rattle.paper.specs.Limits as Limits
 use Rattle.paper.specs.Rows.{isLine, isL, isC}
-use Rattle.paper.specs.Areas.{Net, areaCount}
-use Rattle.paper.specs.Records.{countAt, voltAt, currentAt, toCurrentAt, historyAt, Found, Section, sections, spot, ownerIn, ownerOf, nextOf}
-use Rattle.paper.specs.Apart.{counts-in, voltages-in, currents-in, toCurrents-in, histories-in, owner-of, next-of}
+use Rattle.paper.specs.Areas.{Net, areaOf, areaCount}
+use Rattle.paper.specs.Records.{countAt, voltAt, currentAt, toCurrentAt, historyAt, peakAt, peakStepAt, Found, Section, newPeak, newPeakStep, sections}
+use Rattle.paper.specs.Records.{spot, ownerIn, ownerOf, nextOf}
+use Rattle.paper.specs.Apart.{counts-in, voltages-in, currents-in, toCurrents-in, histories-in, peaks-in, peakSteps-in, owner-of, next-of}
 use Rattle.paper.specs.Legs.{Branch, Heard, legsBy, legsOf, current, passedOn}
 use Rattle.paper.specs.Advance.{renewed, found, newRecords}
 use Rattle.laws_facts.specs.Nets.{rowAt}
@@ -56,6 +58,31 @@ module _ (N : Net) (a k : ℕ) (bs : List Branch) (v w : Words) where
       → word (newRecords N a k bs v w) (s .start + i) ≡ s .next N (found k bs v w) i
   section-own m i h l o = records-own _ l (owner-of N m i h ∙ o) ∙ next-of N m i h (found k bs v w)
 
+  -- the same, of another area
+  pub section-keep : {s : Section} → Among s sections → (i : ℕ) → i < s .words → ownerIn N (spot s i) ≢ a → word (newRecords N a k bs v w) (s .start + i) ≡ word w (s .start + i)
+  section-keep m i h n = records-keep _ (λ e. n (sym (owner-of N m i h) ∙ e))
+
+-- ---- a node's words are its area's
+
+node-own : (N : Net) (a j : ℕ) → NodeOf N a (suc j) → cond (ltb j (N .nodes)) (areaOf N (suc j)) 0 ≡ a
+node-own N a j h = rw (lt-ltb j (N .nodes) (omega (arith, h .high))) (h .area)
+
+module _ (N : Net) (a : ℕ) (f : Sound N) where
+  own-at : {s : Section} → Among s sections → (j i : ℕ) → j < s .words → i ≡ s .start + j → ownerIn N (spot s j) ≡ a → ownerOf N i ≡ a
+  own-at m j i h e o = ap (ownerOf N) e ∙ owner-of N m j h ∙ o
+
+  pub volt-own : (n : ℕ) → NodeOf N a n → ownerOf N (voltAt N n) ≡ a
+  volt-own zero h = absurd (omega (arith, h .low))
+  volt-own (suc j) h = own-at voltages-in j _ (omega (arith, h .high, f .nodes)) (omega arith) (node-own N a j h)
+
+  pub peak-own : (n : ℕ) → NodeOf N a n → ownerOf N (peakAt N n) ≡ a
+  peak-own zero h = absurd (omega (arith, h .low))
+  peak-own (suc j) h = own-at peaks-in j _ (omega (arith, h .high, f .nodes)) (omega arith) (node-own N a j h)
+
+  pub peak-step-own : (n : ℕ) → NodeOf N a n → ownerOf N (peakStepAt N n) ≡ a
+  peak-step-own zero h = absurd (omega (arith, h .low))
+  peak-step-own (suc j) h = own-at peakSteps-in j _ (omega (arith, h .high, f .nodes)) (omega arith) (node-own N a j h)
+
 -- ---- section by section
 
 module _ (N : Net) (a k : ℕ) (recs : Words) (ears : List Heard) (v : Words) where
@@ -68,7 +95,7 @@ module _ (N : Net) (a k : ℕ) (recs : Words) (ears : List Heard) (v : Words) wh
   abbrev pub new : Words → Words
   new w = newRecords N a k bs v w
 
-  module _ (f : Sound N) (w : Words) (long : length w ≡ 512) where
+  module _ (f : Sound N) (w : Words) (long : length w ≡ Limits.recordWords) where
     -- "an accepted advance answers the area's new count"
     pub count-put : 1 ≤ a → a ≤ areaCount N → word (new w) (countAt a) ≡ pos k
     count-put one most =
@@ -81,6 +108,39 @@ module _ (N : Net) (a k : ℕ) (recs : Words) (ears : List Heard) (v : Words) wh
         let q : suc (n - 1) ≡ n = omega (arith, h .low) in
         rw e (section-own N a k bs v w voltages-in (n - 1) (omega (arith, h .low, h .high, f .nodes)) (omega (arith, h .low, h .high, f .nodes))
         (rw (lt-ltb (n - 1) (N .nodes) (omega (arith, h .low, h .high)), q) (h .area)) ∙ ap (word v) q)
+
+    -- a node's words: as they were where the node is of another area
+    module _ (n : ℕ) (low : 1 ≤ n) (high : n ≤ N .nodes) (other : areaOf N n ≢ a) where
+      node-other : {x : ℕ} → x ≡ n → cond (ltb (n - 1) (N .nodes)) (areaOf N x) 0 ≢ a
+      node-other e q = other (sym (ap (areaOf N) e) ∙ (rw (lt-ltb (n - 1) (N .nodes) (omega arith)) at q))
+
+      abbrev Stay : ℕ → Type 0
+      Stay j = word (new w) j ≡ word w j
+
+      node-keep : (j i : ℕ) → i ≡ j → Stay i → Stay j
+      node-keep j i e = subst Stay e
+
+      pub volt-keep : Stay (voltAt N n)
+      volt-keep = node-keep _ (32 + (n - 1)) (omega arith) (section-keep N a k bs v w voltages-in (n - 1) (omega (arith, f .nodes)) (node-other (omega arith)))
+
+      pub peak-keep : Stay (peakAt N n)
+      peak-keep = node-keep _ (304 + (n - 1)) (omega arith) (section-keep N a k bs v w peaks-in (n - 1) (omega (arith, f .nodes)) (node-other (omega arith)))
+
+      pub peak-step-keep : Stay (peakStepAt N n)
+      peak-step-keep = node-keep _ (336 + (n - 1)) (omega arith) (section-keep N a k bs v w peakSteps-in (n - 1) (omega (arith, f .nodes)) (node-other (omega arith)))
+
+    -- "each node's largest magnitude and the first step where it came" (02)
+    pub peak-put : (n : ℕ) → NodeOf N a n → word (new w) (peakAt N n) ≡ newPeak k (word v n) (word w (peakAt N n))
+    peak-put zero h = absurd (omega (arith, h .low))
+    peak-put (suc j) h =
+        let e : 304 + suc j - 1 ≡ 304 + j = omega arith in
+        ap (word (new w)) e ∙ section-own N a k bs v w peaks-in j (omega (arith, h .high, f .nodes)) (omega (arith, h .high, f .nodes)) (node-own N a j h)
+
+    pub peak-step-put : (n : ℕ) → NodeOf N a n → word (new w) (peakStepAt N n) ≡ newPeakStep k (word v n) (word w (peakAt N n)) (word w (peakStepAt N n))
+    peak-step-put zero h = absurd (omega (arith, h .low))
+    peak-step-put (suc j) h =
+        let e : 336 + suc j - 1 ≡ 336 + j = omega arith in
+        ap (word (new w)) e ∙ section-own N a k bs v w peakSteps-in j (omega (arith, h .high, f .nodes)) (omega (arith, h .high, f .nodes)) (node-own N a j h)
 
     module _ (i : ℕ) (h : i < length (N .rows)) where
       pub current-put : by i .fromEnd .own ≡ true → word (new w) (currentAt i) ≡ current v (by i .fromEnd .wire)

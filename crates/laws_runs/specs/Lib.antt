@@ -3,6 +3,7 @@ pub mod Moves
 pub mod Orders
 pub mod Refused
 pub mod Received
+pub mod Lived
 pub mod Heard
 pub mod Lines
 pub mod Words

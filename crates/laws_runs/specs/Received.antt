@@ -63,7 +63,7 @@ pub record Sent (net : Words) (m : Memory) (w : List ℕ) (s : Side) (i x : ℕ)
   pub step : StepIn net m w (areaAt (netIn net) s i) x
   pub value : y ≡ word (storeOf s (right-after net m w (areaAt (netIn net) s i) x step)) (slotOf (netIn net) i x)
 
-after-snoc : (net : Words) (w : List ℕ) (c : ℕ) (m : Memory) → after net (w ++ (c ∷ [])) m ≡ advanceOf net c (after net w m) .after
+pub after-snoc : (net : Words) (w : List ℕ) (c : ℕ) (m : Memory) → after net (w ++ (c ∷ [])) m ≡ advanceOf net c (after net w m) .after
 unfolding after
 after-snoc net [] c m = refl
 after-snoc net (a ∷ w) c m = after-snoc net w c (advanceOf net a m .after)

@@ -3,6 +3,7 @@
 use Rattle.whole.specs.Plain.{ℕ, suc, _+_, _≤_, _≡_, refl, sym, ap, _∙_, subst, _≢_, Bool, true, false, _&&_, List, []}
 use Rattle.whole.specs.Plain.{_∷_, eqb, length, eqb-true, eqb-false, arith, Words, z, nat}
 use Rattle.paper.specs.declared.Advance.{Advance}
+use Rattle.paper.specs.Limits as Limits
 use Rattle.paper.specs.Answers.{accepted, advanceNumber}
 use Rattle.paper.specs.Rows.{from, to}
 use Rattle.paper.specs.Areas.{areaOf}
@@ -97,7 +98,7 @@ module _ (net : Words) (lent : Memory) (ok : Lent net lent) where
   pub counts-are : (a : ℕ) → IsArea N a → (w : List ℕ) → count a (at w) ≡ taken net a w start
   unfolding fresh
   counts-are a h w =
-      let z : count a start ≡ 0 = ap (count a) (starts net lent ok) ∙ ap nat (zero-word 512 (countAt a)) in
+      let z : count a start ≡ 0 = ap (count a) (starts net lent ok) ∙ ap nat (zero-word Limits.recordWords (countAt a)) in
       counts-from a h w start (start-inv net lent ok) ∙ omega arith
 
   -- T-fewest: an area that no other one is behind is never told to wait

@@ -1,6 +1,6 @@
 -- Every word that an accepted step writes is within its end. Assumes nothing.
-use Rattle.whole.specs.Plain.{ℕ, suc, _%_, _≤_, _<_, _≡_, Bool, true, _&&_, List, ℤ, natAbs, length, getD-replicate}
-use Rattle.whole.specs.Plain.{mod-lt, ℕ-discrete, decLt, arith, Words, word}
+use Rattle.whole.specs.Plain.{ℕ, suc, _+_, _%_, _≤_, _<_, _≡_, refl, Bool, true, _&&_, List, ltb, ℤ, natAbs, length}
+use Rattle.whole.specs.Plain.{getD-replicate, ltb-true, le-trans, mod-lt, ℕ-discrete, decLt, arith, Words, word}
 use Rattle.whole.specs.Members.{Among, All, all-among}
 use Rattle.whole.specs.Folds.{and-left}
 use Rattle.whole.specs.TurnLaws.{turns-keeps}
@@ -8,8 +8,9 @@ use Rattle.paper.specs.Classes.{line-branch}
 use Rattle.paper.specs.Limits as Limits
 use Rattle.paper.specs.Rows.{isLine, steps}
 use Rattle.paper.specs.Areas.{Net, areaCount}
-use Rattle.paper.specs.Records.{slotCount, Found, Section, currents, toCurrents, histories, sections, endOf, ownerOf}
-use Rattle.paper.specs.Apart.{end-of, next-of, owned}
+use Rattle.paper.specs.Records.{peakAt, peakStepAt, slotCount, Found, Section, currents, toCurrents, histories, outdone, newPeak, newPeakStep, peaks, peakSteps, sections, endOf, ownerOf}
+use Rattle.paper.specs.Apart.{peaks-in, peakSteps-in, end-of, end-most, next-of, owned}
+use Rattle.paper.specs.Kept.{either}
 use Rattle.paper.specs.Legs.{End, Branch, Heard, heard, legsBy, legsOf, branchIn, passedOn}
 use Rattle.paper.specs.Advance.{Memory, putIf, found, newRecords, putSent, newStore}
 use Rattle.laws_facts.specs.Nets.{NetSound, rowAt}
@@ -57,8 +58,8 @@ module _ (N : Net) (s : NetSound N) (m : Memory) (f : Formed N m) (a k : ℕ) (o
     branch-at = branch-is N a k (m .records) ears
 
     small : {s : Section} → Among s sections → Small s
-    unfolding sections All
-    small = all-among Small sections (λ i u. room, (λ i u. volts (suc i), (from-small, (to-small, (history-small, tt)))))
+    unfolding sections All newPeak newPeakStep
+    small = all-among Small sections (λ i u. room, (λ i u. volts (suc i), (from-small, (to-small, (history-small, (peak-small, (step-small, tt)))))))
       where
         from-small : Small currents
         from-small i u = rw (branch-at i (row-there N i u)) (current-size v (by i .fromEnd .wire) volts (ends-ranged N m f s a k i .0))
@@ -70,6 +71,18 @@ module _ (N : Net) (s : NetSound N) (m : Memory) (f : Formed N m) (a k : ℕ) (o
         history-small i u =
             let h = row-there N i (keeper (rowAt N i) u) in
             rw (branch-at i h, row-is N a k (m .records) ears i) (inside i h .atFrom)
+
+        -- a node's word as it was
+        stood : {s : Section} → Among s sections → s .words ≡ Limits.nodeEnd → (i j : ℕ) → ltb i (N .nodes) ≡ true → j ≡ s .start + i → natAbs (word (m .records) j) ≤ s .end N
+        stood among e i j u q = le-trans (f .records j) (rw q (end-most N among i (omega (arith, ltb-true i (N .nodes) u, s .nodeMost))))
+
+        peak-small : Small peaks
+        peak-small i u =
+            either (λ (x : ℤ). natAbs x ≤ Limits.voltageEnd) (outdone k (word v (suc i)) (word (m .records) (peakAt N (suc i)))) _ _ (volts (suc i)) (stood peaks-in refl i (peakAt N (suc i)) u (omega arith))
+
+        step-small : Small peakSteps
+        step-small i u =
+            either (λ (x : ℤ). natAbs x ≤ steps (N .head)) (outdone k (word v (suc i)) (word (m .records) (peakAt N (suc i)))) _ _ room (stood peakSteps-in refl i (peakStepAt N (suc i)) u (omega arith))
 
     pub records-bounded : Bounded (endOf N) (newRecords N a k bs v (m .records))
     records-bounded j = go (ℕ-discrete (ownerOf N j) a) (decLt j (length (m .records)))

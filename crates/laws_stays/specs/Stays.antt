@@ -1,12 +1,12 @@
 -- T-fresh and T-stays: what reset writes is well formed, and a call leaves a well-formed state well formed. Assumes nothing.
-use Rattle.whole.specs.Plain.{ℕ, zero, suc, _+_, _-_, _≤_, _<_, _≡_, refl, sym, ap, _∙_, _≢_, Bool, true, false, List}
-use Rattle.whole.specs.Plain.{nonNeg, length, replicate, ℕ-discrete, arith, Words, z, word, nat}
+use Rattle.whole.specs.Plain.{ℕ, zero, suc, _+_, _-_, _≤_, _<_, _≡_, refl, sym, ap, _∙_, _≢_, Bool, true, false, cond, _||_, List}
+use Rattle.whole.specs.Plain.{true≢false, eqb, ℤ, pos, negsuc, natAbs, ltZ, nonNeg, length, replicate, ltb-false, ℕ-discrete, arith, Words, z, word, nat}
 use Rattle.paper.specs.declared.Advance.{Advance}
 use Rattle.paper.specs.Limits as Limits
 use Rattle.paper.specs.Answers.{accepted}
 use Rattle.paper.specs.Rows.{from, to, steps}
 use Rattle.paper.specs.Areas.{Net, areaOf, areaCount}
-use Rattle.paper.specs.Records.{countAt, countOf, wellFormed}
+use Rattle.paper.specs.Records.{countAt, voltAt, peakAt, peakStepAt, countOf, outdone, newPeak, newPeakStep, wellFormed}
 use Rattle.paper.specs.Legs.{Branch, Heard, heard, legsBy}
 use Rattle.paper.specs.Solve.{stop, move, solve}
 use Rattle.paper.specs.Advance.{Memory, written, onNet}
@@ -14,11 +14,12 @@ use Rattle.paper.specs.Resetting.{fresh}
 use Rattle.laws_facts.specs.Nets.{NetSound, rowAt, area-of}
 use Rattle.laws_local.specs.Sound.{Sound, sound}
 use Rattle.laws_local.specs.Own.{other-count}
-use Rattle.laws_local.specs.Written.{new, records-length, records-keep, count-put}
+use Rattle.laws_local.specs.Nodes.{NodeOf}
+use Rattle.laws_local.specs.Written.{new, records-length, records-keep, count-put, volt-put, volt-keep, peak-put, peak-keep, peak-step-put, peak-step-keep}
 use Rattle.laws_local.specs.Slots.{delayAt, sent-length}
 use Rattle.laws_local.specs.Waits.{Free, not-late}
 use Rattle.laws_local.specs.Outcome.{stepOf, legsNow, voltsOf, large, Taken, taken, refused, Solving, floats, leaves, tips, exceeds, solves, solving}
-use Rattle.laws_stays.specs.Formed.{Formed, formed, well-formed}
+use Rattle.laws_stays.specs.Formed.{Peaked, Formed, formed, well-formed}
 use Rattle.laws_stays.specs.Volts.{AllVolts, step-volts}
 use Rattle.laws_stays.specs.Sizes.{InRange, none-beyond}
 use Rattle.laws_stays.specs.Bounds.{records-bounded, froms-bounded, tos-bounded}
@@ -34,12 +35,17 @@ fresh-formed : (N : Net) → Formed N fresh
 unfolding fresh
 fresh-formed N =
     record {
-      signs = λ j _ _. rw (zero-word 512 j);
-      records = λ j. rw (zero-word 512 j) (omega arith);
-      from-near = λ i _ _. rw (zero-word 512 (countAt (areaOf N (from (rowAt N i)))), zero-word 512 (countAt (areaOf N (to (rowAt N i))))) (omega arith);
-      to-near = λ i _ _. rw (zero-word 512 (countAt (areaOf N (from (rowAt N i)))), zero-word 512 (countAt (areaOf N (to (rowAt N i))))) (omega arith);
-      froms = λ j. rw (zero-word 4096 j) (omega arith);
-      tos = λ j. rw (zero-word 4096 j) (omega arith);
+      signs = λ j _ _. rw (zero-word Limits.recordWords j);
+      records = λ j. rw (zero-word Limits.recordWords j) (omega arith);
+      from-near = λ i _ _. rw (zero-word Limits.recordWords (countAt (areaOf N (from (rowAt N i)))), zero-word Limits.recordWords (countAt (areaOf N (to (rowAt N i))))) (omega arith);
+      to-near = λ i _ _. rw (zero-word Limits.recordWords (countAt (areaOf N (from (rowAt N i)))), zero-word Limits.recordWords (countAt (areaOf N (to (rowAt N i))))) (omega arith);
+      peaks = λ n _ _.
+          let v : word (replicate Limits.recordWords z) (voltAt N n) ≡ z = zero-word Limits.recordWords (voltAt N n) in
+          let p : word (replicate Limits.recordWords z) (peakAt N n) ≡ z = zero-word Limits.recordWords (peakAt N n) in
+          let s : word (replicate Limits.recordWords z) (peakStepAt N n) ≡ z = zero-word Limits.recordWords (peakStepAt N n) in
+          record { peak-sign = rw p; step-sign = rw s; reached = rw (v, p) (omega arith); counted = rw s (omega arith) };
+      froms = λ j. rw (zero-word Limits.storeWords j) (omega arith);
+      tos = λ j. rw (zero-word Limits.storeWords j) (omega arith);
     }
 
 pub fresh-well : (N : Net) → wellFormed N (fresh .records) (fresh .froms) (fresh .tos) ≡ true
@@ -77,6 +83,52 @@ module _ (N : Net) (f : Sound N) (m : Memory) (long : Long m) (a k : ℕ) (one :
           let h : countOf (m .records) x ≤ countOf (m .records) a + d = rw q at old in
           rw (q, counted, uncounted x x1 x32 p) (omega arith)
       go (no p) (no q) = rw (uncounted x x1 x32 p, uncounted y y1 y32 q) old
+
+  -- a node of the area: its peak is not below its new voltage's magnitude, and the peak's step is k or, as it was, not past the count before
+  module _ (n : ℕ) (h : NodeOf N a n) (old : Peaked N (m .records) n) (later : countOf (m .records) a ≤ k) where
+    abbrev x : ℤ
+    x = word v n
+
+    abbrev p : ℤ
+    p = word (m .records) (peakAt N n)
+
+    abbrev s : ℤ
+    s = word (m .records) (peakStepAt N n)
+
+    not-outdone : (b : Bool) (q : ℤ) → nonNeg q ≡ true → (b || ltZ q (pos (natAbs x))) ≡ false → natAbs x ≤ natAbs q
+    not-outdone true q r e = absurd (true≢false e)
+    not-outdone false (pos q) r e = ltb-false q (natAbs x) e
+    not-outdone false (negsuc q) r e = absurd (true≢false (sym r))
+
+    own-peaked : Peaked N after n
+    unfolding outdone newPeak newPeakStep
+    own-peaked = go (outdone k x p) refl (peak-put N a k (m .records) ears v f (m .records) (long .records) n h) (peak-step-put N a k (m .records) ears v f (m .records) (long .records) n h)
+      where
+        volt : word after (voltAt N n) ≡ x
+        volt = volt-put N a k (m .records) ears v f (m .records) (long .records) n h
+
+        go : (b : Bool) → outdone k x p ≡ b → word after (peakAt N n) ≡ cond b (pos (natAbs x)) p → word after (peakStepAt N n) ≡ cond b (pos k) s → Peaked N after n
+        go true e q r = record { peak-sign = rw q; step-sign = rw r; reached = rw (volt, q) (omega arith); counted = rw (r, h .area, counted) (omega arith) }
+        go false e q r =
+            let o : nat s ≤ countOf (m .records) a = rw (h .area) at (old .counted) in
+            record {
+              peak-sign = rw q (old .peak-sign);
+              step-sign = rw r (old .step-sign);
+              reached = rw (volt, q) (not-outdone (eqb k 1) p (old .peak-sign) e);
+              counted = rw (r, h .area, counted) (omega arith);
+            }
+
+  -- a node of another area: nothing of it is touched
+  other-peaked : (n : ℕ) → 1 ≤ n → n ≤ N .nodes → 1 ≤ areaOf N n → areaOf N n ≢ a → Peaked N (m .records) n → Peaked N after n
+  other-peaked n low high one′ o old =
+      let q = peak-keep N a k (m .records) ears v f (m .records) (long .records) n low high o in
+      let r = peak-step-keep N a k (m .records) ears v f (m .records) (long .records) n low high o in
+      record {
+        peak-sign = rw q (old .peak-sign);
+        step-sign = rw r (old .step-sign);
+        reached = rw (volt-keep N a k (m .records) ears v f (m .records) (long .records) n low high o, q) (old .reached);
+        counted = rw (r, uncounted (areaOf N n) one′ (omega (arith, area-of N n, f .areas)) o) (old .counted);
+      }
 
 -- ---- the step
 
@@ -125,6 +177,7 @@ module _ (N : Net) (s : NetSound N) (a : ℕ) (m : Memory) (long : Long m) (good
             near-stays N snd m long a k one most ears v (areaOf N (to (rowAt N i))) (areaOf N (from (rowAt N i))) (delayAt N i)
             (snd .to-area i l) (omega (arith, area-of N (to (rowAt N i)), snd .areas)) (snd .from-area i l) (omega (arith, area-of N (from (rowAt N i)), snd .areas)) refl
             (free i h l .at-to) (f .to-near i h l);
+        peaks = peaks;
         froms = froms-bounded N s m f a k one most room v volts inside;
         tos = tos-bounded N s m f a k one most room v volts inside;
       }
@@ -134,6 +187,13 @@ module _ (N : Net) (s : NetSound N) (a : ℕ) (m : Memory) (long : Long m) (good
 
       inside : (i : ℕ) → i < length (N .rows) → InRange v (rowAt N i) (legsBy N a k (m .records) ears i)
       inside = none-beyond N a k (m .records) ears v small
+
+      peaks : (n : ℕ) → 1 ≤ n → n ≤ N .nodes → Peaked N (new N a k (m .records) ears v (m .records)) n
+      peaks n l h = go (ℕ-discrete (areaOf N n) a)
+        where
+          go : Dec (areaOf N n ≡ a) → Peaked N (new N a k (m .records) ears v (m .records)) n
+          go (yes e) = own-peaked N snd m long a k one most ears v n (record { area = e; low = l; high = h }) (f .peaks n l h) (omega arith)
+          go (no e) = other-peaked N snd m long a k one most ears v n l h (s .areaLeast n l h) e (f .peaks n l h)
 
       sign : (j : ℕ) → j < 32 → nonNeg (word (new N a k (m .records) ears v (m .records)) j) ≡ true
       sign j h = go (ℕ-discrete j (countAt a))

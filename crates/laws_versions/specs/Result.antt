@@ -1,13 +1,13 @@
 -- T-step leaves no choice: there is one memory that area a's step k may give. Assumes nothing.
 use Rattle.whole.specs.Plain.{ℕ, zero, suc, _+_, _-_, _<_, _≡_, refl, sym, ap, _∙_, _≢_, Bool, true, false, cond, _&&_}
-use Rattle.whole.specs.Plain.{true≢false, List, eqb, length, getD, ext-getD, eqb-true, eq-eqb, ltb-true, ℕ-discrete}
+use Rattle.whole.specs.Plain.{true≢false, List, eqb, ltb, ℤ, length, getD, ext-getD, eqb-true, eq-eqb, ltb-true, ℕ-discrete}
 use Rattle.whole.specs.Plain.{arith, Words, z, word, numbers}
 use Rattle.whole.specs.Folds.{and-left, and-right, both, length-numbers, getD-numbers}
 use Rattle.whole.specs.Members.{Among, All, all-among}
 use Rattle.whole.specs.Places.{place, Least, place-none, place-least}
 use Rattle.paper.specs.Rows.{Row, isLine, from, to}
 use Rattle.paper.specs.Areas.{Net, areaOf, rowArea}
-use Rattle.paper.specs.Records.{countAt, currentAt, Section, counts, voltages, currents, toCurrents, histories, sections, ownerOf}
+use Rattle.paper.specs.Records.{countAt, currentAt, Section, counts, voltages, currents, toCurrents, histories, newPeak, newPeakStep, peaks, peakSteps, sections, ownerOf}
 use Rattle.paper.specs.Apart.{owned}
 use Rattle.paper.specs.Advance.{Memory, memory}
 use Rattle.laws_facts.specs.Nets.{NetSound, rowAt, netIn}
@@ -18,7 +18,7 @@ use Rattle.laws_local.specs.Nodes.{NodeOf}
 use Rattle.laws_local.specs.Slots.{slotOf}
 use Rattle.laws_local.specs.Outcome.{stepOf}
 use Rattle.laws_stays.specs.Stays.{Long, next-long}
-use Rattle.laws_demands.specs.Said.{IsArea, fromCurrent, toCurrent, fromSent, toSent, offer, Offered}
+use Rattle.laws_demands.specs.Said.{IsArea, peakIn, peakStepIn, fromCurrent, toCurrent, fromSent, toSent, offer, Offered}
 use Rattle.laws_demands.specs.Judged.{asked}
 use Rattle.laws_demands.specs.Passing.{AllInRange}
 use Rattle.laws_demands.specs.Says.{Ready}
@@ -44,10 +44,11 @@ module _ (N : Net) (s : NetSound N) (a k : ℕ) (h : IsArea N a) (m n n′ : Mem
   count-told : Told counts
   count-told i u o = let e : 0 + i ≡ countAt a = omega arith in rw e (S .count ∙ sym (S′ .count))
 
+  node-told : (i : ℕ) → ltb i (N .nodes) ≡ true → areaOf N (suc i) ≡ a → NodeOf N a (suc i)
+  node-told i u o = record { area = o; low = omega arith; high = omega (arith, ltb-true i (N .nodes) u) }
+
   volt-told : Told voltages
-  volt-told i u o =
-      let e : 32 + suc i - 1 ≡ 32 + i = omega arith in
-      rw e at (volt-one N s a k m n n′ S S′ (suc i) (record { area = o; low = omega arith; high = omega (arith, ltb-true i (N .nodes) u) }))
+  volt-told i u o = let e : 32 + suc i - 1 ≡ 32 + i = omega arith in rw e at (volt-one N s a k m n n′ S S′ (suc i) (node-told i u o))
 
   current-told : Told currents
   current-told i u o = go (isLine (rowAt N i)) refl o
@@ -70,9 +71,22 @@ module _ (N : Net) (s : NetSound N) (a k : ℕ) (h : IsArea N a) (m n n′ : Mem
       let b = keeper (rowAt N i) c in
       history-one N s a k m n n′ S S′ i (row-there N i b) b (line-no (rowAt N i) c) o c
 
+  -- a node's peak goes by its voltage and by what stood there, which is one
+  peak-told : Told peaks
+  peak-told i u o =
+      let e : 304 + suc i - 1 ≡ 304 + i = omega arith in
+      let q = node-told i u o in
+      rw e at (S .peak (suc i) q ∙ ap (λ (x : ℤ). newPeak k x (peakIn N m (suc i))) (volt-one N s a k m n n′ S S′ (suc i) q) ∙ sym (S′ .peak (suc i) q))
+
+  step-told : Told peakSteps
+  step-told i u o =
+      let e : 336 + suc i - 1 ≡ 336 + i = omega arith in
+      let q = node-told i u o in
+      rw e at (S .peak-step (suc i) q ∙ ap (λ (x : ℤ). newPeakStep k x (peakIn N m (suc i)) (peakStepIn N m (suc i))) (volt-one N s a k m n n′ S S′ (suc i) q) ∙ sym (S′ .peak-step (suc i) q))
+
   told : {t : Section} → Among t sections → Told t
   unfolding sections All
-  told = all-among Told sections (count-told, (volt-told, (current-told, (to-told, (history-told, tt)))))
+  told = all-among Told sections (count-told, (volt-told, (current-told, (to-told, (history-told, (peak-told, (step-told, tt)))))))
 
   record-word : (j : ℕ) → Same j
   record-word j = go (ℕ-discrete (ownerOf N j) a)

@@ -101,7 +101,7 @@ onNet N a m =
     (cond (leb (steps (N .head)) (countOf (m .records) a)) (advanced Done m)
     (onNext N a (suc (countOf (m .records) a)) m)))
 
--- 9 STORE: "a lent length wrong: network 1,024 signed 64-bit words, records 512, line stores 4,096 each"
+-- 9 STORE: "a lent length wrong: network 1,024 signed 64-bit words, .. line stores 4,096 each"; with peaks (02) "9 follows the new length" of the records
 unfoldable pub fits : Words → Memory → Bool
 fits net m =
     eqb (length net) Limits.networkWords

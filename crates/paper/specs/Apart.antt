@@ -8,8 +8,8 @@ use Rattle.whole.specs.Members.{Among, top, below, All, all-among}
 use Rattle.whole.specs.Within.{within-at, at-within}
 use Rattle.paper.specs.Limits as Limits
 use Rattle.paper.specs.Areas.{Net}
-use Rattle.paper.specs.Records.{Found, Section, spot, unused, sections, sectionsEnd, spotIn, spotOf, endIn, ownerIn, nextIn, endOf, ownerOf, nextOf, ends, near, storeFormed, wellFormed}
-use Rattle.paper.specs.Records.{counts, voltages, currents, toCurrents, histories}
+use Rattle.paper.specs.Records.{Found, Section, spot, unused, sections, sectionsEnd, spotIn, spotOf, endIn, ownerIn, nextIn, endOf, ownerOf, nextOf, ends, near, peaked, recordsFormed, storeFormed, wellFormed}
+use Rattle.paper.specs.Records.{counts, voltages, currents, toCurrents, histories, peaks, peakSteps}
 
 -- each starts where the last one has ended, or later
 unfoldable rising : ℕ → List Section → Bool
@@ -71,6 +71,14 @@ toCurrents-in = below (below (below (top refl)))
 pub histories-in : Among histories sections
 unfolding sections
 histories-in = below (below (below (below (top refl))))
+
+pub peaks-in : Among peaks sections
+unfolding sections
+peaks-in = below (below (below (below (below (top refl)))))
+
+pub peakSteps-in : Among peakSteps sections
+unfolding sections
+peakSteps-in = below (below (below (below (below (below (top refl))))))
 
 -- ---- so, of a word of a section
 module _ (N : Net) {s : Section} (m : Among s sections) (j : ℕ) (h : j < s .words) where
@@ -145,7 +153,7 @@ owned N a j one o = go (stands j)
 
 inside : {s : Section} → Among s sections → s .start + s .words ≤ sectionsEnd
 unfolding sections All
-inside = all-among (λ s. s .start + s .words ≤ sectionsEnd) sections (omega arith, (omega arith, (omega arith, (omega arith, (omega arith, tt)))))
+inside = all-among (λ s. s .start + s .words ≤ sectionsEnd) sections (omega arith, (omega arith, (omega arith, (omega arith, (omega arith, (omega arith, (omega arith, tt)))))))
 
 pub end-past : (N : Net) (j : ℕ) → sectionsEnd ≤ j → endOf N j ≡ 0
 unfolding endOf
@@ -172,14 +180,21 @@ words-within N w e j = rw (ends-at N j) at (within-at (ends N) w e j)
 pub within-words : (N : Net) (w : Words) → ((j : ℕ) → natAbs (word w j) ≤ endOf N j) → within (ends N) w ≡ true
 within-words N w h = at-within (ends N) w (λ j. rw (ends-at N j) (h j))
 
-pub record-end : (N : Net) (recs froms tos : Words) → wellFormed N recs froms tos ≡ true → (j : ℕ) → natAbs (word recs j) ≤ endOf N j
+-- the records of a well-formed state, by themselves
+pub state-records : (N : Net) (recs froms tos : Words) → wellFormed N recs froms tos ≡ true → recordsFormed N recs ≡ true
 unfolding wellFormed
-record-end N recs froms tos e =
+state-records N recs froms tos e = and-left (recordsFormed N recs) (storeFormed N froms) (and-left (recordsFormed N recs && storeFormed N froms) (storeFormed N tos) e)
+
+records-within : (N : Net) (recs : Words) → recordsFormed N recs ≡ true → within (ends N) recs ≡ true
+unfolding recordsFormed
+records-within N recs e =
     let c₁ = every nonNeg (take Limits.nodeEnd recs) in
     let c₂ = within (ends N) recs in
     let c₃ = every (near N recs) (N .rows) in
-    let c₄ = storeFormed N froms in
-    words-within N recs (and-right c₁ c₂ (and-left (c₁ && c₂) c₃ (and-left (c₁ && c₂ && c₃) c₄ (and-left (c₁ && c₂ && c₃ && c₄) (storeFormed N tos) e))))
+    and-right c₁ c₂ (and-left (c₁ && c₂) c₃ (and-left (c₁ && c₂ && c₃) (every (peaked N recs) (numbers 1 (N .nodes))) e))
+
+pub record-end : (N : Net) (recs froms tos : Words) → wellFormed N recs froms tos ≡ true → (j : ℕ) → natAbs (word recs j) ≤ endOf N j
+record-end N recs froms tos e = words-within N recs (records-within N recs (state-records N recs froms tos e))
 
 zero-size : (x : ℤ) → natAbs x ≤ 0 → x ≡ z
 zero-size (pos n) h = ap pos (omega arith)

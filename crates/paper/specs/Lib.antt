@@ -21,6 +21,7 @@ pub mod Solve
 pub mod Advance
 pub mod Lent
 pub mod Resetting
+pub mod Looking
 pub mod Listing
 pub mod Pieces
 pub mod Writing

@@ -1,13 +1,14 @@
--- The records by sections, in one table: counts by area, voltages by node, then by row the from-side currents, the to-end currents and the histories.
+-- The records by sections, in one table: counts by area, voltages by node, then by row the from-side currents, the to-end currents and the histories,
+-- and by node the peaks and their steps.
 -- A word is used as its section says, and of no area where it is not; no word past the last section is used. Assumes nothing.
 use Rattle.whole.specs.Plain.{ℕ, suc, _+_, _-_, Bool, false, cond, not, _&&_, _||_, List, [], _∷_, map, leb, ltb, ℤ}
-use Rattle.whole.specs.Plain.{pos, nonNeg, getD, replicate, take, Words, z, word, nat, every, within, numbers}
+use Rattle.whole.specs.Plain.{eqb, pos, natAbs, ltZ, nonNeg, getD, replicate, take, Words, z, word, nat, upTo, every, within, numbers}
 use Rattle.paper.specs.Limits as Limits
 use Rattle.paper.specs.Rows.{Row, isBranch, isLine, isL, isC, from, to, steps}
 use Rattle.paper.specs.Faults.{delay}
 use Rattle.paper.specs.Areas.{Net, areaOf, areaCount, rowArea, step}
 use Rattle.paper.specs.Legs.{Branch, branchIn, current, passedOn}
-unfoldable pub use Rattle.paper.specs.Where.{countAt, voltAt, currentAt, toCurrentAt, historyAt, offset, slotCount}
+unfoldable pub use Rattle.paper.specs.Where.{countAt, voltAt, currentAt, toCurrentAt, historyAt, peakAt, peakStepAt, offset, slotCount}
 
 abbrev pub countOf : Words → ℕ → ℕ
 countOf recs a = nat (word recs (countAt a))
@@ -86,12 +87,44 @@ histories = record {
   next = λ N f j. passedOn (f .volts) (branchIn (f .legs) j .row) (branchIn (f .legs) j .fromEnd .wire);
 }
 
+-- Peaks (02): "each node's largest magnitude and the first step where it came". What stood there goes at step 1, and later where voltage v has a greater
+-- magnitude than peak p: an equal one comes at a later step
+unfoldable pub outdone : ℕ → ℤ → ℤ → Bool
+outdone k v p = eqb k 1 || ltZ p (pos (natAbs v))
+
+unfoldable pub newPeak : ℕ → ℤ → ℤ → ℤ
+newPeak k v p = cond (outdone k v p) (pos (natAbs v)) p
+
+-- s the step of p
+unfoldable pub newPeakStep : ℕ → ℤ → ℤ → ℤ → ℤ
+newPeakStep k v p s = cond (outdone k v p) (pos k) s
+
+abbrev pub peaks : Section
+peaks = record {
+  start = 304;
+  words = Limits.nodeEnd;
+  used = λ N j. ltb j (N .nodes);
+  end = λ N. Limits.voltageEnd;
+  area = λ N j. areaOf N (suc j);
+  next = λ N f j. newPeak (f .step) (word (f .volts) (suc j)) (word (f .before) (peakAt N (suc j)));
+}
+
+abbrev pub peakSteps : Section
+peakSteps = record {
+  start = 336;
+  words = Limits.nodeEnd;
+  used = λ N j. ltb j (N .nodes);
+  end = λ N. steps (N .head);
+  area = λ N j. areaOf N (suc j);
+  next = λ N f j. newPeakStep (f .step) (word (f .volts) (suc j)) (word (f .before) (peakAt N (suc j))) (word (f .before) (peakStepAt N (suc j)));
+}
+
 unfoldable pub sections : List Section
-sections = counts ∷ voltages ∷ currents ∷ toCurrents ∷ histories ∷ []
+sections = counts ∷ voltages ∷ currents ∷ toCurrents ∷ histories ∷ peaks ∷ peakSteps ∷ []
 
 -- the first word past them
 abbrev pub sectionsEnd : ℕ
-sectionsEnd = 304
+sectionsEnd = 368
 
 -- ---- by words
 
@@ -146,14 +179,25 @@ near N recs r =
     let t = countOf recs (areaOf N (to r)) in
     not (isLine r) || (leb f (t + delay (step N) r) && leb t (f + delay (step N) r))
 
+-- with peaks (02), not "a peak out of range, one below the voltage's magnitude, or a step past the count": voltage v, peak p, its step s, count c
+unfoldable pub peakFormed : ℤ → ℤ → ℤ → ℕ → Bool
+peakFormed v p s c = nonNeg p && nonNeg s && upTo (natAbs p) v && upTo c s
+
+unfoldable pub peaked : Net → Words → ℕ → Bool
+peaked N recs n =
+    peakFormed (word recs (voltAt N n)) (word recs (peakAt N n)) (word recs (peakStepAt N n)) (countOf recs (areaOf N n))
+
+-- what is asked of the records alone
+unfoldable pub recordsFormed : Net → Words → Bool
+recordsFormed N recs =
+    every nonNeg (take Limits.nodeEnd recs)
+    && within (ends N) recs
+    && every (near N recs) (N .rows)
+    && every (peaked N recs) (numbers 1 (N .nodes))
+
 -- a line's slots "count as used before they are sent"
 unfoldable pub storeFormed : Net → Words → Bool
 storeFormed N store = within (replicate (slotCount N) Limits.historyEnd) store
 
 unfoldable pub wellFormed : Net → Words → Words → Words → Bool
-wellFormed N recs froms tos =
-    every nonNeg (take Limits.nodeEnd recs)
-    && within (ends N) recs
-    && every (near N recs) (N .rows)
-    && storeFormed N froms
-    && storeFormed N tos
+wellFormed N recs froms tos = recordsFormed N recs && storeFormed N froms && storeFormed N tos

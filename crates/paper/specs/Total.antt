@@ -1,5 +1,5 @@
 -- T-total: every call ends in an acceptance or in a refusal of the paper's table, 1 to 7 and 9 from reading, 8 and 9 from resetting and from
--- writing, 8 to 17 from advancing; and a reading's refusal names a line of the text. Assumes nothing.
+-- writing, 8 to 17 from advancing, 2 and 8 to 10 from asking for a node; and a reading's refusal names a line of the text. Assumes nothing.
 use Rattle.whole.specs.Plain.{ℕ, zero, suc, _≤_, _≡_, refl, _⊎_, inl, inr, not, _||_, List, [], ltb, eqb, lit≤, length}
 use Rattle.whole.specs.Plain.{arith, Words, empty, final, lead, fold}
 use Rattle.paper.specs.declared.Reading.{Reading}
@@ -14,6 +14,8 @@ use Rattle.paper.specs.declared.Advance.the-variants as A
 use Rattle.paper.specs.declared.Writing.{Writing}
 use Rattle.paper.specs.declared.Writing.the-variants.{Wrote}
 use Rattle.paper.specs.declared.Writing.the-variants as W
+use Rattle.paper.specs.declared.Looking.{Looking}
+use Rattle.paper.specs.declared.Looking.the-variants as L
 use Rattle.whole.specs.Folds.{fold-keeps}
 use Rattle.paper.specs.Limits as Limits
 use Rattle.paper.specs.Answers.{readingNumber, resettingNumber, advanceNumber, writingNumber}
@@ -21,6 +23,7 @@ use Rattle.paper.specs.Rows.{Row}
 use Rattle.paper.specs.Text.{LF, split, rowOf}
 use Rattle.paper.specs.Network.{Table}
 use Rattle.paper.specs.Reading.{Lines, good, bad, lineNumber, faultOf, taken, lineRead, closed, linesOf, faulty, Read-out, readEnd, readOf}
+use Rattle.paper.specs.Looking.{lookingNumber}
 use Rattle.paper.specs.Kept.{either}
 
 -- ---- the numbers
@@ -58,6 +61,13 @@ advance-number (Floating n) = inr (lit≤ tt, lit≤ tt)
 advance-number (Range n) = inr (lit≤ tt, lit≤ tt)
 advance-number (Unbalanced n) = inr (lit≤ tt, lit≤ tt)
 advance-number (History b) = inr (lit≤ tt, lit≤ tt)
+
+pub looking-number : (x : Looking) → (lookingNumber x ≡ 0) ⊎ ((lookingNumber x ≡ 2) ⊎ ((8 ≤ lookingNumber x) × (lookingNumber x ≤ 10)))
+looking-number (L.Told v p s) = inl refl
+looking-number L.Node = inr (inl refl)
+looking-number L.Network = inr (inr (lit≤ tt, lit≤ tt))
+looking-number L.Store = inr (inr (lit≤ tt, lit≤ tt))
+looking-number L.State = inr (inr (lit≤ tt, lit≤ tt))
 
 -- ---- "the answer carries the line number (0 for 7 and 9)": a line of the text, from 1
 

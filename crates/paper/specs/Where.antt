@@ -1,5 +1,6 @@
 -- Where each word of the records stands: counts by area, voltages by node, then by row (not by branch number: a row's place needs no counting) the
--- from-side currents, the to-end currents and the histories; and where a line's slots stand in either store. Assumes nothing.
+-- from-side currents, the to-end currents and the histories, and by node the peaks and their steps; and where a line's slots stand in either store.
+-- Assumes nothing.
 use Rattle.whole.specs.Plain.{ℕ, _+_, _-_, take, sum}
 use Rattle.paper.specs.Faults.{slots}
 use Rattle.paper.specs.Areas.{Net}
@@ -19,6 +20,12 @@ toCurrentAt r = 144 + r
 
 abbrev pub historyAt : ℕ → ℕ
 historyAt r = 224 + r
+
+abbrev pub peakAt : Net → ℕ → ℕ
+peakAt N n = 304 + n - 1
+
+abbrev pub peakStepAt : Net → ℕ → ℕ
+peakStepAt N n = 336 + n - 1
 
 -- "slots stand in table order": where the row in place r, from 0, has its slots in either store
 unfoldable pub offset : Net → ℕ → ℕ

@@ -89,7 +89,7 @@ impl Room {
 
     pub const NETWORK: usize = 1_024;
 
-    pub const RECORDS: usize = 512;
+    pub const RECORDS: usize = 1_024;
 
     pub const STORE: usize = 4_096;
 

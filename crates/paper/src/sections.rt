@@ -1,7 +1,7 @@
 // Where the sections of the records begin (specs/Records): the counts by area and the voltages by node, both from 1; then, by row, from 0, the from-side
-// currents, the to-end currents and the histories. From END on no word is used.
+// currents, the to-end currents and the histories; then, by node from 1, the peaks and their steps. From END on no word is used.
 ghost use Rattle.whole.specs.Plain.{_≡_};
-ghost use Rattle.paper.specs.Records.{counts, voltages, currents, toCurrents, histories, sectionsEnd};
+ghost use Rattle.paper.specs.Records.{counts, voltages, currents, toCurrents, histories, peaks, peakSteps, sectionsEnd};
 use crate::limits::Room;
 use num_quantity::Node;
 
@@ -15,7 +15,11 @@ pub const TO_CURRENTS: usize = CURRENTS + Room::ROWS;
 
 pub const HISTORIES: usize = TO_CURRENTS + Room::ROWS;
 
-pub const END: usize = HISTORIES + Room::ROWS;
+pub const PEAKS: usize = HISTORIES + Room::ROWS;
+
+pub const PEAK_STEPS: usize = PEAKS + Node::MAX as usize;
+
+pub const END: usize = PEAK_STEPS + Node::MAX as usize;
 
 fn sections_agree()
     ensures { λ _. do ⌜ (← ⟦COUNTS⟧ .entry) ≡ counts .start ⌝ }
@@ -23,5 +27,7 @@ fn sections_agree()
     ensures { λ _. do ⌜ (← ⟦CURRENTS⟧ .entry) ≡ currents .start ⌝ }
     ensures { λ _. do ⌜ (← ⟦TO_CURRENTS⟧ .entry) ≡ toCurrents .start ⌝ }
     ensures { λ _. do ⌜ (← ⟦HISTORIES⟧ .entry) ≡ histories .start ⌝ }
+    ensures { λ _. do ⌜ (← ⟦PEAKS⟧ .entry) ≡ peaks .start ⌝ }
+    ensures { λ _. do ⌜ (← ⟦PEAK_STEPS⟧ .entry) ≡ peakSteps .start ⌝ }
     ensures { λ _. do ⌜ (← ⟦END⟧ .entry) ≡ sectionsEnd ⌝ }
 {}

@@ -29,7 +29,7 @@ use Rattle.step_prepare.specs.Serving.{Serving}
 use Rattle.step_try.specs.declared.At.{At}
 use Rattle.step_try.specs.Outcomes.{Tried, answered}
 use Rattle.step_try.specs.Trying.{Trying, branches, Flowing, Tries}
-use Rattle.step_commit.specs.Records.{Recordable, recordsPut}
+use Rattle.step_records.specs.Records.{Recordable, recordsPut}
 use Rattle.step_commit.specs.Stores.{Sendable, sentBy, fromEnd, toEnd}
 use Rattle.step_commit.specs.Asked.{recordable, sendable}
 use Rattle.step_commit.specs.Paper.{written-is}
@@ -211,10 +211,10 @@ module _ {N : Net} {low high : ℕ} {plan owns : List (List ℕ)} {legs : List W
     nodes-are : part (o .base) (o .«nodes_end») nodes ≡ ownNodes N (turn .area)
     nodes-are = own-there .nodes
 
-    pub records-asked : Recordable lines (part (o .base) (o .«nodes_end») nodes) (m .records) (turn .area) (turn .k)
+    pub records-asked : Recordable lines (part (o .base) (o .«nodes_end») nodes) volts (m .records) (turn .area) (turn .k)
     records-asked =
         rw (flows .flows, nodes-are)
-        (recordable (R .tables .sound) one (R .stepping .kept) (flows .laid) volts (omega (arith, R .tables .most, R .stepping .most)) (R .stepping .step))
+        (recordable (R .tables .sound) one (R .stepping .kept) (flows .laid) volts (flows .volts) (omega (arith, R .tables .most, R .stepping .most)) (R .stepping .step))
 
     pub stores-asked : Sendable plan lines (m .froms) (m .tos)
     stores-asked = rw (flows .flows) (sendable (R .tables .sound) one (R .stepping .kept) (flows .laid) volts (R .tables .planned))
@@ -227,7 +227,7 @@ module _ {N : Net} {low high : ℕ} {plan owns : List (List ℕ)} {legs : List W
 
   -- ---- from the table that the lines stand in again
   module _ {lines : List Words} {answer : Advance} {volts : Words} (same : SameBut (legsOf′ o legs) lines) (t : Tries N (turn .area) (turn .k) (m .records) (m .froms) (m .tos) lines answer volts) (e : accepted answer ≡ true) where
-    pub asked : Recordable (legsOf′ o (legsPut o legs lines)) (part (o .base) (o .«nodes_end») nodes) (m .records) (turn .area) (turn .k) × Sendable plan (legsOf′ o (legsPut o legs lines)) (m .froms) (m .tos)
+    pub asked : Recordable (legsOf′ o (legsPut o legs lines)) (part (o .base) (o .«nodes_end») nodes) volts (m .records) (turn .area) (turn .k) × Sendable plan (legsOf′ o (legsPut o legs lines)) (m .froms) (m .tos)
     asked = rw (legs-after same) (records-asked t e, stores-asked t e)
 
     pub moved : {recs froms tos : Words} → recs ≡ recordsPut (legsOf′ o (legsPut o legs lines)) (part (o .base) (o .«nodes_end») nodes) volts (turn .area) (turn .k) (m .records)

@@ -11,10 +11,11 @@ use Rattle.plan_ends.specs.Own.{endAt, fixedOf, ownNodes}
 use Rattle.plan_rows.specs.declared.Row.{Row}
 use Rattle.plan_rows.specs.Planned.{rowIn, rowOf, Planned}
 use Rattle.step_legs.specs.Wires.{wireAt, Wires}
+use Rattle.step_legs.specs.Shares.{Volts}
 use Rattle.step_own.specs.Ends.{Kept}
 use Rattle.step_own.specs.Laid.{Laid, end-own, wire-at, conducting-wires}
 use Rattle.step_flow.specs.Flown.{flown, flown-count, wire-stays, wires-stay}
-use Rattle.step_commit.specs.Records.{Recordable}
+use Rattle.step_records.specs.Records.{Recordable}
 use Rattle.step_commit.specs.Stores.{Slotted, Sendable}
 
 -- a row's slots, as the plan has them
@@ -39,9 +40,10 @@ module _ {N : Net} {a k : ℕ} {recs froms tos : Words} {legs : List Words} (s :
   wires : Wires (map (flown v) legs)
   wires = wires-stay v legs (conducting-wires s one (l .conducting))
 
-  pub recordable : a ≤ areaCount N → k ≤ steps (N .head) → Recordable (map (flown v) legs) (ownNodes N a) recs a k
-  recordable am km = record {
+  pub recordable : Volts v → a ≤ areaCount N → k ≤ steps (N .head) → Recordable (map (flown v) legs) (ownNodes N a) v recs a k
+  recordable u am km = record {
     wires = wires;
+    volts = u;
     nodes-end = record { end = λ i h. omega (arith, nodes-most N a _ (among-at (ownNodes N a) i 0 h), s .nodeMost) };
     long = kept .records-long;
     area-least = one;

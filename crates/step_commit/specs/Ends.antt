@@ -9,7 +9,7 @@ use Rattle.plan_rows.specs.Planned.{rowIn}
 use Rattle.step_legs.specs.declared.Wire.{Wire}
 use Rattle.step_legs.specs.Wires.{legOf, wireIn, currentIn, passedIn, wiresIn}
 use Rattle.step_flow.specs.Flown.{passedBy, flown, flown-wire, flown-current, flown-passed, Long}
-use Rattle.step_commit.specs.Records.{legPut}
+use Rattle.step_records.specs.Records.{legPut}
 use Rattle.step_commit.specs.Stores.{fromEnd, toEnd, sentPut}
 
 -- ---- from lines to wires: what a line has is what is found of its wire

@@ -1,4 +1,3 @@
-pub mod Records
 pub mod Stores
 pub mod Reached
 pub mod Ends

@@ -1,8 +1,8 @@
 -- What the legs of an area's step write is what the paper has an accepted step write. Assumes nothing.
-use Rattle.whole.specs.Plain.{ℕ, suc, _+_, _-_, _*_, _/_, _%_, _≤_, _<_, _≡_, refl, sym, ap, _∙_, subst, ⊎-elim, Bool}
+use Rattle.whole.specs.Plain.{ℕ, suc, _+_, _-_, _*_, _/_, _%_, _≤_, _<_, _≡_, refl, sym, ap, _∙_, subst, _≢_, ⊎-elim, Bool}
 use Rattle.whole.specs.Plain.{true, false, cond, _||_, List, map, List·Memᴰ·append-cases, Memᴰ·append-left}
-use Rattle.whole.specs.Plain.{Memᴰ·append-right, eqb, ℤ, pos, length, set, length-set, getD-set-same, ext-getD, eq-eqb}
-use Rattle.whole.specs.Plain.{ltb-true, ℕ-discrete, arith, Words, z, word, numbers, fold}
+use Rattle.whole.specs.Plain.{Memᴰ·append-right, eqb, ltb, ℤ, pos, natAbs, length, set, length-set, getD-set-same, getD-set-other, ext-getD}
+use Rattle.whole.specs.Plain.{eq-eqb, ltb-true, ℕ-discrete, arith, Words, z, word, numbers, fold}
 use Rattle.whole.specs.Folds.{both, fold-keeps, fold-map}
 use Rattle.whole.specs.Members.{Among, Kept, All, all-among, among-keep, keep-among, among-numbers, numbers-among}
 use Rattle.whole.specs.Turns.{turns}
@@ -11,7 +11,8 @@ use Rattle.paper.specs.Limits as Limits
 use Rattle.paper.specs.Rows.{Row, kind, isBranch, isLine, isL, isC, from, to}
 use Rattle.paper.specs.Areas.{Net, areaOf, areaCount, rowArea, fixed, nodesOf, freeOf}
 use Rattle.paper.specs.Records as Records
-use Rattle.paper.specs.Records.{voltAt, currentAt, toCurrentAt, historyAt, Section, counts, voltages, currents, toCurrents, histories, sections}
+use Rattle.paper.specs.Records.{voltAt, currentAt, toCurrentAt, historyAt, peakAt, peakStepAt, Section, counts, voltages, currents, toCurrents, histories, outdone, newPeak, newPeakStep}
+use Rattle.paper.specs.Records.{peaks, peakSteps, sections}
 use Rattle.paper.specs.Apart.{owned}
 use Rattle.paper.specs.Legs.{Leg, End, Branch, branch, Heard, legsBy, legsOf, branchIn, heard, current, echo, passedOn}
 use Rattle.paper.specs.Advance.{memory, putIf, newRecords, putSent, newStore, written}
@@ -20,7 +21,7 @@ use Rattle.laws_local.specs.Sound.{Sound, sound, row-there}
 use Rattle.laws_local.specs.Own.{legs-length, branch-is as branch-at, row-is, line-no, keeper}
 use Rattle.laws_local.specs.Nodes.{NodeOf, node-of, of-node, free-of, of-free}
 use Rattle.laws_local.specs.Puts.{put-length, put-other, put-same, put-with}
-use Rattle.laws_local.specs.Written.{records-length, records-keep, count-put, volt-put, current-put, to-put, history-put}
+use Rattle.laws_local.specs.Written.{records-length, records-keep, count-put, volt-put, peak-own, peak-put, peak-step-own, peak-step-put, current-put, to-put, history-put}
 use Rattle.plan_ends.specs.Own.{ownerOf, rowOfEnd, sideOfEnd, ownEnd, ownEnds, fixedOf, ownNodes}
 use Rattle.plan_rows.specs.Planned.{Planned}
 use Rattle.step_legs.specs.declared.Wire.{Wire}
@@ -31,9 +32,9 @@ use Rattle.step_own.specs.Branches.{from-own, to-own}
 use Rattle.step_own.specs.Laid.{Laid, wires-are}
 use Rattle.step_own.specs.Pass.{turn, pass}
 use Rattle.step_flow.specs.Flown.{passedBy, flown}
-use Rattle.step_commit.specs.Records.{legPut, recordsPut, voltsPut}
+use Rattle.step_records.specs.Records.{legPut, recordsPut, nodePut, nodesPut}
 use Rattle.step_commit.specs.Stores.{fromEnd, toEnd, sentPut, sentBy}
-use Rattle.step_commit.specs.Reached.{fold-keep, fold-reach}
+use Rattle.step_commit.specs.Reached.{fold-keep, fold-reach, fold-first}
 use Rattle.step_commit.specs.Asked.{place-is, slots-is}
 use Rattle.step_commit.specs.Ends.{found, by-wires, EndOf, from-puts, to-puts, from-put}
 use Rattle.step_commit.specs.Ends as Ends
@@ -224,33 +225,167 @@ module _ {N : Net} {a k : ℕ} {recs froms tos : Words} {legs : List Words} {pla
     abbrev start : Words
     start = set recs (0 + (a - 1)) (pos k)
 
-    abbrev volts : Words
-    volts = voltsPut v (ownNodes N a) start
+    abbrev nodes : Words
+    nodes = nodesPut k v (ownNodes N a) start
 
     abbrev all : Words
-    all = fold (λ x e. put e x) volts (ownEnds N a)
+    all = fold (λ x e. put e x) nodes (ownEnds N a)
 
     records-fold : recordsPut lines (ownNodes N a) v a k recs ≡ all
     unfolding recordsPut
     records-fold =
         by-wires legPut v legs (record { nine = λ j h. l .conducting .framed .line j h .long }) _
-        ∙ rw (wires-are l) (fold-map (λ x w. found legPut v w x) (wireOf N k recs froms tos) volts (ownEnds N a))
+        ∙ rw (wires-are l) (fold-map (λ x w. found legPut v w x) (wireOf N k recs froms tos) nodes (ownEnds N a))
 
-    volts-keep : (j : ℕ) → Right j start → Right j volts
-    unfolding voltsPut putIf
-    volts-keep j p =
-        fold-keep (λ u n. set u (voltAt N n) (word v n)) (Right j) (ownNodes N a)
-        (λ u n m q. put-with (λ (y : ℤ). y ≡ word after j) true u (voltAt N n) j (word v n) q (λ _ e. volt-right n m ∙ ap (word after) e)) start p
+    -- a node's turn: its voltage, and its peak where the paper's step renews it
 
-    volt-at : (n : ℕ) → Among n (ownNodes N a) → n ≤ 32 → Right (voltAt N n) volts
-    unfolding voltsPut putIf
-    volt-at n m h =
-        fold-reach (λ u n. set u (voltAt N n) (word v n)) (Right (voltAt N n)) Long (λ u i q. length-set u (voltAt N i) (word v i) ∙ q) (ownNodes N a) m
-        (λ u i l q. put-with (λ (y : ℤ). y ≡ word after (voltAt N n)) true u (voltAt N i) (voltAt N n) (word v i) q (λ _ e. volt-right i l ∙ ap (word after) e))
-        (λ u q. getD-set-same u (voltAt N n) (word v n) z (omega arith) ∙ volt-right n m) start (length-set recs (0 + (a - 1)) (pos k))
+    abbrev nodeTurn : ℕ → Words → Words
+    nodeTurn n u = nodePut k n (word v n) u
 
-    ends-keep : (j : ℕ) → Right j volts → Right j all
-    ends-keep j p = fold-keep (λ x e. put e x) (Right j) (ownEnds N a) (λ x e m q. end-keeps j x e m q) volts p
+    abbrev risesAt : ℕ → Words → Bool
+    risesAt n u = outdone k (word v n) (word u (peakAt N n))
+
+    node-low : (n : ℕ) → Among n (ownNodes N a) → 1 ≤ n
+    node-low n m = node-of-own n m .low
+
+    node-most : (n : ℕ) → Among n (ownNodes N a) → n ≤ 32
+    node-most n m = omega (arith, node-of-own n m .high, snd .nodes)
+
+    risen : (n : ℕ) → Among n (ownNodes N a) → risesAt n recs ≡ true → (pos (natAbs (word v n)) ≡ word after (peakAt N n)) × (pos k ≡ word after (peakStepAt N n))
+    unfolding newPeak newPeakStep
+    risen n m b =
+        let h = node-of-own n m in
+        (sym (rw b at (peak-put N a k recs ears v snd recs long n h)), sym (rw b at (peak-step-put N a k recs ears v snd recs long n h)))
+
+    stayed : (n : ℕ) → Among n (ownNodes N a) → risesAt n recs ≡ false → (word recs (peakAt N n) ≡ word after (peakAt N n)) × (word recs (peakStepAt N n) ≡ word after (peakStepAt N n))
+    unfolding newPeak newPeakStep
+    stayed n m b =
+        let h = node-of-own n m in
+        (sym (rw b at (peak-put N a k recs ears v snd recs long n h)), sym (rw b at (peak-step-put N a k recs ears v snd recs long n h)))
+
+    -- a peak that stands already is renewed by nothing but itself
+    again : (x p : ℤ) → outdone k x (newPeak k x p) ≡ true → outdone k x p ≡ true
+    unfolding newPeak
+    again x p e = go (outdone k x p) refl e
+      where
+        go : (b : Bool) → outdone k x p ≡ b → outdone k x (cond b (pos (natAbs x)) p) ≡ true → outdone k x p ≡ true
+        go true q e = q
+        go false q e = e
+
+    reads : (u : Words) (n : ℕ) → word (set u (32 + n - 1) (word v n)) (304 + n - 1) ≡ word u (peakAt N n)
+    reads u n = getD-set-other u (32 + n - 1) (304 + n - 1) (word v n) z (λ e. omega arith)
+
+    turn-long : (u : Words) (n : ℕ) → Long u → Long (nodeTurn n u)
+    unfolding nodePut
+    turn-long u n q = simp (put-length, length-set) q
+
+    -- a word, by what a turn puts there
+    node-puts : (j : ℕ) (u : Words) (n : ℕ) → Among n (ownNodes N a) → Right j u → (risesAt n u ≡ true → peakAt N n ≡ j → pos (natAbs (word v n)) ≡ word after j)
+        → (risesAt n u ≡ true → peakStepAt N n ≡ j → pos k ≡ word after j) → Right j (nodeTurn n u)
+    unfolding nodePut putIf
+    node-puts j u n m p peak step =
+        rw (reads u n)
+        (put-with (λ (y : ℤ). y ≡ word after j) (risesAt n u) _ (peakStepAt N n) j (pos k)
+        (put-with (λ (y : ℤ). y ≡ word after j) (risesAt n u) _ (peakAt N n) j (pos (natAbs (word v n)))
+        (put-with (λ (y : ℤ). y ≡ word after j) true u (voltAt N n) j (word v n) p (λ _ e. volt-right n m ∙ ap (word after) e)) peak) step)
+
+    -- one that is no peak of its
+    node-keeps : (j : ℕ) (u : Words) (n : ℕ) → Among n (ownNodes N a) → peakAt N n ≢ j → peakStepAt N n ≢ j → Right j u → Right j (nodeTurn n u)
+    node-keeps j u n m x y p = node-puts j u n m p (λ _ e. absurd (x e)) (λ _ e. absurd (y e))
+
+    -- its own two, once they stand
+    abbrev Stood : ℕ → Words → Type 0
+    Stood n u = Right (peakAt N n) u × Right (peakStepAt N n) u
+
+    stood-again : (n : ℕ) → Among n (ownNodes N a) → (u : Words) → Stood n u → Stood n (nodeTurn n u)
+    stood-again n m u p = (node-puts (peakAt N n) u n m (p .0) (λ b _. risen n m (was b) .0) (λ _ e. absurd (omega (arith, node-low n m))), node-puts (peakStepAt N n) u n m (p .1) (λ _ e. absurd (omega (arith, node-low n m))) (λ b _. risen n m (was b) .1))
+      where
+        was : risesAt n u ≡ true → risesAt n recs ≡ true
+        was b = again (word v n) (word recs (peakAt N n)) (rw (p .0, peak-put N a k recs ears v snd recs long n (node-of-own n m)) at b)
+
+    stood-keeps : (n : ℕ) → Among n (ownNodes N a) → (u : Words) (i : ℕ) → Among i (ownNodes N a) → Stood n u → Stood n (nodeTurn i u)
+    stood-keeps n m u i l p = go (ℕ-discrete i n)
+      where
+        go : Dec (i ≡ n) → Stood n (nodeTurn i u)
+        go (yes e) = rw e (stood-again n m u p)
+        go (no e) = (
+          node-keeps (peakAt N n) u i l (λ q. e (omega (arith, node-low n m, node-low i l))) (λ q. absurd (omega (arith, node-low n m, node-low i l, node-most n m))) (p .0),
+          node-keeps (peakStepAt N n) u i l (λ q. absurd (omega (arith, node-low n m, node-low i l, node-most i l))) (λ q. e (omega (arith, node-low n m, node-low i l))) (p .1),
+        )
+
+    -- what its turn finds of them
+    pub record Found (n : ℕ) (u : Words) : Type 0 where
+      pub size : Long u
+      pub peak : word u (peakAt N n) ≡ word recs (peakAt N n)
+      pub step : word u (peakStepAt N n) ≡ word recs (peakStepAt N n)
+
+    found-keeps : (n : ℕ) → Among n (ownNodes N a) → (u : Words) (i : ℕ) → Among i (ownNodes N a) → i ≢ n → Found n u → Found n (nodeTurn i u)
+    unfolding nodePut
+    found-keeps n m u i l e f = record {
+      size = turn-long u i (f .size);
+      peak = put-other _ _ (peakStepAt N i) (peakAt N n) _ (λ _ q. omega (arith, node-low n m, node-low i l, node-most n m))
+          ∙ put-other _ _ (peakAt N i) (peakAt N n) _ (λ _ q. e (omega (arith, node-low n m, node-low i l)))
+          ∙ getD-set-other u (voltAt N i) (peakAt N n) (word v i) z (λ q. omega (arith, node-low n m, node-low i l, node-most i l)) ∙ f .peak;
+      step = put-other _ _ (peakStepAt N i) (peakStepAt N n) _ (λ _ q. e (omega (arith, node-low n m, node-low i l)))
+          ∙ put-other _ _ (peakAt N i) (peakStepAt N n) _ (λ _ q. omega (arith, node-low n m, node-low i l, node-most i l))
+          ∙ getD-set-other u (voltAt N i) (peakStepAt N n) (word v i) z (λ q. omega (arith, node-low n m, node-low i l, node-most i l)) ∙ f .step;
+    }
+
+    node-stands : (n : ℕ) → Among n (ownNodes N a) → (u : Words) → Found n u → Stood n (nodeTurn n u)
+    unfolding nodePut putIf
+    node-stands n m u f = rw (reads u n, f .peak) (go (risesAt n recs) refl)
+      where
+        low : 1 ≤ n
+        low = node-low n m
+
+        high : n ≤ 32
+        high = node-most n m
+
+        go : (b : Bool) → risesAt n recs ≡ b
+            → Stood n (putIf b (putIf b (set u (voltAt N n) (word v n)) (peakAt N n) (pos (natAbs (word v n)))) (peakStepAt N n) (pos k))
+        go true b = (
+          put-other true (set (set u (voltAt N n) (word v n)) (peakAt N n) (pos (natAbs (word v n)))) (peakStepAt N n) (peakAt N n) (pos k) (λ _ q. omega (arith, low, high))
+              ∙ put-same true (set u (voltAt N n) (word v n)) (peakAt N n) (pos (natAbs (word v n))) refl (rw (length-set u (voltAt N n) (word v n)) (omega (arith, low, high, f .size))) ∙ risen n m b .0,
+          put-same true (set (set u (voltAt N n) (word v n)) (peakAt N n) (pos (natAbs (word v n)))) (peakStepAt N n) (pos k) refl (simp length-set (omega (arith, low, high, f .size))) ∙ risen n m b .1,
+        )
+        go false b = (
+          put-other true u (voltAt N n) (peakAt N n) (word v n) (λ _ q. omega (arith, low, high)) ∙ f .peak ∙ stayed n m b .0,
+          put-other true u (voltAt N n) (peakStepAt N n) (word v n) (λ _ q. omega (arith, low, high)) ∙ f .step ∙ stayed n m b .1,
+        )
+
+    -- the turns of all its nodes
+
+    nodes-keep : (j : ℕ) → ((n : ℕ) → Among n (ownNodes N a) → (peakAt N n ≢ j) × (peakStepAt N n ≢ j)) → Right j start → Right j nodes
+    unfolding nodesPut
+    nodes-keep j h p = fold-keep (λ u n. nodeTurn n u) (Right j) (ownNodes N a) (λ u n m q. node-keeps j u n m (h n m .0) (h n m .1) q) start p
+
+    start-long : Long start
+    start-long = length-set recs (0 + (a - 1)) (pos k)
+
+    volt-at : (n : ℕ) → Among n (ownNodes N a) → Right (voltAt N n) nodes
+    unfolding nodesPut nodePut
+    volt-at n m =
+        fold-reach (λ u n. nodeTurn n u) (Right (voltAt N n)) Long turn-long (ownNodes N a) m
+        (λ u i l q. node-keeps (voltAt N n) u i l (λ e. omega (arith, node-low n m, node-low i l, node-most n m)) (λ e. omega (arith, node-low n m, node-low i l, node-most n m)) q)
+        (λ u q. here u q) start start-long
+      where
+        here : (u : Words) → Long u → Right (voltAt N n) (nodeTurn n u)
+        here u q =
+            put-other _ _ (peakStepAt N n) (voltAt N n) _ (λ _ e. omega (arith, node-low n m)) ∙ put-other _ _ (peakAt N n) (voltAt N n) _ (λ _ e. omega (arith, node-low n m))
+            ∙ getD-set-same u (voltAt N n) (word v n) z (omega (arith, node-low n m, node-most n m)) ∙ volt-right n m
+
+    stood-at : (n : ℕ) → Among n (ownNodes N a) → Stood n nodes
+    unfolding nodesPut
+    stood-at n m =
+        fold-first (λ u n. nodeTurn n u) (Stood n) (Found n) n (ownNodes N a) m (λ u i l e f. found-keeps n m u i l e f) (λ u i l p. stood-keeps n m u i l p) (λ u f. node-stands n m u f) start
+        (record {
+          size = start-long;
+          peak = getD-set-other recs (0 + (a - 1)) (peakAt N n) (pos k) z (λ e. omega (arith, node-low n m, most, snd .areas));
+          step = getD-set-other recs (0 + (a - 1)) (peakStepAt N n) (pos k) z (λ e. omega (arith, node-low n m, most, snd .areas));
+        })
+
+    ends-keep : (j : ℕ) → Right j nodes → Right j all
+    ends-keep j p = fold-keep (λ x e. put e x) (Right j) (ownEnds N a) (λ x e m q. end-keeps j x e m q) nodes p
 
     count-is : word after (0 + (a - 1)) ≡ pos k
     count-is = let e : 0 + (a - 1) ≡ a - 1 = omega arith in rw e (count-put N a k recs ears v snd recs long one most)
@@ -259,19 +394,19 @@ module _ {N : Net} {a k : ℕ} {recs froms tos : Words} {legs : List Words} {pla
     unfolding putIf
     start-keeps j p = put-with (λ (y : ℤ). y ≡ word after j) true recs (0 + (a - 1)) j (pos k) p (λ _ e. sym count-is ∙ ap (word after) e)
 
-    volts-long : Long volts
-    unfolding voltsPut
-    volts-long = fold-keeps Long (λ u n. set u (voltAt N n) (word v n)) (λ u n q. length-set u (voltAt N n) (word v n) ∙ q) start (ownNodes N a) (length-set recs (0 + (a - 1)) (pos k))
+    nodes-long : Long nodes
+    unfolding nodesPut
+    nodes-long = fold-keeps Long (λ u n. nodeTurn n u) turn-long start (ownNodes N a) start-long
 
     all-long : Long all
-    all-long = fold-keeps Long (λ x e. put e x) put-long volts (ownEnds N a) volts-long
+    all-long = fold-keeps Long (λ x e. put e x) put-long nodes (ownEnds N a) nodes-long
 
     -- each section's own words are reached
     abbrev Reached : Section → Type 0
     Reached t = (i : ℕ) → i < t .words → t .used N i ≡ true → t .area N i ≡ a → Right (t .start + i) all
 
     by-end : (e j : ℕ) → e < 2 * length (N .rows) → ownEnd N a e ≡ true → ((x : Words) → Long x → Right j (put e x)) → Right j all
-    by-end e j h o r = fold-reach (λ x e. put e x) (Right j) Long put-long (ownEnds N a) (end-among e h o) (λ x d m q. end-keeps j x d m q) r volts volts-long
+    by-end e j h o r = fold-reach (λ x e. put e x) (Right j) Long put-long (ownEnds N a) (end-among e h o) (λ x d m q. end-keeps j x d m q) r nodes nodes-long
 
     own-from : (i : ℕ) → isBranch (rowAt N i) ≡ true → cond (isLine (rowAt N i)) (areaOf N (from (rowAt N i))) (rowArea N (rowAt N i)) ≡ a → ownEnd N a (2 * i) ≡ true
     unfolding ownEnd ownerOf
@@ -289,18 +424,30 @@ module _ {N : Net} {a k : ℕ} {recs froms tos : Words} {legs : List Words} {pla
 
     reached : {t : Section} → Among t sections → Reached t
     unfolding sections All
-    reached = all-among Reached sections (count-reached, (volt-reached, (from-reached, (to-reached-all, (held-reached, tt)))))
+    reached = all-among Reached sections (count-reached, (volt-reached, (from-reached, (to-reached-all, (held-reached, (peak-reached, (step-reached, tt)))))))
       where
         count-reached : Reached counts
         count-reached i h u o =
             let e : i ≡ a - 1 = omega arith in
-            rw e (ends-keep (0 + (a - 1)) (volts-keep (0 + (a - 1)) (getD-set-same recs (0 + (a - 1)) (pos k) z (omega (arith, snd .areas)) ∙ sym count-is)))
+            rw e (ends-keep (0 + (a - 1)) (nodes-keep (0 + (a - 1)) (λ n m. (λ q. omega (arith, node-low n m, most, snd .areas), λ q. omega (arith, node-low n m, most, snd .areas))) (getD-set-same recs (0 + (a - 1)) (pos k) z (omega (arith, snd .areas)) ∙ sym count-is)))
+
+        own-node : (i : ℕ) → ltb i (N .nodes) ≡ true → areaOf N (suc i) ≡ a → Among (suc i) (ownNodes N a)
+        own-node i u o = own-of-node (suc i) (record { area = o; low = omega arith; high = omega (arith, ltb-true i (N .nodes) u) })
 
         volt-reached : Reached voltages
         volt-reached i h u o =
-            let n : NodeOf N a (suc i) = record { area = o; low = omega arith; high = omega (arith, ltb-true i (N .nodes) u) } in
             let e : 32 + suc i - 1 ≡ 32 + i = omega arith in
-            ends-keep (32 + i) (rw e at (volt-at (suc i) (own-of-node (suc i) n) (omega arith)))
+            ends-keep (32 + i) (rw e at (volt-at (suc i) (own-node i u o)))
+
+        peak-reached : Reached peaks
+        peak-reached i h u o =
+            let e : 304 + suc i - 1 ≡ 304 + i = omega arith in
+            ends-keep (304 + i) (rw e at (stood-at (suc i) (own-node i u o) .0))
+
+        step-reached : Reached peakSteps
+        step-reached i h u o =
+            let e : 336 + suc i - 1 ≡ 336 + i = omega arith in
+            ends-keep (336 + i) (rw e at (stood-at (suc i) (own-node i u o) .1))
 
         from-reached : Reached currents
         from-reached i h u o = let t = row-there N i u in by-end (2 * i) (currentAt i) (omega arith) (own-from i u o) (λ x n. current-reached i t (currentAt i) x (own-from i u o) n)
@@ -319,7 +466,7 @@ module _ {N : Net} {a k : ℕ} {recs froms tos : Words} {legs : List Words} {pla
     right j = go (ℕ-discrete (Records.ownerOf N j) a)
       where
         go : Dec (Records.ownerOf N j ≡ a) → Right j all
-        go (no n) = ends-keep j (volts-keep j (start-keeps j (sym (records-keep N a k bs v recs j n))))
+        go (no n) = ends-keep j (nodes-keep j (λ i m. let h = node-of-own i m in (λ e. n (ap (Records.ownerOf N) (sym e) ∙ peak-own N a snd i h), λ e. n (ap (Records.ownerOf N) (sym e) ∙ peak-step-own N a snd i h))) (start-keeps j (sym (records-keep N a k bs v recs j n))))
         go (yes o) = let w = owned N a j one o in let p = w .at in rw (p .is) (reached (p .among) (p .place) (p .inside) (w .used) (w .area))
 
     pub records-are : recordsPut lines (ownNodes N a) v a k recs ≡ newRecords N a k bs v recs

@@ -1,86 +1,18 @@
-// What an accepted step of one area writes: its count, its voltages, the words of its rows, and what its line ends send. A leg's line has its current and
+// What an accepted step of one area writes: its count, its voltages and peaks, the words of its rows, and what its line ends send. A leg's line has its current and
 // what it passes on; nothing is worked out again.
-ghost use Rattle.whole.specs.Plain.{_+_, _≤_, _<_, _%_, _≡_, length, set, fold};
+ghost use Rattle.whole.specs.Plain.{_+_, _≤_, _<_, _%_, _≡_, length, set};
 ghost use Rattle.whole.specs.Loans.{was, is};
 ghost use Rattle.paper.specs.Limits as Limits;
-ghost use Rattle.step_legs.specs.Wires.{Wires};
-ghost use Rattle.step_commit.specs.Records.{voltsPut, legPut, linePut, recordsPut, Nodes, Recordable};
+ghost use Rattle.step_records.specs.Records.{recordsPut, Recordable};
 ghost use Rattle.step_commit.specs.Stores.{fromEnd, toEnd, sentPut, sentBy, Slotted, Sendable};
 use paper::Node;
 use paper::kinds;
-use paper::sections;
 use plan_rows::Table;
 use step_legs::Line;
 use step_legs::Wire;
 
-// Of a leg's line, what the step found.
-const CURRENT: usize = 7;
-
+// Of a leg's line, what it passes on.
 const PASSED: usize = 8;
-
-// ---- the records
-
-// The voltages of the area's nodes.
-fn put_volts(nodes: &[usize], v: &[i64; Node::PLACES], records: &mut [i64])
-    requires { ⌜ Nodes (now nodes) × (length (now records) ≡ Limits.recordWords) ⌝ }
-    ensures { λ _. ⌜ is records ≡ voltsPut (was v) (was nodes) (was records) ⌝ }
-{
-    let mut i = 0;
-    while i < nodes.len() {
-        let n = nodes[i];
-        records[sections::VOLTS + n - 1] = v[n];
-        i += 1;
-    }
-}
-
-// A leg's part of its row's words: at the from end the current, and the history of an L or a C; a line's current at its to end.
-fn put_leg(l: Wire, current: i64, passed: i64, records: &mut [i64])
-    requires { ⌜ (l .row < Limits.rowEnd) × (length (now records) ≡ Limits.recordWords) ⌝ }
-    ensures { λ _. ⌜ is records ≡ legPut l current passed (was records) ⌝ }
-{
-    let row = l.row;
-    if l.end == 1 {
-        records[sections::CURRENTS + row] = current;
-        if (l.kind == kinds::L) | (l.kind == kinds::C) {
-            records[sections::HISTORIES + row] = passed;
-        }
-    } else if l.kind == kinds::LINE {
-        records[sections::TO_CURRENTS + row] = current;
-    }
-}
-
-// Every leg's part.
-fn put_legs(legs: &[Line], records: &mut [i64])
-    requires { ⌜ Wires (now legs) × (length (now records) ≡ Limits.recordWords) ⌝ }
-    ensures { λ _. ⌜ is records ≡ fold linePut (was records) (was legs) ⌝ }
-{
-    let mut j = 0;
-    while j < legs.len() {
-        let l = step_legs::leg_at(legs, j);
-        let w = legs[j];
-        put_leg(l, w[CURRENT], w[PASSED], records);
-        j += 1;
-    }
-}
-
-// The count, the voltages, and the words of the area's rows.
-fn put_records(
-    legs: &[Line],
-    nodes: &[usize],
-    v: &[i64; Node::PLACES],
-    records: &mut [i64],
-    area: usize,
-    k: usize,
-)
-    requires { ⌜ Recordable (now legs) (now nodes) (now records) area k ⌝ }
-    ensures { λ _. ⌜ is records ≡ recordsPut (was legs) (was nodes) (was v) area k (was records) ⌝ }
-{
-    records[sections::COUNTS + (area - 1)] = k as i64;
-    put_volts(nodes, v, records);
-    put_legs(legs, records);
-}
-
-// ---- the line stores
 
 // The value of step s in place s mod the slots of one line end.
 fn put_slot(ring: &mut [i64], k: usize, x: i64)
@@ -144,12 +76,12 @@ pub fn commit(
     area: usize,
     k: usize,
 )
-    requires { ⌜ Recordable (now legs) (now nodes) (now records) area k ⌝ }
+    requires { ⌜ Recordable (now legs) (now nodes) (now v) (now records) area k ⌝ }
     requires { ⌜ Sendable (now plan) (now legs) (now froms) (now tos) ⌝ }
     ensures { λ _. ⌜ is records ≡ recordsPut (was legs) (was nodes) (was v) area k (was records) ⌝ }
     ensures { λ _. ⌜ is froms ≡ sentBy (was plan) k fromEnd (was legs) (was froms) ⌝ }
     ensures { λ _. ⌜ is tos ≡ sentBy (was plan) k toEnd (was legs) (was tos) ⌝ }
 {
-    put_records(legs, nodes, v, records, area, k);
+    step_records::put_records(legs, nodes, v, records, area, k);
     send(plan, legs, froms, tos, k);
 }

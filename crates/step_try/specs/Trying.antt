@@ -68,6 +68,7 @@ pub record Flowing (N : Net) (a k : ℕ) (recs froms tos v : Words) (lines : Lis
   pub legs : List Words
   pub laid : Laid N a k recs froms tos legs
   pub flows : lines ≡ map (flown v) legs
+  pub volts : Volts v
 
 -- what 16 and 17 go by
 pub record Flow (legs : List Words) (free : List ℕ) (inject v : Words) (at : At) : Type 0 where

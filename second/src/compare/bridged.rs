@@ -3,6 +3,7 @@
 
 use super::lent::Lendable;
 use crate::list::Listed;
+use crate::node::Asked;
 use std::io::{self, BufWriter, Read, Write};
 use std::ops::Range;
 use std::process::{Child, ChildStdin, ChildStdout, Command, Stdio};
@@ -14,16 +15,19 @@ const COMMAND: &str = "EMT_BRIDGE";
 const UNWRITTEN: u64 = 0xDEAD_BEEF_DEAD_BEEF;
 const TRESPASS: u64 = 999_999_999;
 
-/// Call, area, second answer and three of a stop, then place and length of five lent pieces.
+/// Call, area or node, second answer and three more (of a stop; a node's are the second and the first two), then
+/// place and length of five lent pieces.
 const HEAD_WORDS: usize = FIRST_PIECE + 2 * PIECES;
 const SECOND: usize = 2;
 const STOP: usize = 3;
 const FIRST_PIECE: usize = 6;
 const PIECES: usize = 5;
-const LIST: u64 = 3;
-const WRITE: u64 = 4;
-const LISTING: u64 = 5;
+const NODE: u64 = 3;
+const LIST: u64 = 4;
+const WRITE: u64 = 5;
+const LISTING: u64 = 6;
 const NETWORK: usize = 0;
+const RECORDS: usize = 1;
 const BYTES: usize = 4;
 /// A request goes in one piece, so that the bridge wakes once.
 const REQUEST_BYTES: usize = 1 << 17;
@@ -80,19 +84,29 @@ pub fn write(network: &[i64], out: &mut [u8]) -> (u64, u64) {
     (told.number, told.written)
 }
 
+pub fn node(network: &[i64], records: &[i64], node: u64) -> Asked {
+    let mut bridge = bridge();
+    bridge.begin(NODE, node);
+    bridge.lend_words(NETWORK, network);
+    bridge.lend_words(RECORDS, records);
+    bridge.call();
+    let told = bridge.answer(NODE);
+    Asked { number: told.number, voltage: told.written as i64, peak: told.stop[0], step: told.stop[1] }
+}
+
 fn on_state(call: u64, area: u64, network: &[i64], state: [&mut [i64]; 3], out: Option<&mut [u8]>) -> Listed {
     let mut bridge = bridge();
     bridge.begin(call, area);
     bridge.lend_words(NETWORK, network);
     for (piece, words) in state.iter().enumerate() {
-        bridge.lend_words(1 + piece, words);
+        bridge.lend_words(RECORDS + piece, words);
     }
     if let Some(out) = &out {
         bridge.lend_bytes(out);
     }
     bridge.call();
     for (piece, words) in state.into_iter().enumerate() {
-        bridge.take_words(1 + piece, words);
+        bridge.take_words(RECORDS + piece, words);
     }
     if let Some(out) = out {
         bridge.take_bytes(out);
@@ -225,16 +239,19 @@ impl Bridge {
     }
 
     /// All answers, once what was lent for writing is taken; `written` is the second one of any call. Only a
-    /// listing writes those of a stop.
+    /// listing writes all three of a stop, and the question for a node two of them.
     fn answer(&mut self, call: u64) -> Listed {
         let told = |word| word_of(&self.back, word);
         let (number, written, stop) = (told(0), told(SECOND), [told(STOP), told(STOP + 1), told(STOP + 2)]);
         self.set(0, number);
         self.set(SECOND, written);
-        if call == LIST {
-            for (place, value) in stop.into_iter().enumerate() {
-                self.set(STOP + place, value);
-            }
+        let more = match call {
+            LIST => 3,
+            NODE => 2,
+            _ => 0,
+        };
+        for (place, value) in stop.into_iter().enumerate().take(more) {
+            self.set(STOP + place, value);
         }
         Listed { number: if self.sent == self.back { number } else { TRESPASS }, written, stop }
     }

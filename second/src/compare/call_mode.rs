@@ -1,4 +1,4 @@
-//! `compare calls`: the proved library's five calls against ours, every lent word after every call.
+//! `compare calls`: the proved library's six calls against ours, every lent word after every call.
 
 use super::arguments::Arguments;
 use super::damage;
@@ -9,6 +9,8 @@ use super::foreign::{self, Calls};
 use super::list_slips;
 use super::listings;
 use super::moves::{self, Depth};
+use super::nodes;
+use super::peak_slips;
 use super::shrink;
 use super::slips;
 use super::studies;
@@ -25,8 +27,8 @@ const SHRINK_TRIES: usize = 3_000;
 /// Every how manyth study has each single word changed; that asks some 20,000 questions.
 const EVERY_WORD_TURN: u64 = 500;
 
-/// So many studies have travel times of every kind.
-const ALL_TRAVELS: u64 = 1_000;
+/// So many studies have travel times and odd peaks of every kind.
+const ALL_KINDS: u64 = 1_000;
 
 pub type Question<'a> = &'a dyn Fn(&[u8], &mut Tally) -> Result<(), Difference>;
 
@@ -34,7 +36,7 @@ pub type Question<'a> = &'a dyn Fn(&[u8], &mut Tally) -> Result<(), Difference>;
 pub fn compare_calls(arguments: &Arguments) -> bool {
     let Some(calls) = foreign::proved_calls() else {
         println!(
-            "built without the proved library: see README.md for the features read, reset, advance, list, write"
+            "built without the proved library: see README.md for the features read, reset, advance, list, write, node"
         );
         return false;
     };
@@ -42,8 +44,11 @@ pub fn compare_calls(arguments: &Arguments) -> bool {
     println!("seed {seed}");
     let extent = Extent::of(arguments, seed);
     let mut tally = compare_all(&calls, &extent, true);
-    if extent.studies >= ALL_TRAVELS {
+    if extent.studies >= ALL_KINDS {
         travels::miss_nothing(&mut tally);
+    }
+    if calls.node.is_some() && extent.studies >= ALL_KINDS {
+        nodes::miss_nothing(&mut tally);
     }
     if calls.write.is_some() {
         writings::miss_nothing(&mut tally);
@@ -92,7 +97,8 @@ fn compare_all(calls: &Calls, extent: &Extent, aloud: bool) -> Tally {
         ask(&text, aloud, &mut tally, &|text, tally| {
             moves::ask_moves(calls, text, seed, depth, tally)?;
             listings::ask_listings(calls, text, seed, depth, tally)?;
-            writings::ask_writings(calls, text, seed, depth, tally)
+            writings::ask_writings(calls, text, seed, depth, tally)?;
+            nodes::ask_nodes(calls, text, seed, depth, tally)
         });
         if aloud && tally.failed > failed {
             println!("found at study number {index}: --first {index} --count 1 asks it again\n");
@@ -130,7 +136,8 @@ fn compare_fixed_studies(calls: &Calls, aloud: bool, tally: &mut Tally) {
     for text in ["study\t1000\t1\t0\n", "study\t1\t1000000\t0\n"] {
         ask(text.as_bytes(), aloud, tally, &|text, tally| {
             listings::ask_listings(calls, text, 0, Depth::Usual, tally)?;
-            writings::ask_writings(calls, text, 0, Depth::Usual, tally)
+            writings::ask_writings(calls, text, 0, Depth::Usual, tally)?;
+            nodes::ask_nodes(calls, text, 0, Depth::Usual, tally)
         });
     }
     ask(&writings::longest_text(), aloud, tally, &|text, tally| {
@@ -167,9 +174,16 @@ pub fn compare_self(arguments: &Arguments) -> bool {
     let extent = Extent { seed, fixed_list: 1, edits: 1, texts: 2 * studies, studies, first: 0 };
     let mut tally = compare_all(&slips::own_calls(), &extent, true);
     writings::miss_nothing(&mut tally);
+    nodes::miss_nothing(&mut tally);
     // The planted ones need no list of texts but where the slip is the reader's.
-    let planted =
-        [slips::planted(), travel_slips::planted(), list_slips::planted(), write_slips::planted()].concat();
+    let planted = [
+        slips::planted(),
+        travel_slips::planted(),
+        list_slips::planted(),
+        write_slips::planted(),
+        peak_slips::planted(),
+    ]
+    .concat();
     for (name, calls, in_reader) in planted {
         let extent = Extent { fixed_list: usize::from(in_reader), edits: 0, texts: 50, ..extent };
         let found = compare_all(&calls, &extent, false).failed > 0;

@@ -2,6 +2,7 @@
 
 use super::ends_mode::Found;
 use super::foreign::Calls;
+use super::peak_slips;
 use super::slips;
 use super::travel_slips;
 use crate::calls;
@@ -32,6 +33,13 @@ pub fn planted() -> Vec<(&'static str, Calls, Found)> {
             advance(advance_newest),
             Found::TwoOrders,
         ),
+        (
+            "peak moves to a later step of the same magnitude",
+            advance(peak_slips::advance_last_place),
+            Found::WrongPeak,
+        ),
+        ("peak told at the step before", advance(peak_slips::advance_step_before), Found::WrongPeak),
+        ("peak of 0 at step 1 not told", advance(peak_slips::advance_keeping), Found::WrongPeak),
     ]
 }
 

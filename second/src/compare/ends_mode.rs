@@ -29,6 +29,7 @@ const MIXED: &str = "ends: studies with a stopped area, one tied to it and one a
 #[derive(Clone, Copy, PartialEq, Eq, Debug)]
 pub enum Found {
     StrangeAnswer,
+    WrongPeak,
     TwoOrders,
     TooShort,
     AgainstSecond,
@@ -38,6 +39,7 @@ impl Found {
     pub fn question(self) -> &'static str {
         match self {
             Found::StrangeAnswer => "an answer that no run gets",
+            Found::WrongPeak => "a peak that is not the largest of the voltages after each step",
             Found::TwoOrders => "two orders end differently",
             Found::TooShort => "an area that nothing stops has steps left",
             Found::AgainstSecond => "an order ends otherwise than by the second program",
@@ -50,7 +52,7 @@ impl Found {
 pub fn compare_ends(arguments: &Arguments) -> bool {
     let Some(calls) = foreign::proved_calls() else {
         println!(
-            "built without the proved library: see README.md for the features read, reset, advance, list, write"
+            "built without the proved library: see README.md for the features read, reset, advance, list, write, node"
         );
         return false;
     };
@@ -187,7 +189,7 @@ fn reaches_all(network: &Network, order: Order, ends: &[AreaEnd]) -> Result<(), 
     Err(differ(Found::TooShort, format!("{order:?}"), ours, format!("it takes {count}")))
 }
 
-/// The end of a run that keeps all that was ever sent, read against the words of the records.
+/// The end of a run that keeps all voltages and all that was ever sent, read against the words of the records.
 fn same_as_whole_run(network: &Network, theirs: &Ended) -> Result<(), Difference> {
     let mut run = Run::at_rest(network.clone());
     let ours = ends::take_to_end(&mut run);
@@ -199,6 +201,12 @@ fn same_as_whole_run(network: &Network, theirs: &Ended) -> Result<(), Difference
     for (index, branch) in network.branches.iter().enumerate() {
         run.from_currents[index] = word(state::from_current_place(branch.row));
         run.to_currents[index] = word(state::to_current_place(branch.row));
+    }
+    let wrong = |node: &usize| calls::lent_peak(&theirs.lent.records, *node) != run.peak(*node);
+    if let Some(node) = (1..=network.node_count).find(wrong) {
+        let (ours, theirs) = (run.peak(node), calls::lent_peak(&theirs.lent.records, node));
+        let more = format!("a whole run, the peak of node {node}");
+        return Err(differ(Found::AgainstSecond, more, format!("{ours:?}"), format!("{theirs:?}")));
     }
     let theirs = ends::end_lines(&run, &theirs.ends);
     if ours == theirs {

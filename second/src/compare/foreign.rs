@@ -3,12 +3,14 @@
 
 use super::bridged;
 use crate::list::Listed;
+use crate::node::Asked;
 
 pub type ReadCall = fn(&[u8], &mut [i64]) -> (u64, u64);
 pub type ResetCall = fn(&[i64], &mut [i64], &mut [i64], &mut [i64]) -> u64;
 pub type AdvanceCall = fn(&[i64], &mut [i64], &mut [i64], &mut [i64], u64) -> (u64, u64);
 pub type ListCall = fn(&[i64], &mut [i64], &mut [i64], &mut [i64], &mut [u8]) -> Listed;
 pub type WriteCall = fn(&[i64], &mut [u8]) -> (u64, u64);
+pub type NodeCall = fn(&[i64], &[i64], u64) -> Asked;
 
 /// A later call is compared only together with the earlier ones.
 #[derive(Clone, Copy)]
@@ -18,6 +20,7 @@ pub struct Calls {
     pub advance: Option<AdvanceCall>,
     pub list: Option<ListCall>,
     pub write: Option<WriteCall>,
+    pub node: Option<NodeCall>,
 }
 
 /// The proved calls, or none in a build without the library where no bridge is named.
@@ -29,6 +32,7 @@ pub fn proved_calls() -> Option<Calls> {
             advance: Some(bridged::advance),
             list: Some(bridged::list),
             write: Some(bridged::write),
+            node: Some(bridged::node),
         });
     }
     #[cfg(feature = "read")]
@@ -50,6 +54,10 @@ pub fn proved_calls() -> Option<Calls> {
         write: Some(linked::write),
         #[cfg(not(feature = "write"))]
         write: None,
+        #[cfg(feature = "node")]
+        node: Some(linked::node),
+        #[cfg(not(feature = "node"))]
+        node: None,
     });
     #[cfg(not(feature = "read"))]
     None
@@ -59,6 +67,8 @@ pub fn proved_calls() -> Option<Calls> {
 mod linked {
     #[cfg(feature = "list")]
     use crate::list::Listed;
+    #[cfg(feature = "node")]
+    use crate::node::Asked;
 
     extern "C" {
         fn emt_read(
@@ -133,6 +143,17 @@ mod linked {
             out: *mut u8,
             out_len: usize,
             written: *mut u64,
+        ) -> u64;
+        #[cfg(feature = "node")]
+        fn emt_node(
+            network: *const i64,
+            network_len: usize,
+            records: *const i64,
+            records_len: usize,
+            node: u64,
+            voltage: *mut i64,
+            peak: *mut u64,
+            step: *mut u64,
         ) -> u64;
     }
 
@@ -297,5 +318,25 @@ mod linked {
         let number =
             unsafe { emt_write(network.as_ptr(), network.len(), out.as_mut_ptr(), out.len(), &mut written) };
         (number, written)
+    }
+
+    #[cfg(feature = "node")]
+    pub fn node(network: &[i64], records: &[i64], node: u64) -> Asked {
+        let mut voltage = UNWRITTEN as i64;
+        let [mut peak, mut step] = [UNWRITTEN; 2];
+        // SAFETY: both pairs come from slices, and the last three are words of our own.
+        let number = unsafe {
+            emt_node(
+                network.as_ptr(),
+                network.len(),
+                records.as_ptr(),
+                records.len(),
+                node,
+                &mut voltage,
+                &mut peak,
+                &mut step,
+            )
+        };
+        Asked { number, voltage, peak, step }
     }
 }

@@ -1,10 +1,11 @@
 //! Lent memory for one question: our calls work on it directly, the others on a copy between guard words.
 
 use super::dice::Dice;
-use super::foreign::{AdvanceCall, ListCall, ReadCall, ResetCall, WriteCall};
+use super::foreign::{AdvanceCall, ListCall, NodeCall, ReadCall, ResetCall, WriteCall};
 use super::tally::Difference;
 use crate::calls;
 use crate::list::{self, Listed, STEP_ROOM};
+use crate::node::{self, Asked};
 use crate::state::{RECORD_WORDS, STORE_WORDS};
 use crate::write;
 use std::fmt::Display;
@@ -247,6 +248,21 @@ pub fn same_write(call: WriteCall, network: &[i64], out: &mut [u8]) -> Result<(u
     };
     let theirs = shown(theirs, area.content());
     settle(question, shown(ours, out), theirs, found).map(|()| ours)
+}
+
+/// Asks both for a node; answers ours where number, voltage, peak and step agree and nothing lent has changed.
+pub fn same_node(call: NodeCall, network: &[i64], records: &[i64], number: u64) -> Result<Asked, Difference> {
+    let (mut words, mut state) = (Guarded::around(network), Guarded::around(records));
+    let theirs = call(words.lent(), state.lent(), number);
+    let ours = node::node(network, records, number);
+    let mut found = words.differences("network", network);
+    found.extend(state.differences("records", records));
+    if ours == theirs && found.is_empty() {
+        return Ok(ours);
+    }
+    let lengths = format!("{} and {} words", network.len(), records.len());
+    let question = format!("in asking for node {number}, {lengths}, records: {}", nonzero(records));
+    settle(question, format!("{ours:?}"), format!("{theirs:?}"), found).map(|()| ours)
 }
 
 /// The answer, and what is listed from the line on in which the two part.

@@ -250,6 +250,7 @@ impl<'a> ListAsker<'a> {
         for area in 2..=self.areas {
             self.lent.records[state::count_place(area)] = self.count_of(1);
         }
+        moves::set_peaks(&mut self.dice, &network, &mut self.lent.records);
         if self.areas > 0 && self.dice.one_in(6) {
             let area = 1 + self.dice.below(self.areas);
             self.lent.records[state::count_place(area)] += self.dice.pick(&[-1, 1]);
@@ -280,10 +281,10 @@ impl<'a> ListAsker<'a> {
             if self.dice.one_in(2) {
                 self.damage_a_word();
             }
-            let wrong = self.dice.below(5);
+            let wrong = self.dice.below(6);
             let words = self.lent.slice(slice);
             let right = words.len();
-            words.resize([0, 1, right - 1, right + 1, 2 * right][wrong], 0);
+            words.resize([0, 1, right / 2, right - 1, right + 1, 2 * right][wrong], 0);
             let room = self.small_room();
             self.ask_list(room)?;
             self.lent.clone_from(&kept);
@@ -307,7 +308,9 @@ impl<'a> ListAsker<'a> {
     /// A word of any slice, mostly one in use, set to an odd value.
     fn damage_a_word(&mut self) {
         let slice = self.dice.pick(&[0, 0, 1, 1, 1, 2, 3]);
-        let in_use = [8 + 8 * self.lent.network[3].clamp(0, 80) as usize + 8, 310, 16, 16][slice];
+        let in_use =
+            [8 + 8 * self.lent.network[3].clamp(0, 80) as usize + 8, moves::RECORDS_IN_USE + 8, 16, 16]
+                [slice];
         let length = self.lent.slice(slice).len();
         let end = if self.dice.one_in(4) { length } else { in_use };
         let place = self.dice.below(end);

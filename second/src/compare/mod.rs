@@ -16,6 +16,8 @@ pub mod lent;
 pub mod list_slips;
 pub mod listings;
 pub mod moves;
+pub mod nodes;
+pub mod peak_slips;
 pub mod schedulers;
 pub mod shrink;
 pub mod slips;

@@ -12,6 +12,9 @@ use crate::reader;
 use crate::record;
 use crate::state;
 
+/// Words of the records that some network uses; those behind are 0.
+pub const RECORDS_IN_USE: usize = 368;
+
 /// How thoroughly one study is asked.
 #[derive(Clone, Copy, PartialEq, Eq, Debug)]
 pub enum Depth {
@@ -90,10 +93,10 @@ impl Asker<'_> {
     fn wrong_lengths(&mut self) -> Result<(), Difference> {
         let kept = self.lent.clone();
         for slice in 0..4 {
-            let wrong = self.dice.below(5);
+            let wrong = self.dice.below(6);
             let words = self.lent.slice(slice);
             let right = words.len();
-            words.resize([0, 1, right - 1, right + 1, 2 * right][wrong], 0);
+            words.resize([0, 1, right / 2, right - 1, right + 1, 2 * right][wrong], 0);
             self.ask_reset()?;
             self.ask_advance(1)?;
             self.lent = kept.clone();
@@ -146,7 +149,7 @@ impl Asker<'_> {
                 self.lent.tos[place] = value;
             }
             _ => {
-                let place = self.dice.below(310);
+                let place = self.dice.below(RECORDS_IN_USE + 8);
                 self.lent.records[place] = self.lent.records[place].wrapping_add(value);
             }
         }
@@ -169,6 +172,7 @@ impl Asker<'_> {
             // One count may be one too far from another's.
             let area = 1 + self.dice.below(network.area_count);
             self.lent.records[state::count_place(area)] += self.dice.pick(&[-1, 1]);
+            set_peaks(&mut self.dice, &network, &mut self.lent.records);
         }
         for _ in 0..6 {
             let area = 1 + self.dice.below(network.area_count.max(1)) as u64;
@@ -293,7 +297,22 @@ pub fn random_state(dice: &mut Dice, network: &Network, words: &[i64]) -> Lent {
         }
     }
     set_counts(dice, network, &mut lent.records);
+    set_peaks(dice, network, &mut lent.records);
     lent
+}
+
+/// Peaks that voltages and counts allow, many of them at their very ends. An area that has taken no step may have
+/// one too: its step 1 overwrites it.
+pub fn set_peaks(dice: &mut Dice, network: &Network, records: &mut [i64]) {
+    let highest = limits::HIGHEST_VOLTAGE as i64;
+    for node in 1..=network.node_count {
+        let magnitude = records[state::voltage_place(node)].abs();
+        let count = records[state::count_place(network.area_of[node])].max(0);
+        let above = dice.between(magnitude, highest);
+        let step = dice.between(0, count);
+        records[state::peak_place(node)] = dice.pick(&[magnitude, magnitude, highest, above]);
+        records[state::peak_step_place(node)] = dice.pick(&[0, count, step]);
+    }
 }
 
 /// All areas at one count first; then single areas are moved as far as their lines allow.

@@ -4,10 +4,13 @@ use super::dice::Dice;
 use super::ends_mode::Found;
 use super::foreign::AdvanceCall;
 use super::lent::Lent;
+use super::nodes::PastVoltages;
 use super::tally::Difference;
+use crate::calls;
 use crate::ends::{self, AreaEnd};
 use crate::limits::Whole;
 use crate::network::Network;
+use crate::peaks::Peak;
 use crate::refusal::Refusal;
 use crate::state;
 
@@ -37,7 +40,8 @@ pub struct Ended {
 }
 
 /// Calls areas of a network at rest until in one unchanged state every area has answered DONE, WAIT or one of
-/// 14 to 17. An answer that no run gets, or a step past the last, is an error.
+/// 14 to 17. An answer that no run gets, a step past the last, or a peak at the end that is not the largest of the
+/// voltages that the records held after each step is an error.
 pub fn take_to_end(
     advance: AdvanceCall,
     network: &Network,
@@ -47,6 +51,7 @@ pub fn take_to_end(
 ) -> Result<Ended, Difference> {
     let mut scheduler = Scheduler::new(order, network.area_count, dice);
     let mut accepted = vec![Vec::new(); network.area_count];
+    let mut past = PastVoltages::at_rest(network);
     while let Some(area) = scheduler.next_area() {
         scheduler.disturb(advance, &mut lent)?;
         let (number, place) =
@@ -54,6 +59,7 @@ pub fn take_to_end(
         let answers: &mut Vec<u64> = &mut accepted[area - 1];
         if number == 0 && (answers.len() as Whole) < network.steps {
             answers.push(place);
+            past.note(network, area, &lent.records);
             scheduler.answers.fill(None);
         } else if ends::may_rest(number) {
             scheduler.answers[area - 1] = Some((number, place));
@@ -61,6 +67,9 @@ pub fn take_to_end(
             return Err(no_such_answer(order, area as u64, number));
         }
         scheduler.last_refused = number != 0;
+    }
+    if let Some(node) = past.first_other(&lent.records) {
+        return Err(wrong_peak(order, node, past.peak(node), calls::lent_peak(&lent.records, node)));
     }
     let count = |index: usize| Whole::from(lent.records[state::count_place(index + 1)]);
     let end = |(index, answer): (usize, &Option<(u64, u64)>)| {
@@ -77,6 +86,15 @@ fn no_such_answer(order: Order, area: u64, number: u64) -> Difference {
         ours: "an acceptance for each of the steps; else 12 to 17, 11 for no area, 9 for a length"
             .to_string(),
         theirs: format!("number {number}"),
+    }
+}
+
+fn wrong_peak(order: Order, node: usize, ours: Peak, theirs: Peak) -> Difference {
+    let shown = |peak: Peak| format!("{} at step {}", peak.magnitude, peak.step);
+    Difference {
+        question: format!("{}: {order:?}, node {node}", Found::WrongPeak.question()),
+        ours: shown(ours),
+        theirs: shown(theirs),
     }
 }
 

@@ -6,6 +6,7 @@ use crate::calls;
 use crate::limits::Whole;
 use crate::list;
 use crate::network::{Network, Travel};
+use crate::node;
 use crate::record;
 use crate::state;
 use crate::write;
@@ -17,6 +18,7 @@ pub fn own_calls() -> Calls {
         advance: Some(calls::advance),
         list: Some(list::list),
         write: Some(write::write),
+        node: Some(node::node),
     }
 }
 

@@ -10,7 +10,7 @@ use Rattle.plan_rows.specs.declared.Row.{Row}
 use Rattle.call_counts.specs.Lines.{rows-of}
 use Rattle.call_state.specs.Facts.{formed-counts, formed-counted}
 use Rattle.call_advance.specs.Cases.{late-in, waits, goes-on, not-formed, no-area, all-taken, next-step}
-use Rattle.call_advance.specs.Given.{Seen, of, area-count, step-count, stepping, number-is}
+use Rattle.call_advance.specs.Given.{Seen, of, mapped-of, area-count, step-count, stepping, number-is}
 use Rattle.call_advance.specs.Judging.{refusal-judged}
 use Rattle.call_advance.proofs.on_network.Statement.{statement}
 use Rattle.call_advance.proofs.on_network.Tie as tie
@@ -22,7 +22,7 @@ seen c =
     record { network = c .before .before .before .pre .0 .0; planned = e .0 .0; mapped = e .0 .1; counts = e .1 }
 
 abbrev made : tie.After-well-formed → tie.After-make
-made c = c .before .before
+made c = c .before .before .before
 
 abbrev start : tie.After-well-formed → tie.Start
 start c = made c .before .before .before
@@ -32,17 +32,17 @@ lentTo s = memory (s .args .records .now) (s .args .froms .now) (s .args .tos .n
 
 well-formed-requires : tie.Need-well-formed-requires
 well-formed-requires c κs =
-    let m = c .before in
-    (record { net = _; of = of (seen m) }, m .before .before .before .pre .0 .1)
+    let m = c .before .before in
+    (record { net = _; of = mapped-of (seen m) }, m .before .before .before .pre .0 .1)
 
 returns : tie.Need-returns
 returns c =
     let w = c .before .before in
     refusal-judged _ _ _ _ _ _ (c .refused .ensures)
-    (not-formed _ _ (lentTo (start w)) (sym (w .well-formed .ensures _ (of (seen (made w)))) ∙ not-true (w .well-formed .result) (c .before .if1 .taken)))
+    (not-formed _ _ (lentTo (start w)) (sym (w .well-formed .ensures _ (mapped-of (seen (made w)))) ∙ not-true (w .well-formed .result) (c .before .if1 .taken)))
 
 good : (e : tie.Else1) → wellFormed (netIn (start (e .before) .args .net .now)) (start (e .before) .args .records .now) (start (e .before) .args .froms .now) (start (e .before) .args .tos .now) ≡ true
-good e = let w = e .before in sym (w .well-formed .ensures _ (of (seen (made w)))) ∙ not-false (w .well-formed .result) (e .if1 .left)
+good e = let w = e .before in sym (w .well-formed .ensures _ (mapped-of (seen (made w)))) ∙ not-false (w .well-formed .result) (e .if1 .left)
 
 returns-2 : tie.Need-returns-2
 returns-2 c =

@@ -6,6 +6,7 @@ use Rattle.paper.specs.Advance.{Memory, memory}
 use Rattle.paper.specs.Pieces.{level}
 use Rattle.laws_facts.specs.Nets.{netIn}
 use Rattle.plan_net.specs.Of.{Of, of-record}
+use Rattle.call_state.specs.Judged.{MappedOf}
 use Rattle.call_list.specs.Cases.{gives-none, judged}
 use Rattle.call_list.specs.Laid.{level-here}
 use Rattle.call_list.proofs.on_network.Statement.{statement}
@@ -20,21 +21,24 @@ lentTo s = memory (s .args .records .now) (s .args .froms .now) (s .args .tos .n
 of : (m : tie.After-make) → Of (netIn (start m .args .net .now)) (m .make .last .1 .1 .0) (m .make .result)
 of m = of-record (start m .args .net .now) (start m .pre .0 .0) (m .make .ensures .0 .0) (m .make .ensures .1)
 
+mapped : (m : tie.After-make) → MappedOf (netIn (start m .args .net .now)) (m .make .last .1 .1 .0) (m .make .last .1 .0) (m .make .result)
+mapped m = record { of = of m; mapped = m .make .ensures .0 .1 }
+
 in-step-requires : tie.Need-in-step-requires
-in-step-requires c κs = let m = c .before .before .before .before in (record { net = _; of = of m }, start m .pre .0 .1)
+in-step-requires c κs = let m = c .before .before .before .before .before in (record { net = _; of = mapped m }, start m .pre .0 .1)
 
 abbrev made : tie.After-in-step → tie.After-make
-made j = j .before .before .before .before .before
+made j = j .before .before .before .before .before .before
 
 returns : tie.Need-returns
 returns c =
     let j = c .before in
     let s = start (made j) in
-    gives-none _ _ _ (judged (s .args .net .now) _ (lentTo s) _ _ (sym (j .in-step .ensures _ (of (made j))) ∙ not-true (j .in-step .result) (c .if1 .taken)))
+    gives-none _ _ _ (judged (s .args .net .now) _ (lentTo s) _ _ (sym (j .in-step .ensures _ (mapped (made j))) ∙ not-true (j .in-step .result) (c .if1 .taken)))
 
 good : (e : tie.Else1) → let s = start (made (e .before)) in let N = netIn (s .args .net .now) in
     (wellFormed N (s .args .records .now) (s .args .froms .now) (s .args .tos .now) && level N (s .args .records .now)) ≡ true
-good e = let j = e .before in sym (j .in-step .ensures _ (of (made j))) ∙ not-false (j .in-step .result) (e .if1 .left)
+good e = let j = e .before in sym (j .in-step .ensures _ (mapped (made j))) ∙ not-false (j .in-step .result) (e .if1 .left)
 
 onward-requires : tie.Need-onward-requires
 onward-requires c κs =

@@ -88,7 +88,12 @@ returns-2 c =
     let d = driven s in (
       λ N a t. record {
         tried = tries-flow t (laid (heard d) t) (d .drive .last .1 .1 .1 .0) (inject-from t (d .drive .ensures .1 .0)) (still-from t (d .drive .ensures .0)) (s .solve .ensures) (e .if1 .left) (f .flowing .ensures .0);
-        flowing = λ o. record { legs = after (heard d); laid = laid (heard d) t; flows = f .flowing .ensures .1 };
+        flowing = λ o. record {
+          legs = after (heard d);
+          laid = laid (heard d) t;
+          flows = f .flowing .ensures .1;
+          volts = found-volts _ _ _ _ _ (volts-from t (d .drive .ensures .0)) (s .solve .ensures .volts (e .if1 .left));
+        };
       },
       same-then (all-heard _ _ _ _ _ _ (heard d .hear .ensures)) (flown-same _ _ (f .flowing .ensures .1)),
     )

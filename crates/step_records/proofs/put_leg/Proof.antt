@@ -1,11 +1,11 @@
--- `step_commit::put_leg` meets its contract. Assumes nothing.
+-- `step_records::put_leg` meets its contract. Assumes nothing.
 use Rattle.whole.specs.Plain.{length-set, eq-eqb, ne-eqb, arith}
 use mir.Facts.{toZ-ofZ}
 use borrow.Author.Needs.{needs}
 use Rattle.paper.specs.Advance.{putIf}
-use Rattle.step_commit.specs.Records.{legPut}
-use Rattle.step_commit.proofs.put_leg.Statement.{statement}
-use Rattle.step_commit.proofs.put_leg.Tie as tie
+use Rattle.step_records.specs.Records.{legPut}
+use Rattle.step_records.proofs.put_leg.Statement.{statement}
+use Rattle.step_records.proofs.put_leg.Tie as tie
 
 slice-set-from-passed : tie.Need-slice-set-from-passed
 slice-set-from-passed c = simp length-set (omega arith)

@@ -1,12 +1,12 @@
--- `step_commit::put_legs` meets its contract: the legs that are left lead to the answer. Assumes nothing.
+-- `step_records::put_legs` meets its contract: the legs that are left lead to the answer. Assumes nothing.
 use Rattle.whole.specs.Plain.{_-_, _≤_, _≡_, refl, _∙_, [], length, getD, drop, arith, fold}
 use borrow.Author.Needs.{needs}
 use Rattle.whole.specs.Folds.{fold-next, fold-end}
 use Rattle.whole.specs.Int.{read64}
 use Rattle.step_legs.specs.Wires.{currentIn, passedIn}
-use Rattle.step_commit.specs.Records.{linePut}
-use Rattle.step_commit.proofs.put_legs.Statement.{statement}
-use Rattle.step_commit.proofs.put_legs.Tie as tie
+use Rattle.step_records.specs.Records.{linePut}
+use Rattle.step_records.proofs.put_legs.Statement.{statement}
+use Rattle.step_records.proofs.put_legs.Tie as tie
 
 abbrev Inv-loop : tie.InvT-loop
 Inv-loop legs records₀ j₀ records j =

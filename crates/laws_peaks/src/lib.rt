@@ -1,0 +1,1 @@
+// Peaks over every run: the theorem stands in specs/.
