@@ -3,7 +3,7 @@ use Rattle.whole.specs.Plain.{refl, replicate}
 use borrow.Author.Needs.{needs}
 use Rattle.laws_facts.specs.Nets.{netIn}
 use Rattle.plan_own.specs.Areas.{room-first}
-use Rattle.call_advance.specs.Given.{of, given, row-count, area-few, stepping-alone, tables-alone}
+use Rattle.call_judge.specs.Given.{of, given, row-count, area-few, stepping-alone, tables-alone}
 use Rattle.call_advance.proofs.alone.Statement.{statement}
 use Rattle.call_advance.proofs.alone.Tie as tie
 
