@@ -1,5 +1,5 @@
 // Each leg's history at a step: what an L or a C holds since the last one, what a line's end receives.
-ghost use Rattle.whole.specs.Plain.{_+_, _≤_, _<_, _≡_, map, natAbs, length, word};
+ghost use Rattle.whole.specs.Plain.{_≤_, _<_, _≡_, map, natAbs, length, word};
 ghost use Rattle.whole.specs.Loans.{was, is};
 ghost use Rattle.paper.specs.Limits as Limits;
 ghost use Rattle.paper.specs.Records as Records;
@@ -50,15 +50,6 @@ fn sent<'a>(r: Row, end: usize, froms: &'a [i64], tos: &'a [i64], k: usize, d: u
     step_received::received(froms, tos, side(end), r.place, r.slots, k, d)
 }
 
-// And one step before that.
-fn sent_before<'a>(r: Row, end: usize, froms: &'a [i64], tos: &'a [i64], k: usize, d: usize) -> i64
-    requires { ⌜ Ring r ⌝ }
-    requires { ⌜ (length (now froms) ≡ Limits.storeWords) × (length (now tos) ≡ Limits.storeWords) ⌝ }
-    ensures { λ h. ⌜ h ≡ sentBy r end (was froms) (was tos) k (d + 1) ⌝ }
-{
-    step_received::received_before(froms, tos, side(end), r.place, r.slots, k, d)
-}
-
 // What a line's end receives at step k: "the value sent at step k - q plus (that of step k - q - 1 minus it) · r / step, rounded down". Where r is 0 the
 // older value is not read.
 fn received<'a>(r: Row, end: usize, froms: &'a [i64], tos: &'a [i64], k: usize) -> i64
@@ -69,7 +60,7 @@ fn received<'a>(r: Row, end: usize, froms: &'a [i64], tos: &'a [i64], k: usize) 
     if r.rest == 0 {
         return newer;
     }
-    let older = sent_before(r, end, froms, tos, k, r.delay);
+    let older = sent(r, end, froms, tos, k, r.delay + 1);
     num_share::mixed(newer, older, r.rest as u64, r.step as u64)
 }
 

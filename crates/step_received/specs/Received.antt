@@ -1,8 +1,7 @@
 -- What an end of a line reads: what the far end sent d steps before step k, "or 0 where k - d < 1"; step s stands in place s mod the slots. Assumes
 -- nothing.
-use Rattle.whole.specs.Plain.{ℕ, zero, suc, _+_, _-_, _*_, _/_, _%_, _≤_, _<_, _≡_, refl, ap, _∙_, _≢_, cond, ltb, ℤ, length, take, drop, length-take}
-use Rattle.whole.specs.Plain.{length-drop, getD-take, getD-drop, lt-ltb, le-ltb, mod-lt, zero-mul, mod-add-div', arith, Words, z, word}
-use native.Mathlib.Nat.{add-mul-mod-self-right, mod-eq-of-lt}
+use Rattle.whole.specs.Plain.{ℕ, _+_, _-_, _%_, _≤_, _<_, _≡_, refl, ap, cond, ltb, ℤ, length, take, drop, length-take}
+use Rattle.whole.specs.Plain.{length-drop, getD-take, getD-drop, lt-ltb, le-ltb, mod-lt, arith, Words, z, word}
 use Rattle.whole.specs.Mixing.{mixed}
 use Rattle.paper.specs.Rows.{Row}
 use Rattle.paper.specs.Faults.{slots, delay, rest}
@@ -33,22 +32,6 @@ heard-before store start slots k d h = rw (le-ltb 0 (k - d) (omega arith))
 pub heard-after : (store : Words) (start slots k d : ℕ) → d < k → word store (start + (k - d) % slots) ≡ heardFrom store start slots k d
 unfolding heardFrom
 heard-after store start slots k d h = rw (lt-ltb 0 (k - d) (omega arith))
-
--- ---- the slot before another, around a ring of m
-pub slot-first : (s m : ℕ) → 0 < m → 1 ≤ s → s % m ≡ 0 → (s - 1) % m ≡ m - 1
-slot-first s m h one e = by (s / m) refl
-  where
-    by : (q : ℕ) → s / m ≡ q → (s - 1) % m ≡ m - 1
-    by zero f = let g : s / m * m ≡ 0 = rw f (zero-mul m) in absurd (omega (arith, mod-add-div' s m))
-    by (suc q) f =
-        let g : s / m * m ≡ m + q * m = rw f (omega arith) in
-        let i : s - 1 ≡ (m - 1) + q * m = omega (arith, mod-add-div' s m) in
-        rw i (add-mul-mod-self-right (m - 1) q m ∙ mod-eq-of-lt {n = m - 1} {m = m} (omega arith))
-
-pub slot-next : (s m : ℕ) → 0 < m → s % m ≢ 0 → (s - 1) % m ≡ s % m - 1
-slot-next s m h n =
-    let i : s - 1 ≡ (s % m - 1) + s / m * m = omega (arith, mod-add-div' s m) in
-    rw i (add-mul-mod-self-right (s % m - 1) (s / m) m ∙ mod-eq-of-lt {n = s % m - 1} {m = m} (omega (arith, mod-lt s h)))
 
 -- ---- a part of a store is read as the store is
 module _ (side : Side) (froms tos : Words) (start slots : ℕ) (f : start + slots ≤ length froms) (t : start + slots ≤ length tos) where

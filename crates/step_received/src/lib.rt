@@ -20,7 +20,7 @@ fn far<'a>(froms: &'a [i64], tos: &'a [i64], side: Side, start: usize, end: usiz
     }
 }
 
-// What the far end sent "at step k - d, or 0 where k - d < 1": of the far end's part.
+// What the far end sent "at step k - d, or 0 where k - d < 1": of the far end's part. A line's end asks for q steps before, and between steps also for q + 1.
 fn sent(part: &[i64], k: usize, d: usize) -> i64
     requires { ⌜ 0 < length (now part) ⌝ }
     ensures { λ r. ⌜ r ≡ heardFrom (was part) 0 (length (was part)) k d ⌝ }
@@ -29,25 +29,6 @@ fn sent(part: &[i64], k: usize, d: usize) -> i64
         return 0;
     }
     part[(k - d) % part.len()]
-}
-
-// What it sent one step before that. Its slot is the one before, around the ring, so that nothing is divided a second time.
-fn sent_before(part: &[i64], k: usize, d: usize) -> i64
-    requires { ⌜ 0 < length (now part) ⌝ }
-    ensures { λ r. ⌜ r ≡ heardFrom (was part) 0 (length (was part)) k (d + 1) ⌝ }
-{
-    if d >= k {
-        return 0;
-    }
-    let steps = k - d;
-    if steps == 1 {
-        return 0;
-    }
-    let slot = steps % part.len();
-    if slot == 0 {
-        return part[part.len() - 1];
-    }
-    part[slot - 1]
 }
 
 pub fn received<'a>(
@@ -65,22 +46,4 @@ pub fn received<'a>(
     let end = start + slots;
     let part = far(froms, tos, side, start, end);
     sent(part, k, d)
-}
-
-// The same of one step before.
-pub fn received_before<'a>(
-    froms: &'a [i64],
-    tos: &'a [i64],
-    side: Side,
-    start: usize,
-    slots: usize,
-    k: usize,
-    d: usize,
-) -> i64
-    requires { ⌜ (0 < slots) × ((start + slots ≤ length (now froms)) × (start + slots ≤ length (now tos))) ⌝ }
-    ensures { λ r. ⌜ r ≡ heardFrom (farStore side (was froms) (was tos)) start slots k (d + 1) ⌝ }
-{
-    let end = start + slots;
-    let part = far(froms, tos, side, start, end);
-    sent_before(part, k, d)
 }

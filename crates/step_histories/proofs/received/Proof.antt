@@ -11,15 +11,15 @@ use Rattle.step_histories.proofs.received.Tie as tie
 newer : (c : tie.After-sent) → let a = c .before .args in toZ w64 (ofZ w64 (c .sent .result)) ≡ sentBy (a .r) (a .end) (a .froms .now) (a .tos .now) (a .k) (a .r .delay)
 newer c = read64 (c .sent .result) (c .sent .ok) ∙ c .sent .ensures
 
-older : (c : tie.After-sent-before) → let a = c .before .before .before .before .args in toZ w64 (ofZ w64 (c .sent-before .result)) ≡ sentBy (a .r) (a .end) (a .froms .now) (a .tos .now) (a .k) (a .r .delay + 1)
-older c = read64 (c .sent-before .result) (c .sent-before .ok) ∙ c .sent-before .ensures
+older : (c : tie.After-sent2) → let a = c .before .before .before .before .before .args in toZ w64 (ofZ w64 (c .sent2 .result)) ≡ sentBy (a .r) (a .end) (a .froms .now) (a .tos .now) (a .k) (a .r .delay + 1)
+older c = read64 (c .sent2 .result) (c .sent2 .ok) ∙ c .sent2 .ensures
 
 returns : tie.Need-returns
 returns c = let a = c .before .before .before .args in newer (c .before .before) ∙ received-whole (a .r) (a .end) (a .froms .now) (a .tos .now) (a .k) (c .if1 .taken)
 
 mixed-requires : tie.Need-mixed-requires
 mixed-requires c κs =
-    let n = c .before .before .before in
+    let n = c .before .before .before .before in
     let s = n .before in
     let a = s .args in (
       s .pre .0 .shared,
@@ -31,7 +31,7 @@ mixed-requires c κs =
 
 returns-2 : tie.Need-returns-2
 unfolding receivedBy
-returns-2 c = read64 (c .mixed .result) (c .mixed .ok) ∙ c .mixed .ensures ∙ rw (newer (c .before .before .before .before), older (c .before))
+returns-2 c = read64 (c .mixed .result) (c .mixed .ok) ∙ c .mixed .ensures ∙ rw (newer (c .before .before .before .before .before), older (c .before))
 
 pub received-spec : {M : Type 1} → statement M
-received-spec = tie.close (tie.spec (λ c κs. search needs) returns (λ c κs. search needs) mixed-requires returns-2)
+received-spec = tie.close (tie.spec (λ c κs. search needs) returns (λ c. search needs) (λ c κs. search needs) mixed-requires returns-2)
