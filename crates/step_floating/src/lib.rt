@@ -99,6 +99,7 @@ fn visit_leg(
 
 // "The search stops at the lowest node without one": the lowest free node without a path of legs that conduct to a node that is not among the free
 // ones, or 0. While the node in hand is not reached, the visit goes on to its next leg, or to a node of the list; with none left, it floats.
+// Of the free nodes, which rise, so many are left, the one in hand among them.
 pub fn floating(legs: &[Line], free: &[usize]) -> usize
     requires { ⌜ Wires (now legs) × Free (now free) ⌝ }
     ensures { λ r. ⌜ r ≡ Paper.floating (loose (was free)) Limits.nodeEnd (was free) (legsIn (was legs)) ⌝ }
@@ -108,12 +109,12 @@ pub fn floating(legs: &[Line], free: &[usize]) -> usize
     let mut listed = 0;
     let mut visited = 0u8;
     let mut j = 0;
-    let mut place = 0;
+    let mut left = free.len();
     let found = 'nodes: loop {
-        if free.len() <= place {
+        if left == 0 {
             break 'nodes 0;
         }
-        let node = free[place];
+        let node = free[free.len() - left];
         'branches: loop {
             if marks[node] == 0 {
                 break 'branches;
@@ -130,7 +131,7 @@ pub fn floating(legs: &[Line], free: &[usize]) -> usize
             visited = list[listed];
             j = 0;
         }
-        place += 1;
+        left -= 1;
     };
     found
 }
