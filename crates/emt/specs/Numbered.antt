@@ -8,6 +8,8 @@ use Rattle.paper.specs.Reading.{readOf}
 use Rattle.paper.specs.Advance.{Memory, Advanced, advanced, advanceOf}
 use Rattle.paper.specs.Resetting.{resetOf}
 use Rattle.paper.specs.Looking.{lookingNumber, toldVoltage, toldPeak, toldStep, lookOf}
+use Rattle.call_shape.specs.declared.Asked.{Asked}
+use Rattle.call_shape.specs.Asked.{askedNumber, toldNumber}
 use Rattle.paper.specs.Pieces.{listingNumber, stopArea, stopNumber, stopPlace, listOf}
 use Rattle.paper.specs.Writing.{writeOf}
 
@@ -76,6 +78,14 @@ pub record LooksBy (net recs : Words) (n number : ℕ) (voltage : ℤ) (peak ste
 
 pub look-by-one : (net recs : Words) (n : ℕ) {x y p q s t : ℕ} {v w : ℤ} → LooksBy net recs n x v p s → LooksBy net recs n y w q t → (x ≡ y) × ((v ≡ w) × ((p ≡ q) × (s ≡ t)))
 look-by-one net recs n a b = (a .answer ∙ sym (b .answer), (a .voltage-of ∙ sym (b .voltage-of), (a .peak-of ∙ sym (b .peak-of), a .step-of ∙ sym (b .step-of))))
+
+-- of a question about a network's layout: its number, and what is told
+pub record AsksBy (x : Asked) (number told : ℕ) : Type 0 where
+  pub answer : number ≡ askedNumber x
+  pub told-of : told ≡ toldNumber x
+
+pub asks-by-one : (x : Asked) {n m p q : ℕ} → AsksBy x n p → AsksBy x m q → (n ≡ m) × (p ≡ q)
+asks-by-one x a b = (a .answer ∙ sym (b .answer), a .told-of ∙ sym (b .told-of))
 
 pub record ListsBy (net : Words) (m : Memory) (out : List ℕ) (answered written area number place : ℕ) (b : List ℕ) (after : Memory) : Type 0 where
   pub answer : answered ≡ listingNumber (listOf net m (length out) .answer)

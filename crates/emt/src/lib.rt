@@ -2,7 +2,8 @@
 // the crates below, by one name.
 ghost use Rattle.whole.specs.Loans.{was, is};
 ghost use Rattle.paper.specs.Lent.{before, after};
-ghost use Rattle.emt.specs.Numbered.{ReadsBy, ResetsBy, AdvancesBy, AdvancesIn, LooksBy, ListsBy, WritesBy};
+ghost use Rattle.call_shape.specs.Asked.{areasAsked, areaAsked, rowAsked};
+ghost use Rattle.emt.specs.Numbered.{ReadsBy, ResetsBy, AdvancesBy, AdvancesIn, LooksBy, AsksBy, ListsBy, WritesBy};
 use call_advance::Legs;
 use paper::Advance;
 use plan_rows::Table;
@@ -108,6 +109,40 @@ pub extern "C" fn emt_node(
     *peak = call_answers::told_peak(answer);
     *step = call_answers::told_step(answer);
     call_answers::looking_number(answer)
+}
+
+// How a network is laid out: how many areas it has; the area of a node; the row of a branch, from 1, as the study's line one further down has it. 9, 8, or 2
+// where there is no such node or branch; the number told is 0 then.
+pub use call_shape::Asked;
+pub use call_shape::area;
+pub use call_shape::areas;
+pub use call_shape::row;
+
+#[no_mangle]
+pub extern "C" fn emt_areas(network: &[i64], count: &mut u64) -> u64
+    ensures { λ r. ⌜ AsksBy (areasAsked (was network)) r (is count) ⌝ }
+{
+    let answer = call_shape::areas(network);
+    *count = call_shape::told_number(answer);
+    call_shape::asked_number(answer)
+}
+
+#[no_mangle]
+pub extern "C" fn emt_area(network: &[i64], node: usize, number: &mut u64) -> u64
+    ensures { λ r. ⌜ AsksBy (areaAsked (was network) node) r (is number) ⌝ }
+{
+    let answer = call_shape::area(network, node);
+    *number = call_shape::told_number(answer);
+    call_shape::asked_number(answer)
+}
+
+#[no_mangle]
+pub extern "C" fn emt_row(network: &[i64], branch: usize, place: &mut u64) -> u64
+    ensures { λ r. ⌜ AsksBy (rowAsked (was network) branch) r (is place) ⌝ }
+{
+    let answer = call_shape::row(network, branch);
+    *place = call_shape::told_number(answer);
+    call_shape::asked_number(answer)
 }
 
 // Advances all areas in rising order, full step after full step, and lists each, until the next might not fit into the buffer, an area is refused or all
