@@ -1,41 +1,35 @@
--- The lowest of some nodes at which two quantities by node differ by more than a limit; of the currents that leave and the injections it is the
--- paper's. Assumes nothing.
-use Rattle.whole.specs.Plain.{ℕ, _≤_, _≡_, Bool, not, List, _-ℤ_, length, take-all, arith, Words, word, upTo, first}
-use mir.Syntax.{w64}
-use mir.Val.{SFits}
-use Rattle.whole.specs.Size.{∣_∣≤_, sub, fits}
-use Rattle.paper.specs.Limits as Limits
+-- What is out of balance: by node, what is injected less the currents that leave. The lowest of some nodes at which it is past a limit is the paper's.
+-- Assumes nothing.
+use Rattle.whole.specs.Plain.{ℕ, _≡_, sym, ap, _∙_, Bool, not, List, leb, ℤ, natAbs, negℤ, _+ℤ_, _-ℤ_, +ℤ-comm}
+use Rattle.whole.specs.Plain.{negℤ-+ℤ, negℤ-negℤ, Words, word, upTo, first}
+use Rattle.whole.specs.Int.{abs-neg}
 use Rattle.paper.specs.Legs.{Leg, current}
 use Rattle.paper.specs.Solve.{unbalanced}
-use Rattle.step_legs.specs.Wires.{legsIn, Sized}
-use Rattle.step_legs.specs.Leaving.{leaving, legs-length}
-use Rattle.step_legs.specs.Shares.{Volts, current-sum, imbalance-is}
+use Rattle.step_legs.specs.Leaving.{leaving, leaving-less}
+use Rattle.step_legs.specs.Shares.{imbalance-is}
 use Rattle.step_legs.specs.Sums.{Sums}
-use Rattle.step_legs.specs.Free.{Free, InjectsWithin, inject-size, first-cong}
+use Rattle.step_legs.specs.Free.{Free, first-cong}
 
-unfoldable pub past : ℕ → Words → Words → ℕ → Bool
-past most a b p = not (upTo most (word a p -ℤ word b p))
+-- what a leg takes from its node
+abbrev pub taken : Words → Leg → ℤ
+taken v l = negℤ (current v l)
 
-unfoldable pub firstPast : ℕ → Words → Words → List ℕ → ℕ
-firstPast most a b nodes = first (past most a b) nodes
+unfoldable pub past : ℕ → Words → ℕ → Bool
+past most w p = not (upTo most (word w p))
 
--- the differences fit a word
-pub record Near (a b : Words) : Type 0 where
-  pub one : (p : ℕ) → p ≤ Limits.nodeEnd → SFits w64 (word a p)
-  pub other : (p : ℕ) → p ≤ Limits.nodeEnd → SFits w64 (word b p)
-  pub miss : (p : ℕ) → p ≤ Limits.nodeEnd → SFits w64 (word a p -ℤ word b p)
+unfoldable pub firstPast : ℕ → Words → List ℕ → ℕ
+firstPast most w nodes = first (past most w) nodes
 
-pub sums-near : {legs : List Words} {v sums inject : Words} → Sized legs → Volts v → InjectsWithin inject → Sums (current v) (legsIn legs) sums → Near sums inject
-sums-near {legs} {v} s u q a = record {
-  one = λ p l. rw (a .at p l) (fits (all p) tt);
-  other = λ p l. fits (inject-size q p) tt;
-  miss = λ p l. rw (a .at p l) (fits (sub (all p) (inject-size q p)) tt);
-}
-  where
-    all : (p : ℕ) → ∣ leaving p (current v) (legsIn legs) ∣≤ 8960000000000000000
-    all p = rw (take-all (length legs) (legsIn legs) (omega (arith, legs-length legs))) at (current-sum s p (length legs) (omega arith) u)
+pub surplus-is : (x : ℤ) (v : Words) (p : ℕ) (legs : List Leg) → x +ℤ leaving p (taken v) legs ≡ x -ℤ leaving p (current v) legs
+surplus-is x v p legs = ap (λ (y : ℤ). x +ℤ y) (leaving-less p (current v) legs)
 
-pub past-unbalanced : (most : ℕ) (v inject : Words) {legs : List Leg} {sums : Words} {free : List ℕ} → Sums (current v) legs sums → Free free
-    → firstPast most sums inject free ≡ unbalanced most legs (λ p. word inject p) v free
+-- a limit is one of magnitudes, whichever is taken from the other
+turned : (most : ℕ) (x y : ℤ) → upTo most (x -ℤ y) ≡ upTo most (y -ℤ x)
+unfolding upTo
+turned most x y =
+    ap (λ (n : ℕ). leb n most) (sym (abs-neg (x -ℤ y)) ∙ ap natAbs (negℤ-+ℤ x (negℤ y) ∙ ap (λ (k : ℤ). negℤ x +ℤ k) (negℤ-negℤ y) ∙ +ℤ-comm (negℤ x) y))
+
+pub past-unbalanced : (most : ℕ) (v inject : Words) {legs : List Leg} {w : Words} {free : List ℕ} → Sums inject (taken v) legs w → Free free
+    → firstPast most w free ≡ unbalanced most legs (λ p. word inject p) v free
 unfolding firstPast past unbalanced
-past-unbalanced most v inject {free = free} a f = first-cong _ _ free (λ i l. rw (a .at _ (f .node i l), imbalance-is))
+past-unbalanced most v inject {free = free} a f = first-cong _ _ free (λ i l. rw (a .at _ (f .node i l), surplus-is, imbalance-is, turned))

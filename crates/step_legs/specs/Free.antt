@@ -13,6 +13,7 @@ pub record Free (free : List ℕ) : Type 0 where
 
 -- no node's injection is beyond what all sources together could inject there
 pub record InjectsWithin (inject : Words) : Type 0 where
+  pub long : length inject ≡ suc Limits.nodeEnd
   pub end : (k : ℕ) → natAbs (word inject k) ≤ Limits.sourceEnd * Limits.injectionEnd
 
 pub inject-size : {inject : Words} → InjectsWithin inject → (k : ℕ) → ∣ word inject k ∣≤ 32000000000000000

@@ -1,26 +1,34 @@
--- Sums by node, gathered leg by leg: what the legs leave at a node is the sum over the legs that leave it. Assumes nothing.
+-- Sums by node, gathered leg by leg onto what was there: a node has the sum over the legs that leave it more. Assumes nothing.
 use Rattle.whole.specs.Plain.{ℕ, suc, _+_, _≤_, _<_, _≡_, refl, sym, ap, _∙_, Bool, true, false, cond, List, eqb, ℤ}
-use Rattle.whole.specs.Plain.{_+ℤ_, +ℤ-idr, set, take, length, length-set, replicate, length-replicate, getD-replicate}
+use Rattle.whole.specs.Plain.{_+ℤ_, +ℤ-assoc, +ℤ-idl, +ℤ-idr, set, take, length, length-set, replicate}
 use Rattle.whole.specs.Plain.{getD-set-same, getD-set-other, eqb-true, eqb-false, arith, Words, z, word, total}
+use Rattle.whole.specs.Filled.{getD-same}
 use Rattle.paper.specs.Limits as Limits
 use Rattle.paper.specs.Legs.{Leg}
 use Rattle.paper.specs.Solve.{leaves}
 use Rattle.step_legs.specs.Wires.{legAt, legsIn}
 use Rattle.step_legs.specs.Leaving.{leaving, leaving-more}
 
--- w has, by node, the sum of f over the legs that leave it
-pub record Sums (f : Leg → ℤ) (legs : List Leg) (w : Words) : Type 0 where
+-- w has, by node, what `start` has and the sum of f over the legs that leave it
+pub record Sums (start : Words) (f : Leg → ℤ) (legs : List Leg) (w : Words) : Type 0 where
   pub long : length w ≡ suc Limits.nodeEnd
-  pub at : (p : ℕ) → p ≤ Limits.nodeEnd → word w p ≡ leaving p f legs
+  pub at : (p : ℕ) → p ≤ Limits.nodeEnd → word w p ≡ word start p +ℤ leaving p f legs
 
-pub sums-none : (f : Leg → ℤ) (legs : List Words) → Sums f (take 0 (legsIn legs)) (replicate (suc Limits.nodeEnd) z)
+pub sums-start : {start : Words} (f : Leg → ℤ) (legs : List Words) → length start ≡ suc Limits.nodeEnd → Sums start f (take 0 (legsIn legs)) start
 unfolding leaving total
-sums-none f legs = record {
-  long = length-replicate (suc Limits.nodeEnd) z;
-  at = λ p l. getD-replicate (suc Limits.nodeEnd) p z z (omega arith);
-}
+sums-start {start} f legs e = record { long = e; at = λ p l. sym (+ℤ-idr (word start p)) }
 
-module _ (f : Leg → ℤ) (legs : List Words) (j : ℕ) (h : j < length legs) {w : Words} (s : Sums f (take j (legsIn legs)) w) (node : legAt legs j .near ≤ Limits.nodeEnd) where
+-- from 0 at every node
+abbrev pub none : Words
+none = replicate (suc Limits.nodeEnd) z
+
+pub from-none : (p : ℕ) (x : ℤ) → word none p +ℤ x ≡ x
+from-none p x = ap (λ (y : ℤ). y +ℤ x) (getD-same (suc Limits.nodeEnd) p z) ∙ +ℤ-idl x
+
+pub sums-at : {f : Leg → ℤ} {legs : List Leg} {w : Words} → Sums none f legs w → (p : ℕ) → p ≤ Limits.nodeEnd → word w p ≡ leaving p f legs
+sums-at {f} {legs} s p l = s .at p l ∙ from-none p (leaving p f legs)
+
+module _ {start : Words} (f : Leg → ℤ) (legs : List Words) (j : ℕ) (h : j < length legs) {w : Words} (s : Sums start f (take j (legsIn legs)) w) (node : legAt legs j .near ≤ Limits.nodeEnd) where
   abbrev near : ℕ
   near = legAt legs j .near
 
@@ -28,19 +36,22 @@ module _ (f : Leg → ℤ) (legs : List Words) (j : ℕ) (h : j < length legs) {
   added = set w near (word w near +ℤ f (legAt legs j))
 
   -- the leg's own node, and another
-  by-node : (p : ℕ) → p ≤ Limits.nodeEnd → (t : Bool) → eqb near p ≡ t → word added p ≡ leaving p f (take j (legsIn legs)) +ℤ cond t (f (legAt legs j)) z
+  by-node : (p : ℕ) → p ≤ Limits.nodeEnd → (t : Bool) → eqb near p ≡ t → word added p ≡ word start p +ℤ leaving p f (take j (legsIn legs)) +ℤ cond t (f (legAt legs j)) z
   by-node p l true e =
       let q : near ≡ p = eqb-true near p e in
       rw (← q) (getD-set-same w near _ z (omega (arith, s .long)) ∙ ap (λ (x : ℤ). x +ℤ f (legAt legs j)) (s .at near node))
-  by-node p l false e = getD-set-other w near p _ z (λ q. eqb-false near p e (sym q)) ∙ s .at p l ∙ sym (+ℤ-idr (leaving p f (take j (legsIn legs))))
+  by-node p l false e = getD-set-other w near p _ z (λ q. eqb-false near p e (sym q)) ∙ s .at p l ∙ sym (+ℤ-idr (word start p +ℤ leaving p f (take j (legsIn legs))))
 
-  pub sums-more : Sums f (take (j + 1) (legsIn legs)) added
+  pub sums-more : Sums start f (take (j + 1) (legsIn legs)) added
   unfolding leaves
   sums-more = record {
     long = length-set w near _ ∙ s .long;
-    at = λ p l. by-node p l (eqb near p) refl ∙ sym (leaving-more legs j h p f);
+    at = λ p l.
+        by-node p l (eqb near p) refl
+        ∙ +ℤ-assoc (word start p) (leaving p f (take j (legsIn legs))) (cond (eqb near p) (f (legAt legs j)) z)
+        ∙ ap (λ (x : ℤ). word start p +ℤ x) (sym (leaving-more legs j h p f));
   }
 
   -- the leg's node with the leg added
-  pub sum-after : word w near +ℤ f (legAt legs j) ≡ leaving near f (take (j + 1) (legsIn legs))
+  pub sum-after : word w near +ℤ f (legAt legs j) ≡ word start near +ℤ leaving near f (take (j + 1) (legsIn legs))
   sum-after = sym (getD-set-same w near _ z (omega (arith, s .long))) ∙ sums-more .at near node

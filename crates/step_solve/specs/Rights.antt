@@ -14,7 +14,7 @@ use Rattle.step_factors.specs.Factored.{rowForward, forward, rowBack, back, sub
 use Rattle.step_legs.specs.Wires.{legsIn, Sized}
 use Rattle.step_legs.specs.Leaving.{leaving, legs-length}
 use Rattle.step_legs.specs.Shares.{Volts, drawn, drawn-sum, right-is}
-use Rattle.step_legs.specs.Sums.{Sums}
+use Rattle.step_legs.specs.Sums.{Sums, none, sums-at}
 use Rattle.step_legs.specs.Free.{Free, InjectsWithin, inject-size}
 
 -- the differences fit a word
@@ -37,12 +37,12 @@ rights-more {n} {free} {inject} {drawn} {b} h r = record { long = length-set b n
     by i l (no e) = getD-set-other b n i _ nan e ∙ r .at i (omega arith)
 
 -- ---- of the legs' sums
-module _ {legs : List Words} {still inject d : Words} (s : Sized legs) (u : Volts still) (q : InjectsWithin inject) (a : Sums (drawn still) (legsIn legs) d) where
+module _ {legs : List Words} {still inject d : Words} (s : Sized legs) (u : Volts still) (q : InjectsWithin inject) (a : Sums none (drawn still) (legsIn legs) d) where
   pub near : Near inject d
   near = record {
     one = λ p l. fits (inject-size q p) tt;
-    other = λ p l. rw (a .at p l) (fits (sum p) tt);
-    less = λ p l. rw (a .at p l) (fits (sub (inject-size q p) (sum p)) tt);
+    other = λ p l. rw (sums-at a p l) (fits (sum p) tt);
+    less = λ p l. rw (sums-at a p l) (fits (sub (inject-size q p) (sum p)) tt);
   }
     where
       sum : (p : ℕ) → ∣ leaving p (drawn still) (legsIn legs) ∣≤ 7680000000000000000
@@ -51,7 +51,7 @@ module _ {legs : List Words} {still inject d : Words} (s : Sized legs) (u : Volt
   -- a right side is the paper's
   pub right-at : {free : List ℕ} {b : List Float} → Free free → Rights (length free) free inject d b → (i : ℕ) → i < length free
       → cell b i ≡ double (rightSide (legsIn legs) still (word inject (getD free i 0)) (getD free i 0))
-  right-at {free} f r i h = r .at i h ∙ rw (a .at (getD free i 0) (f .node i h)) (rw (right-is (legsIn legs) still (word inject (getD free i 0)) (getD free i 0)))
+  right-at {free} f r i h = r .at i h ∙ rw (sums-at a (getD free i 0) (f .node i h)) (rw (right-is (legsIn legs) still (word inject (getD free i 0)) (getD free i 0)))
 
 -- ---- what a substitution leaves is as long
 pub substituted-length : (base n : ℕ) (a : List (List Float)) (b : List Float) → length (substituted base n a b) ≡ length b

@@ -7,7 +7,7 @@ ghost use Rattle.paper.specs.Doubles.{inRange, nearestOf};
 ghost use Rattle.paper.specs.Solve.{settle, proposed};
 ghost use Rattle.step_legs.specs.Wires.{legsIn, Sized};
 ghost use Rattle.step_legs.specs.Shares.{Volts, drawn};
-ghost use Rattle.step_legs.specs.Sums.{Sums};
+ghost use Rattle.step_legs.specs.Sums.{Sums, none};
 ghost use Rattle.step_legs.specs.Free.{Free, InjectsWithin};
 ghost use Rattle.step_factors.specs.Factors.{Serves};
 ghost use Rattle.step_factors.specs.Positions.{bare};
@@ -23,7 +23,7 @@ use step_legs::Line;
 // by node, what its legs would draw with the node at 0
 fn draws(legs: &[Line], still: &[i64; Node::PLACES]) -> [i64; Node::PLACES]
     requires { ⌜ Sized (now legs) × Volts (now still) ⌝ }
-    ensures { λ r. ⌜ Sums (drawn (was still)) (legsIn (was legs)) r ⌝ }
+    ensures { λ r. ⌜ Sums none (drawn (was still)) (legsIn (was legs)) r ⌝ }
 {
     let mut sums = [0; Node::PLACES];
     let mut j = 0;

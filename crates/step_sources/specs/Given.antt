@@ -1,6 +1,6 @@
 -- What some sources give by node is a sum over them; one more, and the node still has room. Assumes nothing.
 use Rattle.whole.specs.Plain.{ℕ, suc, _+_, _*_, _≤_, _<_, _≡_, refl, sym, ap, _∙_, Bool, true, false, cond, _&&_, List}
-use Rattle.whole.specs.Plain.{[], _∷_, eqb, ℤ, natAbs, _+ℤ_, +ℤ-assoc, +ℤ-idl, +ℤ-idr, length, set, length-set}
+use Rattle.whole.specs.Plain.{[], _∷_, eqb, ℤ, natAbs, _+ℤ_, +ℤ-assoc, +ℤ-idr, length, set, length-set}
 use Rattle.whole.specs.Plain.{length-replicate, eqb-true, arith, Words, z, word, fold, total}
 use mir.Syntax.{w64}
 use mir.Val.{SFits}
@@ -13,7 +13,8 @@ use Rattle.paper.specs.Rows.{Row, at}
 use Rattle.paper.specs.Sources.{ramp}
 use Rattle.paper.specs.Kept.{either}
 use Rattle.laws_volts.specs.Range.{set-end}
-use Rattle.step_sources.specs.Table.{Room, none, give, given}
+use Rattle.step_legs.specs.Sums.{none, from-none}
+use Rattle.step_sources.specs.Table.{Room, give, given}
 
 pub none-room : Room 0 none
 none-room = record { end = λ n. rw (getD-same (suc Limits.nodeEnd) n z) (omega arith) }
@@ -71,9 +72,7 @@ module _ (p : Row → Bool) (k : ℕ) where
   pub given-at : (rows : List Row) (n : ℕ) → n ≤ Limits.nodeEnd → word (given p k rows) n ≡ total (share n) rows
   unfolding given
   given-at rows n h =
-      fold-at rows none n (rw (length-replicate (suc Limits.nodeEnd) z) (omega arith))
-      ∙ ap (λ (x : ℤ). x +ℤ total (share n) rows) (getD-same (suc Limits.nodeEnd) n z)
-      ∙ +ℤ-idl (total (share n) rows)
+      fold-at rows none n (rw (length-replicate (suc Limits.nodeEnd) z) (omega arith)) ∙ from-none n (total (share n) rows)
 
   pub given-length : (rows : List Row) → length (given p k rows) ≡ suc Limits.nodeEnd
   unfolding given

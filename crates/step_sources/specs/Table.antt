@@ -1,10 +1,11 @@
 -- An area's sources as lines of words, which stand as in a row: kind, node, peak, start, rise. What those that pass give by node. Assumes nothing.
-use Rattle.whole.specs.Plain.{ℕ, suc, _*_, _≤_, _<_, _≡_, Bool, cond, List, [], _∷_, ℤ, pos, natAbs, _+ℤ_, length, getD}
-use Rattle.whole.specs.Plain.{set, replicate, Words, z, word, nat, fold}
+use Rattle.whole.specs.Plain.{ℕ, _*_, _≤_, _<_, _≡_, Bool, cond, List, [], _∷_, ℤ, pos, natAbs, _+ℤ_, length, getD}
+use Rattle.whole.specs.Plain.{set, Words, z, word, nat, fold}
 use Rattle.paper.specs.Limits as Limits
 use Rattle.paper.specs.Rows.{Row, kind, at, peak, start, rise}
 use Rattle.paper.specs.Sources.{ramp}
 use Rattle.laws_facts.specs.Sound.{SourceSound}
+use Rattle.step_legs.specs.Sums.{none}
 use Rattle.step_sources.specs.declared.Source.{Source}
 
 abbrev pub sourceIn : Words → Source
@@ -24,9 +25,6 @@ abbrev pub valueOf : ℤ → ℕ → ℕ → ℕ → ℤ
 valueOf peak start rise k = ramp k (z ∷ z ∷ peak ∷ pos start ∷ pos rise ∷ [])
 
 -- ---- by node
-
-abbrev pub none : Words
-none = replicate (suc Limits.nodeEnd) z
 
 -- a source that passes gives its value to its node
 unfoldable pub give : (Row → Bool) → ℕ → Words → Row → Words

@@ -3,8 +3,9 @@ ghost use Rattle.whole.specs.Plain.{_≤_, _<_, _≡_, [], natAbs, length, getD
 ghost use Rattle.whole.specs.Loans.{was, is};
 ghost use Rattle.paper.specs.Limits as Limits;
 ghost use Rattle.paper.specs.Rows.{isFixing, isIS};
+ghost use Rattle.step_legs.specs.Sums.{none};
 ghost use Rattle.step_legs.specs.Free.{InjectsWithin};
-ghost use Rattle.step_sources.specs.Table.{sourceAt, valueOf, Sources, Room, none, give, given};
+ghost use Rattle.step_sources.specs.Table.{sourceAt, valueOf, Sources, Room, give, given};
 use paper::Node;
 use paper::kinds;
 use step_legs::SourceLine;

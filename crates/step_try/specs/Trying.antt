@@ -18,9 +18,9 @@ use Rattle.laws_facts.specs.Nets.{NetSound}
 use Rattle.plan_ends.specs.Own.{sourceLines}
 use Rattle.plan_rows.specs.declared.Row.{Row}
 use Rattle.plan_rows.specs.Planned.{rowIn, rowOf, Planned}
-use Rattle.step_legs.specs.Wires.{wireIn, legsIn, wiresIn, Sized}
+use Rattle.step_legs.specs.Wires.{legsIn, wiresIn, Wires, Sized}
 use Rattle.step_legs.specs.Shares.{Volts}
-use Rattle.step_legs.specs.Free.{Free, InjectsWithin}
+use Rattle.step_legs.specs.Free.{Free}
 use Rattle.step_factors.specs.Factors.{Serves}
 use Rattle.step_factors.specs.Positions.{bare}
 use Rattle.step_factors.specs.Proposed.{matrixOf}
@@ -35,7 +35,7 @@ use Rattle.step_own.specs.Paper as Own
 use Rattle.step_floating.specs.Free.{free-node, free-nodes}
 use Rattle.step_floating.specs.Local.{floating-joins, joins-bare}
 use Rattle.step_flow.specs.Flown.{flown, Long}
-use Rattle.step_flow.specs.Beyond.{beyondLeg, firstBy}
+use Rattle.step_flow.specs.Beyond.{beyondLine, firstRow, firstBy}
 use Rattle.step_prepare.specs.Serving.{Serving}
 use Rattle.step_solve.specs.Settling.{Solved, settled-volts}
 use Rattle.step_try.specs.declared.At.{At}
@@ -71,12 +71,9 @@ pub record Flowing (N : Net) (a k : ℕ) (recs froms tos v : Words) (lines : Lis
   pub volts : Volts v
 
 -- what 16 and 17 go by
-pub record Flow (legs : List Words) (free : List ℕ) (inject v : Words) (at : At) : Type 0 where
-  pub sized : Sized legs
-  pub long : Long legs
+pub record Judging (legs : List Words) (free : List ℕ) (at : At) : Type 0 where
+  pub wires : Wires legs
   pub nodes : Free free
-  pub injects : InjectsWithin inject
-  pub volts : Volts v
   pub limit-sign : T (nonNeg (at .limit))
   pub limit-end : ∣ at .limit ∣≤ 1000000000000000
 
@@ -99,10 +96,10 @@ module _ (k : ℕ) where
   flow-takes n e f = rw (e, f)
 
 -- the place is a row's
-pub place-most : (v : Words) (legs : List Words) → ((j : ℕ) → j < length legs → nat (word (getD legs j []) 2) < 80) → firstBy v (wiresIn legs) ≤ 80
-unfolding firstBy wiresIn
-place-most v [] h = omega arith
-place-most v (l ∷ legs) h = either (beyondLeg v (wireIn l)) (firstBy v (map wireIn legs)) (place-most v legs (λ j q. h (suc j) (omega arith)))
+pub place-most : (legs : List Words) → ((j : ℕ) → j < length legs → nat (word (getD legs j []) 2) < 80) → firstRow legs ≤ 80
+unfolding firstRow
+place-most [] h = omega arith
+place-most (l ∷ legs) h = either (beyondLine l) (firstRow legs) (place-most legs (λ j q. h (suc j) (omega arith)))
   where
     either : (t : Bool) (r : ℕ) → r ≤ 80 → cond t (suc (nat (word l 2))) r ≤ 80
     either true r q = omega (arith, h 0 (omega arith))

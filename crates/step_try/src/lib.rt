@@ -1,15 +1,13 @@
 // One step of one area tried, on what is kept for its switches' positions: 15, 16 and 17 in turn, or the voltages. Nothing lent for the study is written.
-ghost use Rattle.whole.specs.Plain.{ℕ, _-_, _≡_, map, word, nat};
+ghost use Rattle.whole.specs.Plain.{ℕ, _-_, _≡_, nat};
 ghost use Rattle.whole.specs.Loans.{was, is};
 ghost use Rattle.paper.specs.Areas.{Net};
-ghost use Rattle.paper.specs.Solve.{unbalanced};
 ghost use Rattle.plan_rows.specs.Planned.{rowIn};
-ghost use Rattle.step_legs.specs.Wires.{legsIn, wiresIn};
+ghost use Rattle.step_legs.specs.Sums.{none};
 ghost use Rattle.step_legs.specs.Written.{SameBut};
-ghost use Rattle.step_flow.specs.Flown.{flown};
-ghost use Rattle.step_flow.specs.Beyond.{firstBy};
-ghost use Rattle.step_sources.specs.Table.{none};
-ghost use Rattle.step_try.specs.Trying.{Trying, Known, Flow, inFlow, Tries};
+ghost use Rattle.step_flow.specs.Past.{firstPast};
+ghost use Rattle.step_flow.specs.Beyond.{firstRow};
+ghost use Rattle.step_try.specs.Trying.{Trying, Known, Judging, inFlow, Tries};
 use paper::Advance;
 use paper::Node;
 use plan_rows::Table;
@@ -24,24 +22,20 @@ pub struct At {
     pub limit: i64,
 }
 
-// 16 and 17, from the voltages; each leg's line then has its current and what it passes on.
-fn flowing(
+// 16 and 17, from the surplus at the nodes and from what each leg's line has of the step.
+fn judged(
     plan: &Table,
-    legs: &mut [Line],
+    legs: &[Line],
     free: &[usize],
-    inject: &[i64; Node::PLACES],
-    v: &[i64; Node::PLACES],
+    surplus: &[i64; Node::PLACES],
     at: At,
 ) -> Advance
-    requires { ⌜ Flow (now legs) (now free) (now inject) (now v) at ⌝ }
+    requires { ⌜ Judging (now legs) (now free) at ⌝ }
     ensures { λ r. ⌜ r
-        ≡ inFlow (at .k)
-        (unbalanced (nat (at .limit)) (legsIn (was legs)) (λ p. word (was inject) p) (was v) (was free))
-        (firstBy (was v) (wiresIn (was legs))) (rowIn (was plan) (firstBy (was v) (wiresIn (was legs)) - 1) .number) ⌝ }
-    ensures { λ _. ⌜ is legs ≡ map (flown (was v)) (was legs) ⌝ }
+        ≡ inFlow (at .k) (firstPast (nat (at .limit)) (was surplus) (was free)) (firstRow (was legs))
+        (rowIn (was plan) (firstRow (was legs) - 1) .number) ⌝ }
 {
-    let sums = step_flow::flow(legs, v);
-    let node = step_flow::balance(&sums, inject, free, at.limit);
+    let node = step_flow::balance(surplus, free, at.limit);
     if node != 0 {
         return Advance::Unbalanced(node as u64);
     }
@@ -53,7 +47,8 @@ fn flowing(
     Advance::Took(at.k as u64)
 }
 
-// The voltages go into v, by node: they hold where the step can be taken.
+// The voltages go into v, by node: they hold where the step can be taken. What is injected, by node, serves twice: to find the voltages, and less the
+// currents that then leave, to judge them.
 pub fn try_step<'a>(
     plan: &Table,
     sources: &[SourceLine],
@@ -74,11 +69,12 @@ pub fn try_step<'a>(
     ensures { λ _. ⌜ SameBut (was legs) (is legs) ⌝ }
 {
     step_histories::hear(plan, legs, records, froms, tos, at.k);
-    let mut inject = [0; Node::PLACES];
-    step_sources::drive(sources, at.k, v, &mut inject);
-    let node = step_solve::solve(legs, free, &inject, factors, at.base, v);
+    let mut surplus = [0; Node::PLACES];
+    step_sources::drive(sources, at.k, v, &mut surplus);
+    let node = step_solve::solve(legs, free, &surplus, factors, at.base, v);
     if node != 0 {
         return Advance::Range(node as u64);
     }
-    flowing(plan, legs, free, &inject, v, at)
+    step_flow::flow(legs, v, &mut surplus);
+    judged(plan, legs, free, &surplus, at)
 }

@@ -1,9 +1,10 @@
 -- `step_flow::balance` meets its contract: the search from the i-th free node on. Assumes nothing.
-use Rattle.whole.specs.Plain.{_-_, _≤_, _≡_, refl, sym, ap, _∙_, true, false, not, getD, length, drop, arith, nat}
+use Rattle.whole.specs.Plain.{_-_, _≤_, _≡_, refl, sym, ap, _∙_, true, false, not, getD, length, drop, arith, word, nat}
 use Rattle.whole.specs.Plain.{first}
 use mir.Syntax.{w64}
 use mir.Val.{toZ}
 use mir.Facts.{toZ-ofZ}
+use Rattle.whole.specs.Int.{read64}
 use Rattle.paper.specs.Limits as Limits
 use Rattle.step_legs.specs.Free.{first-here, first-done}
 use Rattle.step_flow.specs.Past.{past, firstPast}
@@ -11,44 +12,35 @@ use Rattle.step_flow.proofs.balance.Statement.{statement}
 use Rattle.step_flow.proofs.balance.Tie as tie
 
 abbrev Inv-loop : tie.InvT-loop
-Inv-loop sums inject free limit i₀ i = (i ≤ length free) × (firstPast (nat (toZ w64 limit)) sums inject free ≡ first (past (nat (toZ w64 limit)) sums inject) (drop i free))
+Inv-loop surplus free limit i₀ i = (i ≤ length free) × (firstPast (nat (toZ w64 limit)) surplus free ≡ first (past (nat (toZ w64 limit)) surplus) (drop i free))
 
 abbrev μ-loop : tie.MeasureT-loop
-μ-loop sums inject free limit i₀ i = length free - i
+μ-loop surplus free limit i₀ i = length free - i
 
 -- the node that the turn looks at
 at-node : (c : tie.In-loop Inv-loop μ-loop) → getD (c .before .before .before .args .free .now) (c .before .loop .i) 0 ≤ Limits.nodeEnd
-at-node c = c .before .before .before .pre .1 .node (c .before .loop .i) (c .loop-test .taken)
+at-node c = c .before .before .before .pre .0 .node (c .before .loop .i) (c .loop-test .taken)
 
 abbrev turn : tie.After-within Inv-loop μ-loop → tie.At-loop Inv-loop μ-loop
-turn c = c .before .before .before .before .before
+turn c = c .before .before .before .before
 
 told : (c : tie.After-within Inv-loop μ-loop) → let s = turn c .before .before in
-    not (c .within .result) ≡ past (nat (s .args .limit)) (s .args .sums .now) (s .args .inject .now) (getD (s .args .free .now) (turn c .loop .i) 0)
+    not (c .within .result) ≡ past (nat (s .args .limit)) (s .args .surplus .now) (getD (s .args .free .now) (turn c .loop .i) 0)
 unfolding past
 told c =
     let s = turn c .before .before in
-    let p = getD (s .args .free .now) (turn c .loop .i) 0 in
-    let m = at-node (c .before .before .before .before) in
-    ap not (simp (toZ-ofZ, s .fits .limit, s .pre .0 .one p m, s .pre .0 .other p m, s .pre .0 .miss p m) at (c .within .ensures))
+    let x = word (s .args .surplus .now) (getD (s .args .free .now) (turn c .loop .i) 0) in
+    ap not (simp (toZ-ofZ, s .fits .limit, read64 x (c .before .within-arg .given)) at (c .within .ensures))
 
 loop-holds : tie.Need-loop-holds Inv-loop μ-loop
 unfolding firstPast
 loop-holds c = (omega arith, refl)
 
 mul-p : tie.Need-mul-p Inv-loop μ-loop
-mul-p c = omega (arith, c .before .before .before .pre .1 .few)
-
-sub-within : tie.Need-sub-within Inv-loop μ-loop
-sub-within c =
-    let l = c .before .before .before .before in
-    let s = l .before .before in
-    let p = getD (s .args .free .now) (l .loop .i) 0 in
-    let m = at-node (c .before .before .before) in
-    simp (toZ-ofZ, s .pre .0 .one p m, s .pre .0 .other p m) (s .pre .0 .miss p m)
+mul-p c = omega (arith, c .before .before .before .pre .0 .few)
 
 within-requires : tie.Need-within-requires Inv-loop μ-loop
-within-requires c κs = let s = c .before .before .before .before .before .before in simp (toZ-ofZ, s .fits .limit) (s .pre .2)
+within-requires c κs = let s = c .before .before .before .before .before in simp (toZ-ofZ, s .fits .limit) (s .pre .1)
 
 returns : tie.Need-returns Inv-loop μ-loop
 returns c =
@@ -58,7 +50,7 @@ returns c =
     sym (first-here _ (s .args .free .now) (l .loop .i) _ (omega arith) e true (sym (told (c .before)) ∙ c .if1 .taken))
 
 add-i : tie.Need-add-i Inv-loop μ-loop
-add-i c = omega (arith, turn (c .before) .before .before .pre .1 .few)
+add-i c = omega (arith, turn (c .before) .before .before .pre .0 .few)
 
 loop-again : tie.Need-loop-again Inv-loop μ-loop
 loop-again c =
@@ -83,9 +75,6 @@ balance-spec =
     (λ c. omega arith)
     (λ c. omega (arith, at-node (c .before)))
     (λ c. omega (arith, at-node (c .before)))
-    (λ c. omega (arith, at-node (c .before .before)))
-    (λ c. omega (arith, at-node (c .before .before)))
-    sub-within
     within-requires
     returns
     add-i

@@ -1,5 +1,5 @@
 -- `step_solve::draws` meets its contract: the sums over the first j legs. Assumes nothing.
-use Rattle.whole.specs.Plain.{ℕ, _+_, _-_, _≤_, _<_, _≡_, List, _+ℤ_, set, length, take, take-length, arith, Words}
+use Rattle.whole.specs.Plain.{ℕ, _+_, _-_, _≤_, _<_, _≡_, refl, _∙_, List, _+ℤ_, set, length, take, take-length, arith, Words}
 use Rattle.whole.specs.Plain.{word}
 use mir.Facts.{toZ-ofZ}
 use mir.Syntax.{w64}
@@ -8,18 +8,18 @@ use Rattle.whole.specs.Size.{fits}
 use Rattle.step_legs.specs.Wires.{wireAt, legAt, legsIn, Sized, carries}
 use Rattle.step_legs.specs.Leaving.{legs-length}
 use Rattle.step_legs.specs.Shares.{Volts, drawn, drawn-size, drawn-sum}
-use Rattle.step_legs.specs.Sums.{Sums, sums-none, sums-more, sum-after}
+use Rattle.step_legs.specs.Sums.{Sums, none, from-none, sums-start, sums-at, sums-more, sum-after}
 use Rattle.step_solve.proofs.draws.Statement.{statement}
 use Rattle.step_solve.proofs.draws.Tie as tie
 
 abbrev Inv-loop : tie.InvT-loop
-Inv-loop legs still sums₀ j₀ sums j = (j ≤ length legs) × Sums (drawn still) (take j (legsIn legs)) sums
+Inv-loop legs still sums₀ j₀ sums j = (j ≤ length legs) × Sums none (drawn still) (take j (legsIn legs)) sums
 
 abbrev μ-loop : tie.MeasureT-loop
 μ-loop legs still sums₀ j₀ sums j = length legs - j
 
 -- the sum at the leg's node before it and after it
-module _ {legs : List Words} {v w : Words} (s : Sized legs) (u : Volts v) (j : ℕ) (l : j < length legs) (a : Sums (drawn v) (take j (legsIn legs)) w) where
+module _ {legs : List Words} {v w : Words} (s : Sized legs) (u : Volts v) (j : ℕ) (l : j < length legs) (a : Sums none (drawn v) (take j (legsIn legs)) w) where
   abbrev near : ℕ
   near = wireAt legs j .near
 
@@ -29,9 +29,9 @@ module _ {legs : List Words} {v w : Words} (s : Sized legs) (u : Volts v) (j : �
   room : (near < 33) × SFits w64 (word w near) × SFits w64 (word w near +ℤ drawn v (legAt legs j))
   room =
       let n = s .wires .wired j l .near-end in
-      (omega arith, rw (a .at near n) (fits (drawn-sum s near j (omega arith) u) tt), rw (sum-after (drawn v) legs j l a n) (fits (drawn-sum s near (j + 1) (omega arith) u) tt))
+      (omega arith, rw (sums-at a near n) (fits (drawn-sum s near j (omega arith) u) tt), rw (sum-after (drawn v) legs j l a n ∙ from-none near _) (fits (drawn-sum s near (j + 1) (omega arith) u) tt))
 
-  after : {w′ : Words} → w′ ≡ set w near (word w near +ℤ drawn v (legAt legs j)) → Sums (drawn v) (take (j + 1) (legsIn legs)) w′
+  after : {w′ : Words} → w′ ≡ set w near (word w near +ℤ drawn v (legAt legs j)) → Sums none (drawn v) (take (j + 1) (legsIn legs)) w′
   after e = rw e (sums-more (drawn v) legs j l a (s .wires .wired j l .near-end))
 
 leg-at-requires : tie.Need-leg-at-requires Inv-loop μ-loop
@@ -65,4 +65,4 @@ returns c =
 pub draws-spec : {M : Type 1} → statement M
 draws-spec =
     tie.close
-    (tie.spec Inv-loop μ-loop (λ c. (omega arith, sums-none (drawn (c .args .still .now)) (c .args .legs .now))) leg-at-requires drawn-requires add-requires (λ c. omega arith) (λ c. omega arith) loop-again returns)
+    (tie.spec Inv-loop μ-loop (λ c. (omega arith, sums-start (drawn (c .args .still .now)) (c .args .legs .now) refl)) leg-at-requires drawn-requires add-requires (λ c. omega arith) (λ c. omega arith) loop-again returns)

@@ -1,11 +1,11 @@
 -- `step_sources::drive` meets its contract: the sources that are left lead to the answer, and those passed have left room. Assumes nothing.
-use Rattle.whole.specs.Plain.{ℕ, _+_, _-_, _≤_, _<_, _≡_, Bool, List, [], length, getD, drop, le-trans, arith, Words}
+use Rattle.whole.specs.Plain.{ℕ, _+_, _-_, _≤_, _<_, _≡_, ap, _∙_, Bool, List, [], length, getD, drop, le-trans, arith, Words}
 use Rattle.whole.specs.Plain.{fold}
 use Rattle.whole.specs.Folds.{fold-next, fold-end}
 use Rattle.paper.specs.Rows.{Row, isFixing, isIS}
 use Rattle.laws_volts.specs.Sources.{ramp-size}
 use Rattle.step_sources.specs.Table.{Sources, Room, give, given}
-use Rattle.step_sources.specs.Given.{none-room, room-next}
+use Rattle.step_sources.specs.Given.{none-room, room-next, given-length}
 use Rattle.step_sources.proofs.drive.Statement.{statement}
 use Rattle.step_sources.proofs.drive.Tie as tie
 
@@ -45,9 +45,10 @@ loop-again c =
 returns : tie.Need-returns Inv-loop μ-loop
 returns c =
     let t = c .before in
-    let l : length (t .before .args .sources .now) ≤ t .loop .j = omega arith in (
+    let l : length (t .before .args .sources .now) ≤ t .loop .j = omega arith in
+    let i = fold-end (give isIS _) _ _ _ _ l (t .loop .inv .2 .left) in (
       fold-end (give isFixing _) _ _ _ _ l (t .loop .inv .1 .left),
-      (fold-end (give isIS _) _ _ _ _ l (t .loop .inv .2 .left), record { end = λ n. omega (arith, t .loop .inv .2 .room .end n, t .before .pre .0 .few) }),
+      (i, record { long = ap length i ∙ given-length isIS _ _; end = λ n. omega (arith, t .loop .inv .2 .room .end n, t .before .pre .0 .few) }),
     )
 
 pub drive-spec : {M : Type 1} → statement M

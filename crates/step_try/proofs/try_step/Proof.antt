@@ -4,10 +4,13 @@ use borrow.Author.Needs.{needs}
 use Rattle.paper.specs.declared.Advance.the-variants.{Took, Range}
 use Rattle.paper.specs.Areas.{Net}
 use Rattle.step_own.specs.Laid.{Laid}
+use Rattle.step_legs.specs.Shares.{Volts}
 use Rattle.step_legs.specs.Written.{same-then}
 use Rattle.step_histories.specs.Heard.{all-heard}
 use Rattle.step_histories.specs.Laws.{hears}
-use Rattle.step_flow.specs.Flown.{flown-same}
+use Rattle.step_flow.specs.Flown.{flown-same, wires-stay}
+use Rattle.step_flow.specs.Past.{past-unbalanced}
+use Rattle.step_flow.specs.Beyond.{first-by}
 use Rattle.step_try.specs.Trying.{Trying, all-sized, all-long, all-free, tries-range, tries-flow, heard-from, still-from, inject-from, drives, volts-from, serves-from, found-volts}
 use Rattle.step_try.proofs.try_step.Statement.{statement}
 use Rattle.step_try.proofs.try_step.Tie as tie
@@ -61,42 +64,49 @@ returns c =
       all-heard _ _ _ _ _ _ (heard d .hear .ensures),
     )
 
--- ---- what flows
-flowing-requires : tie.Need-flowing-requires
-flowing-requires c κs =
+-- ---- what flows, of a step whose voltages are found
+abbrev solved : tie.Else1 → tie.After-drive
+solved e = driven (e .before)
+
+volts : (e : tie.Else1) → {N : Net} {a : ℕ} → Of (heard (solved e)) N a → Volts (e .before .solve .last .1 .1 .1 .1 .1 .0)
+volts e t = found-volts _ _ _ _ _ (volts-from t (solved e .drive .ensures .0)) (e .before .solve .ensures .volts (e .if1 .left))
+
+flow-requires : tie.Need-flow-requires
+flow-requires c κs =
     let e = c .before .before .before in
-    let s = e .before in
-    let d = driven s in
-    let t = start (heard d) .pre .0 .trying in
-    let l = laid (heard d) t in
-    let q = t .sound .study .limitIn in
+    let h = heard (solved e) in
+    let t = start h .pre .0 .trying in
+    (all-sized t (laid h t), volts e t, solved e .drive .ensures .1 .1)
+
+abbrev settled : tie.After-flow → tie.Else1
+settled f = f .before .before .before .before
+
+judged-requires : tie.Need-judged-requires
+judged-requires c κs =
+    let f = c .before .before .before in
+    let h = heard (solved (settled f)) in
+    let t = start h .pre .0 .trying in
+    let l = laid h t in
     record {
-      sized = all-sized t l;
-      long = all-long t l;
+      wires = rw (f .flow .ensures .1) (wires-stay _ _ (all-sized t l .wires));
       nodes = all-free t l;
-      injects = d .drive .ensures .1 .1;
-      volts = found-volts _ _ _ _ _ (volts-from t (d .drive .ensures .0)) (s .solve .ensures .volts (e .if1 .left));
       limit-sign = rw (t .limit) tt;
-      limit-end = rw (t .limit) (record { size = q .most });
+      limit-end = rw (t .limit) (record { size = t .sound .study .limitIn .most });
     }
 
 returns-2 : tie.Need-returns-2
 returns-2 c =
-    let f = c .before in
-    let e = f .before .before .before .before in
-    let s = e .before in
-    let d = driven s in (
+    let f = c .before .before .before .before in
+    let e = settled f in
+    let d = solved e in
+    let h = heard d in (
       λ N a t. record {
-        tried = tries-flow t (laid (heard d) t) (d .drive .last .1 .1 .1 .0) (inject-from t (d .drive .ensures .1 .0)) (still-from t (d .drive .ensures .0)) (s .solve .ensures) (e .if1 .left) (f .flowing .ensures .0);
-        flowing = λ o. record {
-          legs = after (heard d);
-          laid = laid (heard d) t;
-          flows = f .flowing .ensures .1;
-          volts = found-volts _ _ _ _ _ (volts-from t (d .drive .ensures .0)) (s .solve .ensures .volts (e .if1 .left));
-        };
+        tried = tries-flow t (laid h t) (d .drive .last .1 .1 .1 .0) (inject-from t (d .drive .ensures .1 .0)) (still-from t (d .drive .ensures .0)) (e .before .solve .ensures) (e .if1 .left)
+            (rw (past-unbalanced _ _ _ (f .flow .ensures .0) (all-free t (laid h t)), f .flow .ensures .1, first-by _ _ (all-long t (laid h t))) at (c .judged .ensures));
+        flowing = λ o. record { legs = after h; laid = laid h t; flows = f .flow .ensures .1; volts = volts e t };
       },
-      same-then (all-heard _ _ _ _ _ _ (heard d .hear .ensures)) (flown-same _ _ (f .flowing .ensures .1)),
+      same-then (all-heard _ _ _ _ _ _ (h .hear .ensures)) (flown-same _ _ (f .flow .ensures .1)),
     )
 
 pub try-step-spec : {M : Type 1} → statement M
-try-step-spec = tie.close (tie.spec hear-requires drive-requires solve-requires (λ c. search needs) returns flowing-requires (λ c. search needs) returns-2)
+try-step-spec = tie.close (tie.spec hear-requires drive-requires solve-requires (λ c. search needs) returns flow-requires judged-requires (λ c. search needs) returns-2)
