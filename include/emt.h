@@ -126,6 +126,12 @@ static inline uint64_t emt_advance_in(const int64_t *network, size_t network_len
 uint64_t emt_node(const int64_t *network, size_t network_len, const int64_t *records, size_t records_len, uint64_t node,
                   int64_t *voltage, uint64_t *peak, uint64_t *step);
 
+/* How a network is laid out. Each answers 0, or 9, 8, or 2 for no such node or branch; what is told is 0 then. *count areas, numbered from 1; the
+ * area of a node; the row of a branch (both from 1) in the network, which EMT_NETWORK_ROW(*place - 1) begins; line *place + 1 of the text gave it. */
+uint64_t emt_areas(const int64_t *network, size_t network_len, uint64_t *count);
+uint64_t emt_area(const int64_t *network, size_t network_len, uint64_t node, uint64_t *number);
+uint64_t emt_row(const int64_t *network, size_t network_len, uint64_t branch, uint64_t *place);
+
 /* Advances all areas in rising order, full step after full step, and lists each into out: the lines of emtrun. *written bytes
  * of out are written. Answers 0 when done, EMT_MORE, EMT_STOPPED, or 8 to 10. With EMT_STOPPED *area is the area that was refused its
  * step, *number the refusal, 14 to 17, and *place its node or branch; with any other answer the three are 0.
