@@ -16,7 +16,7 @@ static int64_t network[EMT_NETWORK_WORDS];
 static int64_t *branch_row(int64_t branch) {
     for (int64_t r = 0; r < network[EMT_NETWORK_ROWS]; r++) {
         int64_t *row = network + EMT_NETWORK_ROW(r);
-        if (row[0] != EMT_VS && row[0] != EMT_IS && --branch == 0) return row;
+        if (!EMT_IS_SOURCE(row[0]) && --branch == 0) return row;
     }
     return NULL;
 }

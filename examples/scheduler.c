@@ -74,14 +74,14 @@ static void list_records(void) {
     int64_t rows = network[EMT_NETWORK_ROWS], nodes = 0, branch = 0;
     for (int64_t r = 0; r < rows; r++) {
         const int64_t *row = network + EMT_NETWORK_ROW(r);
-        int named = row[0] == EMT_VS || row[0] == EMT_IS ? 1 : 2; // a source names one node, a branch two
+        int named = EMT_IS_SOURCE(row[0]) ? 1 : 2; // a source names one node, a branch two
         for (int end = 1; end <= named; end++)
             if (row[end] > nodes) nodes = row[end];
     }
     for (int64_t node = 1; node <= nodes; node++) printf("v\t%" PRId64 "\t%" PRId64 "\n", node, records[EMT_VOLTAGE(node)]);
     for (int64_t r = 0; r < rows; r++) {
         int64_t kind = network[EMT_NETWORK_ROW(r)];
-        if (kind == EMT_VS || kind == EMT_IS) continue;
+        if (EMT_IS_SOURCE(kind)) continue;
         printf("i\t%" PRId64 "\t%" PRId64, ++branch, records[EMT_CURRENT(r)]);
         if (kind == EMT_LINE) printf("\t%" PRId64, records[EMT_TO_CURRENT(r)]);
         printf("\n");

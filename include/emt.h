@@ -44,6 +44,7 @@ extern "C" {
 #define EMT_TRAVEL_MOST INT64_C(1000000000)               /* ns; the least is 1 */
 #define EMT_OPEN_MOST INT64_C(1000001)                    /* a switch that stays closed to the last step */
 #define EMT_RISE_MOST INT64_C(1000)                       /* steps */
+#define EMT_FREQUENCY_MOST INT64_C(100000)                /* mHz, of a VC; from 1 */
 
 /* ---- Words of a network */
 #define EMT_NETWORK_STEP_LENGTH 0
@@ -51,7 +52,8 @@ extern "C" {
 #define EMT_NETWORK_LIMIT 2
 #define EMT_NETWORK_ROWS 3                /* how many rows; words 4 to 7 are 0 */
 #define EMT_NETWORK_ROW(r) (8 + 8 * (r))  /* r from 0: kind, then the fields as in the text */
-enum { EMT_R = 1, EMT_L = 2, EMT_C = 3, EMT_LINE = 4, EMT_SW = 5, EMT_VS = 6, EMT_IS = 7 };
+enum { EMT_R = 1, EMT_L = 2, EMT_C = 3, EMT_LINE = 4, EMT_SW = 5, EMT_VS = 6, EMT_IS = 7, EMT_VC = 8 };
+#define EMT_IS_SOURCE(kind) ((kind) == EMT_VS || (kind) == EMT_IS || (kind) == EMT_VC) /* any other is a branch */
 
 /* ---- Words of the records. Rows count from 0 in the order of the text, sources among them. */
 #define EMT_COUNT(area) ((area) - 1)         /* steps that the area has taken; areas from 1 */
@@ -70,7 +72,7 @@ enum {
     EMT_NODE = 2,        /* node over 32, both ends equal, source or line end on ground; asking: no such node */
     EMT_VALUE = 3,       /* a field, or the conductance it gives, out of range */
     EMT_TRAVEL = 4,      /* travel time shorter than the step */
-    EMT_DOUBLE = 5,      /* a second VS on a node */
+    EMT_DOUBLE = 5,      /* a second VS or VC on a node */
     EMT_FULL = 6,        /* too many branches, sources or slots of lines */
     EMT_SIZE = 7,        /* text too long */
     EMT_NETWORK = 8,     /* lent network is not one that emt_read writes */

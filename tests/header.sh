@@ -26,13 +26,21 @@ expect() { printf '%s\t%s\n' "$1" "$2" >>"$work/expected"; }
 
 limits="VOLTAGE_MOST voltageEnd CONDUCTANCE_MOST conductanceEnd HISTORY_MOST historyEnd CURRENT_MOST currentEnd INJECTION_MOST injectionEnd NODES nodeEnd
     BRANCHES branchEnd SOURCES sourceEnd ROWS rowEnd STEP_LENGTH_MOST stepLengthEnd STEPS_MOST stepsEnd LIMIT_MOST limitEnd TEXT_BYTES textEnd MILLIOHM_LEAST ohmsLow
-    MILLIOHM_MOST ohmsEnd NANOHENRY_MOST henryEnd PICOFARAD_MOST faradEnd TRAVEL_MOST travelEnd OPEN_MOST openEnd RISE_MOST riseEnd NETWORK_WORDS networkWords
+    MILLIOHM_MOST ohmsEnd NANOHENRY_MOST henryEnd PICOFARAD_MOST faradEnd TRAVEL_MOST travelEnd OPEN_MOST openEnd RISE_MOST riseEnd FREQUENCY_MOST frequencyEnd NETWORK_WORDS networkWords
     RECORD_WORDS recordWords STORE_WORDS storeWords LIST_BYTES stepBytes WRITE_BYTES studyBytes"
 set -- $limits
 while [ $# -gt 1 ]; do
     expect "EMT_$1" "$(limit "$2")"
     shift 2
 done
+
+# the kinds of a row, as the table of kinds numbers them, and which are sources
+number=0
+while read -r name class; do
+    number=$((number + 1))
+    expect "EMT_$name" $number
+    expect "EMT_IS_SOURCE($number)" $([ "$class" = aBranch ] && echo 0 || echo 1)
+done < <(sed -nE 's/^ *∷ kindOf "([A-Z]+)" (a[A-Za-z]+) .*/\1 \2/p' $specs/Rows.antt)
 
 # a word's place, asked for area, node and row 7
 set -- COUNT countAt VOLTAGE voltAt CURRENT currentAt TO_CURRENT toCurrentAt HISTORY_OF historyAt PEAK peakAt PEAK_STEP peakStepAt
@@ -46,6 +54,9 @@ done
 room=$(sed -n 's/^roomBytes = //p' crates/emt/specs/Numbered.antt)
 expect EMT_ROOM_BYTES "$((room))"
 expect 'sizeof(struct emt_room)' "$((room))"
+# and as the comparison lends it: words of plan, legs and factors
+lent=$(sed -nE 's/^ *const ROOM: \[usize; 3\] = \[(.*)\];$/\1/p' second/src/compare/foreign.rs)
+expect 'sizeof(struct emt_room)' "$((8 * (${lent//,/ +})))"
 
 # refusals by name; what is accepted is 0
 while read -r name number; do

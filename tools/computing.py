@@ -10,7 +10,8 @@ use lib.Ieee as Ieee
 FLOATS = ("add", "sub", "mul", "div", "ofInt")
 MEANING = "crates/paper/specs/"
 FOLDS = "crates/whole/specs/"
-LAWS = ("Apart", "Classes", "Computing", "Examples", "Cases", "Asked", "Kept", "Total", "Places", "One")
+COSINE = "crates/num_cosine/specs/"
+LAWS = ("Apart", "Classes", "Computing", "Examples", "Cases", "Kept", "Total", "Places", "One")
 
 
 def opened(path):
@@ -19,7 +20,8 @@ def opened(path):
 
 
 def main():
-    modules = [(name, FOLDS, "Rattle.whole.specs.") for name in ("Turns", "Lists", "Rounding")]
+    modules = [(name, FOLDS, "Rattle.whole.specs.") for name in ("Turns", "Lists", "Rounding", "Mixing")]
+    modules += [(name, COSINE, "Rattle.num_cosine.specs.") for name in ("Quarter", "Cosine")]
     for line in open(MEANING + "Lib.antt"):
         name = line.split()[2]
         if name not in LAWS:

@@ -7,6 +7,7 @@
 pub mod areas;
 pub mod calls;
 pub mod compare;
+pub mod cosine;
 pub mod ends;
 pub mod limits;
 pub mod list;

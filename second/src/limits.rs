@@ -41,6 +41,8 @@ pub const TRAVEL: RangeInclusive<Whole> = 1..=MILLIARD;
 pub const SWITCH_STEP: RangeInclusive<Whole> = 1..=MILLION + 1;
 pub const SOURCE_START: RangeInclusive<Whole> = 1..=MILLION;
 pub const SOURCE_RISE: RangeInclusive<Whole> = 0..=THOUSAND;
+/// In mHz.
+pub const FREQUENCY: RangeInclusive<Whole> = 1..=100 * THOUSAND;
 
 pub const HIGHEST_INJECTION: Whole = 2 * MILLION * MILLIARD;
 pub const INJECTION: RangeInclusive<Whole> = -HIGHEST_INJECTION..=HIGHEST_INJECTION;

@@ -1,6 +1,7 @@
 //! A study as the text gives it (rows in table order) and the network that follows from it.
 
 use crate::areas;
+use crate::cosine;
 use crate::limits::Whole;
 
 #[derive(Clone, Copy, PartialEq, Eq, Debug)]
@@ -12,10 +13,11 @@ pub enum Kind {
     Switch,
     VoltageSource,
     CurrentSource,
+    CosineSource,
 }
 
 /// Each kind with its word in the text, its number in the record and how many numbers follow the word.
-const KINDS: [(Kind, &str, i64, usize); 7] = [
+const KINDS: [(Kind, &str, i64, usize); 8] = [
     (Kind::Resistor, "R", 1, 3),
     (Kind::Inductor, "L", 2, 3),
     (Kind::Capacitor, "C", 3, 3),
@@ -23,6 +25,7 @@ const KINDS: [(Kind, &str, i64, usize); 7] = [
     (Kind::Switch, "SW", 5, 5),
     (Kind::VoltageSource, "VS", 6, 4),
     (Kind::CurrentSource, "IS", 7, 4),
+    (Kind::CosineSource, "VC", 8, 4),
 ];
 
 impl Kind {
@@ -51,7 +54,12 @@ impl Kind {
     }
 
     pub fn is_source(self) -> bool {
-        matches!(self, Kind::VoltageSource | Kind::CurrentSource)
+        self.fixes_voltage() || self == Kind::CurrentSource
+    }
+
+    /// Whether its node is fixed.
+    pub fn fixes_voltage(self) -> bool {
+        matches!(self, Kind::VoltageSource | Kind::CosineSource)
     }
 }
 
@@ -104,7 +112,7 @@ impl Row {
             Kind::Resistor | Kind::Line | Kind::Switch => Some(nearest_halves_up(1_000_000_000_000, value)),
             Kind::Inductor => Some(nearest_halves_up(1_000_000_000 * step_length, 2 * value)),
             Kind::Capacitor => Some(nearest_halves_up(2_000_000 * value, step_length)),
-            Kind::VoltageSource | Kind::CurrentSource => None,
+            Kind::VoltageSource | Kind::CurrentSource | Kind::CosineSource => None,
         }
     }
 
@@ -188,29 +196,50 @@ impl Branch {
     }
 }
 
+/// How a source goes on from its start.
+#[derive(Clone, Copy, PartialEq, Eq, Debug)]
+pub enum Course {
+    /// In so many steps to its peak, where it stays.
+    Ramp { rise: Whole },
+    /// From its peak on, at so many mHz and with steps of so many ns.
+    Cosine { frequency: Whole, step_length: Whole },
+}
+
 #[derive(Clone, Debug)]
 pub struct Source {
     pub node: usize,
     pub fixes_voltage: bool,
     pub peak: Whole,
     pub start: Whole,
-    pub rise: Whole,
+    pub course: Course,
 }
 
 impl Source {
-    /// 0 before the start; then peak · n / rise toward zero while n steps since the start are fewer than
-    /// the rise; then the peak. A rise of 0 has no ramp, so nothing is divided by it.
+    /// 0 before the start, then by its course; both courses round toward zero. A ramp is peak · n / rise while n
+    /// steps since the start are fewer than the rise, then the peak; a rise of 0 has no ramp, so nothing is divided
+    /// by it.
     pub fn value_at(&self, step: Whole) -> Whole {
         let since_start = step - self.start;
-        if since_start < 0 {
-            0
-        } else if since_start < self.rise {
-            self.peak * since_start / self.rise
-        } else {
-            self.peak
+        match self.course {
+            _ if since_start < 0 => 0,
+            Course::Ramp { rise } if since_start < rise => self.peak * since_start / rise,
+            Course::Ramp { .. } => self.peak,
+            Course::Cosine { frequency, step_length } => {
+                let index = cosine_index(since_start, step_length, frequency);
+                self.peak * cosine::cosine(index) / cosine::ONE
+            }
         }
     }
 }
+
+/// The place in the turn after n steps, rounded down: the phase is n · step · frequency modulo 10^12, the whole turn.
+pub fn cosine_index(since_start: Whole, step_length: Whole, frequency: Whole) -> Whole {
+    let phase = (since_start * step_length * frequency).rem_euclid(WHOLE_TURN);
+    cosine::TURN * phase / WHOLE_TURN
+}
+
+/// A whole turn in ns times mHz.
+const WHOLE_TURN: Whole = 1_000_000_000_000;
 
 /// What the step rules work on.
 #[derive(Clone, Debug)]
@@ -233,7 +262,7 @@ impl Network {
         let mut sources = Vec::new();
         for (index, row) in study.rows.iter().enumerate() {
             if row.kind.is_source() {
-                sources.push(source_of_row(row));
+                sources.push(source_of_row(row, study.step_length));
             } else {
                 branches.push(branch_of_row(row, index, study.step_length));
             }
@@ -260,7 +289,7 @@ impl Network {
         self.sources.iter().any(|source| source.fixes_voltage && source.node == node)
     }
 
-    /// The voltage that a VS holds at its node, also before its start (then 0).
+    /// The voltage that a VS or VC holds at its node, also before its start (then 0).
     pub fn fixed_voltage(&self, node: usize, step: Whole) -> Option<Whole> {
         let source = self.sources.iter().find(|source| source.fixes_voltage && source.node == node);
         source.map(|source| source.value_at(step))
@@ -279,13 +308,16 @@ impl Network {
     }
 }
 
-fn source_of_row(row: &Row) -> Source {
+fn source_of_row(row: &Row, step_length: Whole) -> Source {
     Source {
         node: row.fields[0] as usize,
-        fixes_voltage: row.kind == Kind::VoltageSource,
+        fixes_voltage: row.kind.fixes_voltage(),
         peak: row.fields[1],
         start: row.fields[2],
-        rise: row.fields[3],
+        course: match row.kind {
+            Kind::CosineSource => Course::Cosine { frequency: row.fields[3], step_length },
+            _ => Course::Ramp { rise: row.fields[3] },
+        },
     }
 }
 
@@ -295,7 +327,7 @@ fn branch_of_row(row: &Row, index: usize, step_length: Whole) -> Branch {
         Kind::Capacitor => Element::Capacitor,
         Kind::Line => Element::Line { travel: Travel::of(row.fields[3], step_length) },
         Kind::Switch => Element::Switch { close: row.fields[3], open: row.fields[4] },
-        Kind::Resistor | Kind::VoltageSource | Kind::CurrentSource => Element::Resistor,
+        Kind::Resistor | Kind::VoltageSource | Kind::CurrentSource | Kind::CosineSource => Element::Resistor,
     };
     Branch {
         row: index,

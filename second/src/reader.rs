@@ -3,6 +3,7 @@
 use crate::limits::{self, Whole};
 use crate::network::{Kind, Row, Study};
 use crate::refusal::Refusal;
+use std::ops::RangeInclusive;
 
 const LINE_FEED: u8 = b'\n';
 const TAB: u8 = b'\t';
@@ -77,7 +78,7 @@ fn table_line(line: &TextLine, study: &Study) -> Result<Row, Refusal> {
     if row.kind == Kind::Line && row.fields[3] < study.step_length {
         return Err(Refusal::Travel);
     }
-    if second_voltage_source(&row, study) {
+    if second_fixing_source(&row, study) {
         return Err(Refusal::Double);
     }
     if overfills(&row, study) {
@@ -154,20 +155,23 @@ fn value_fault(row: &Row, step_length: Whole) -> bool {
                 && limits::SWITCH_STEP.contains(&fields[4])
                 && fields[3] < fields[4]
         }
-        Kind::VoltageSource => limits::VOLTAGE.contains(&fields[1]) && timing_in_range(fields),
-        Kind::CurrentSource => limits::INJECTION.contains(&fields[1]) && timing_in_range(fields),
+        Kind::VoltageSource => source_fits(fields, limits::VOLTAGE, limits::SOURCE_RISE),
+        Kind::CurrentSource => source_fits(fields, limits::INJECTION, limits::SOURCE_RISE),
+        Kind::CosineSource => source_fits(fields, limits::VOLTAGE, limits::FREQUENCY),
     };
     // The conductance is asked for only when the value is in range, so nothing is divided by zero.
     !in_range || row.conductance(step_length).is_some_and(|size| !limits::CONDUCTANCE.contains(&size))
 }
 
-fn timing_in_range(source_fields: &[Whole]) -> bool {
-    limits::SOURCE_START.contains(&source_fields[2]) && limits::SOURCE_RISE.contains(&source_fields[3])
+/// Peak, start and the last field, which is a rise or a frequency.
+fn source_fits(fields: &[Whole], peaks: RangeInclusive<Whole>, last: RangeInclusive<Whole>) -> bool {
+    peaks.contains(&fields[1]) && limits::SOURCE_START.contains(&fields[2]) && last.contains(&fields[3])
 }
 
-fn second_voltage_source(row: &Row, study: &Study) -> bool {
-    let same = |earlier: &Row| earlier.kind == Kind::VoltageSource && earlier.fields[0] == row.fields[0];
-    row.kind == Kind::VoltageSource && study.rows.iter().any(same)
+/// DOUBLE: any two of VS and VC on one node.
+fn second_fixing_source(row: &Row, study: &Study) -> bool {
+    let same = |earlier: &Row| earlier.kind.fixes_voltage() && earlier.fields[0] == row.fields[0];
+    row.kind.fixes_voltage() && study.rows.iter().any(same)
 }
 
 /// FULL: the 65th branch, the 17th source, or line slots past 4,096.

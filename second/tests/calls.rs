@@ -147,7 +147,7 @@ fn unfit_networks() {
     let good = network_words(E5);
     assert!(study_of_record(&good).is_some());
     for (place, value) in
-        [(3, 81), (3, -1), (3, 3), (3, 1), (4, 1), (7, 1), (8, 0), (8, 8), (13, 1), (24, 1), (1023, 1)]
+        [(3, 81), (3, -1), (3, 3), (3, 1), (4, 1), (7, 1), (8, 0), (8, 9), (13, 1), (24, 1), (1023, 1)]
     {
         let mut words = good.clone();
         words[place] = value;

@@ -2,12 +2,12 @@
 
 use second::areas::number_areas;
 use second::listing::listing_of;
-use second::network::{nearest_halves_up, Branch, Element, Source, Travel};
+use second::network::{nearest_halves_up, Branch, Course, Element, Source, Travel};
 use second::solve::{double_of, solve};
 use second::step::whole_voltage;
 
 fn source(peak: i128, start: i128, rise: i128) -> Source {
-    Source { node: 1, fixes_voltage: true, peak, start, rise }
+    Source { node: 1, fixes_voltage: true, peak, start, course: Course::Ramp { rise } }
 }
 
 #[test]

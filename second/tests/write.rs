@@ -114,7 +114,7 @@ fn networks_that_no_text_gives() {
         &[1, 1, 1, 1000],
         &[1, 33, 1, 1000],
         &[0, 1, 2, 1000],
-        &[8, 1, 2, 1000],
+        &[9, 1, 2, 1000],
         &[1, 1, 2, 1000, 1],
     ] {
         assert_eq!(written(&resistor(fields), TEXT_ROOM), (8, String::new()), "{fields:?}");

@@ -114,6 +114,8 @@ int main(void) {
     eight_steps("E9", "study\t1000\t8\t0\nVS\t1\t1000\t1\t0\nLINE\t1\t2\t400000\t2500\n", (int64_t[]){0, 0, 1000, 2000, 2000, 2000, 1750, 1000});
     expect("E9: shorter than a step", start("study\t1000\t8\t0\nVS\t1\t1000\t1\t0\nLINE\t1\t2\t400000\t999\n"), 100 * EMT_TRAVEL + 3);
     peaks();
+    steps("a supply", "study\t1000000\t4\t0\nVC\t1\t20000000\t1\t100000\n", EMT_VOLTAGE(1), 4, (int64_t[]){20000000, 16209143, 6273634, -6156992});
+    expect("a supply: and a VS at its node", start("study\t1000\t1\t0\nVS\t1\t5\t1\t0\nVC\t1\t7\t1\t50000\n"), 100 * EMT_DOUBLE + 3);
     expect("E10", start("study\t1000\t3\t0\nVS\t1\t20000000\t1\t0\nL\t1\t0\t500\n"), 0);
     expect("E10: step 1", advance(1), 1);
     expect("E10: step 2", advance(1), 2);

@@ -43,7 +43,19 @@ passes-more t r p s = ap (λ (x : Replay). x .ok) (fold-append replayed start t 
 
 -- ---- a row by its words
 
-module _ (w : Words) (long : length w ≡ 8) (k : kind w < 8) where
+-- what holds of each of eight words
+each-word : (P : ℕ → Type 0) → P 0 → P 1 → P 2 → P 3 → P 4 → P 5 → P 6 → P 7 → (j : ℕ) → j < 8 → P j
+each-word P a b c d e f g h zero l = a
+each-word P a b c d e f g h (suc zero) l = b
+each-word P a b c d e f g h (suc (suc zero)) l = c
+each-word P a b c d e f g h (suc (suc (suc zero))) l = d
+each-word P a b c d e f g h (suc (suc (suc (suc zero)))) l = e
+each-word P a b c d e f g h (suc (suc (suc (suc (suc zero))))) l = f
+each-word P a b c d e f g h (suc (suc (suc (suc (suc (suc zero)))))) l = g
+each-word P a b c d e f g h (suc (suc (suc (suc (suc (suc (suc zero))))))) l = h
+each-word P a b c d e f g h (suc (suc (suc (suc (suc (suc (suc (suc j)))))))) l = absurd (omega arith)
+
+module _ (w : Words) (long : length w ≡ 8) (k : kind w < 9) where
   few : 6 ≤ length w
   few = omega (arith, long)
 
@@ -68,15 +80,15 @@ module _ (w : Words) (long : length w ≡ 8) (k : kind w < 8) where
       let q = and-left (a && b) c p in
       let other : (m : ℕ) (x : ℤ) → (ltb m f || upTo 0 x) ≡ true → f ≤ m → x ≡ z = λ m x o u. zero-word x (rw (le-ltb m f u) at o) in
       let none : (i : ℕ) → i < 4 → suc f ≤ i → word w i ≡ z = λ i u v. absurd (omega arith) in
-      let spare = each (λ j. suc f ≤ j → word w j ≡ z) (none 0 (lit≤ tt)) (none 1 (lit≤ tt)) (none 2 (lit≤ tt)) (none 3 (lit≤ tt))
+      let spare = each-word (λ j. suc f ≤ j → word w j ≡ z) (none 0 (lit≤ tt)) (none 1 (lit≤ tt)) (none 2 (lit≤ tt)) (none 3 (lit≤ tt))
       (λ u. other 3 (word w 4) (and-right (a && b && c) _ e) (omega arith)) (λ u. other 4 (word w 5) (and-right (a && b) c p) (omega arith))
       (λ u. zero-word (word w 6) (and-right a b q)) (λ u. zero-word (word w 7) (and-left a b q)) in
       elim (decLt j (suc f))
       [ yes u ↦ getD-take (suc f) w j z u | no u ↦ List·getD-eq-default (take (suc f) w) z (rw length-take (omega arith)) ∙ sym (spare j h (omega arith)) ]
 
-pub arity-least : (k : ℕ) → k < 8 → 3 ≤ length (fieldsOf k)
+pub arity-least : (k : ℕ) → k < 9 → 3 ≤ length (fieldsOf k)
 unfolding fieldsOf kinds
-arity-least = each (λ k. 3 ≤ length (fieldsOf k)) (lit≤ tt) (lit≤ tt) (lit≤ tt) (lit≤ tt) (lit≤ tt) (lit≤ tt) (lit≤ tt) (lit≤ tt)
+arity-least = each (λ k. 3 ≤ length (fieldsOf k)) (lit≤ tt) (lit≤ tt) (lit≤ tt) (lit≤ tt) (lit≤ tt) (lit≤ tt) (lit≤ tt) (lit≤ tt) (lit≤ tt)
 
 -- ---- the record's table, row by row
 
@@ -118,15 +130,15 @@ module _ (net : Words) where
       let is : (j : ℕ) → j < 8 → word net (b + j) ≡ word (wordsOf net i) j = λ j k. sym (words-at i j k) in
       let first : word net b ≡ word (wordsOf net i) 0 = let e : b ≡ b + 0 = omega arith in ap (word net) e ∙ is 0 (lit≤ tt) in
       ext-getD z all (wordsOf net i) (sym (rw (length-take, length-drop) (omega arith)))
-      (each (λ j. word all j ≡ word (wordsOf net i) j) first (is 1 (lit≤ tt)) (is 2 (lit≤ tt)) (is 3 (lit≤ tt)) (is 4 (lit≤ tt)) (is 5 (lit≤ tt)) (is 6 (lit≤ tt)) (is 7 (lit≤ tt)))
+      (each-word (λ j. word all j ≡ word (wordsOf net i) j) first (is 1 (lit≤ tt)) (is 2 (lit≤ tt)) (is 3 (lit≤ tt)) (is 4 (lit≤ tt)) (is 5 (lit≤ tt)) (is 6 (lit≤ tt)) (is 7 (lit≤ tt)))
 
 -- eight words that are eight others, one by one
 pub eight : {a b c d e f g h a′ b′ c′ d′ e′ f′ g′ h′ : ℤ} → a ≡ a′ → b ≡ b′ → c ≡ c′ → d ≡ d′ → e ≡ e′ → f ≡ f′ → g ≡ g′ → h ≡ h′
     → _≡_ {A = Words} (a ∷ b ∷ c ∷ d ∷ e ∷ f ∷ g ∷ h ∷ []) (a′ ∷ b′ ∷ c′ ∷ d′ ∷ e′ ∷ f′ ∷ g′ ∷ h′ ∷ [])
 eight p q r s t u v w = λ i. p i ∷ q i ∷ r i ∷ s i ∷ t i ∷ u i ∷ v i ∷ w i ∷ []
 
--- a kind from 1 to 7, by the word
-pub known-word : (w : Words) → (leZ (pos 1) (word w 0) && leZ (word w 0) (pos 7)) ≡ knownRow w
+-- a kind from 1 to 8, by the word
+pub known-word : (w : Words) → (leZ (pos 1) (word w 0) && leZ (word w 0) (pos 8)) ≡ knownRow w
 unfolding kinds
 known-word [] = refl
 known-word (pos k ∷ w) = refl

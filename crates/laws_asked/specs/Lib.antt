@@ -1,3 +1,4 @@
 pub mod Asked
 pub mod Peaked
+pub mod Supply
 pub mod Travel

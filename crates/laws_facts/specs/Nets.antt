@@ -74,16 +74,17 @@ fourth r s rest = go (kind r) refl (s .kindLeast) (s .kindMost)
     short : (k : ℕ) → kind r ≡ k → suc (length (fieldsOf k)) ≤ 4 → word r 4 ≡ pos (travel r)
     short k e h = let q : word r 4 ≡ z = rest (rw e h) in q ∙ ap (λ (x : ℤ). pos (nat x)) (sym q)
 
-    go : (k : ℕ) → kind r ≡ k → 1 ≤ k → k ≤ 7 → word r 4 ≡ pos (travel r)
+    go : (k : ℕ) → kind r ≡ k → 1 ≤ k → k ≤ 8 → word r 4 ≡ pos (travel r)
     go zero e l h = absurd (omega arith)
     go (suc zero) e l h = short 1 e (lit≤ tt)
     go (suc (suc zero)) e l h = short 2 e (lit≤ tt)
     go (suc (suc (suc zero))) e l h = short 3 e (lit≤ tt)
     go (suc (suc (suc (suc zero)))) e l h = s .line (rw e) .travelIn .isNat
     go (suc (suc (suc (suc (suc zero))))) e l h = s .switch (rw e) .closesIn .isNat
-    go (suc (suc (suc (suc (suc (suc zero)))))) e l h = s .source (rw e) .riseIn .isNat
-    go (suc (suc (suc (suc (suc (suc (suc zero))))))) e l h = s .source (rw e) .riseIn .isNat
-    go (suc (suc (suc (suc (suc (suc (suc (suc k)))))))) e l h = absurd (omega arith)
+    go (suc (suc (suc (suc (suc (suc zero)))))) e l h = s .source (rw e) .lastIn .isNat
+    go (suc (suc (suc (suc (suc (suc (suc zero))))))) e l h = s .source (rw e) .lastIn .isNat
+    go (suc (suc (suc (suc (suc (suc (suc (suc zero)))))))) e l h = s .source (rw e) .lastIn .isNat
+    go (suc (suc (suc (suc (suc (suc (suc (suc (suc k))))))))) e l h = absurd (omega arith)
 
 -- ---- slots: "slots stand in table order"
 
@@ -100,7 +101,7 @@ pub conducts-same : (N : Net) (recs recs′ : Words) (k i : ℕ) → conducts N 
 unfolding conducts isOpen
 conducts-same N recs recs′ k i = refl
 
--- ---- a fixed node's voltage is that of its one VS
+-- ---- a fixed node's voltage is that of its one VS or VC
 
 pub held-is : (N : Net) → NetSound N → (k n i : ℕ) → i < length (N .rows) → fixes n (rowAt N i) ≡ true → held N k n ≡ source N k (rowAt N i)
 unfolding held
@@ -202,7 +203,7 @@ module _ (net : Words) (e : isNetwork net ≡ true) where
   pub row-beyond : (i j : ℕ) → i < length (netIn net .rows) → Layout.roomOf (rowAt (netIn net) i) ≤ j → word (rowAt (netIn net) i) j ≡ z
   row-beyond i j h k = List·getD-eq-default (rowAt (netIn net) i) z (omega (arith, row-room i h))
 
-  -- a line's travel, a switch's close, a source's rise, or 0
+  -- a line's travel, a switch's close, a source's rise or frequency, or 0
   pub travel-word : (i : ℕ) → i < length (netIn net .rows) → word (rowAt (netIn net) i) 4 ≡ pos (travel (rowAt (netIn net) i))
   travel-word i h = fourth (rowAt (netIn net) i) (net-sound .row i h) (row-beyond i 4 h)
 

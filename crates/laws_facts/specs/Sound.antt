@@ -6,7 +6,7 @@ use Rattle.whole.specs.Plain.{arith, z, word, between}
 use native.Mathlib.Nat.{le-div-iff-mul-le}
 use Rattle.whole.specs.Folds.{and-left, and-right, or-left, or-right}
 use Rattle.paper.specs.Limits as Limits
-use Rattle.paper.specs.Rows.{Row, kinds, fieldsOf, branchKind, sourceKind, fixingKind, kind, noKind, isBranch, isSource, isLine, isSwitch, isFixing, from, to, size, travel, closes, opens, at, peak, stepLength}
+use Rattle.paper.specs.Rows.{Row, kinds, fieldsOf, branchKind, sourceKind, fixingKind, kind, noKind, isBranch, isSource, isLine, isSwitch, isFixing, isVC, from, to, size, travel, closes, opens, at, peak, rise, frequency, stepLength}
 use Rattle.paper.specs.Classes.{kind-count, by-branch, by-source}
 use Rattle.paper.specs.Conductance.{conductance}
 use Rattle.paper.specs.Faults.{outside, nodeFault, valueFault, travelFault, delay, depth, slots}
@@ -46,18 +46,21 @@ pub record SwitchSound (r : Row) : Type 0 where
   pub opensIn : Within 1 Limits.openEnd (word r 5)
   pub before : closes r < opens r
 
--- VS, IS: a node off ground; "start 1 to 10^6; rise 0 to 1,000"; peak "within the voltage range", "magnitude at most 2·10^15"
+-- VS, IS, VC: a node off ground; "start 1 to 10^6; rise 0 to 1,000"; "frequency in mHz (1 to 100,000)"; peak "within the voltage range",
+-- "magnitude at most 2·10^15"
 pub record SourceSound (nodes : ℕ) (r : Row) : Type 0 where
   pub atIn : Within 1 nodes (word r 1)
   pub startIn : Within 1 Limits.startEnd (word r 3)
-  pub riseIn : Within 0 Limits.riseEnd (word r 4)
+  pub lastIn : Within 0 Limits.frequencyEnd (word r 4)
+  pub riseMost : isVC r ≡ false → rise r ≤ Limits.riseEnd
+  pub frequencyLeast : isVC r ≡ true → 1 ≤ frequency r
   pub peakMost : natAbs (peak r) ≤ Limits.injectionEnd
   pub voltMost : isFixing r ≡ true → natAbs (peak r) ≤ Limits.voltageEnd
 
 pub record RowSound (head : Row) (nodes : ℕ) (r : Row) : Type 0 where
   pub kindIs : word r 0 ≡ pos (kind r)
   pub kindLeast : 1 ≤ kind r
-  pub kindMost : kind r ≤ 7
+  pub kindMost : kind r ≤ 8
   pub branch : isBranch r ≡ true → BranchSound (stepLength head) nodes r
   pub line : isLine r ≡ true → LineSound head r
   pub switch : isSwitch r ≡ true → SwitchSound r
@@ -184,16 +187,31 @@ source-sound step r p s =
     record {
       atIn = off (within _ _ _ (field 6 0 r e (p .fields) tt));
       startIn = within _ _ _ (field 6 2 r e (p .fields) tt);
-      riseIn = within _ _ _ (field 6 3 r e (p .fields) tt);
+      lastIn = wider (within _ _ _ (field 6 3 r e (p .fields) tt)) (lit≤ tt) (lit≤ tt);
+      riseMost = λ h. within _ _ _ (field 6 3 r e (p .fields) tt) .most;
+      frequencyLeast = λ h. absurd (false≢true (rw e at h));
       peakMost = omega (arith, v);
       voltMost = λ h. v;
     })
     (λ e. record {
       atIn = off (within _ _ _ (field 7 0 r e (p .fields) tt));
       startIn = within _ _ _ (field 7 2 r e (p .fields) tt);
-      riseIn = within _ _ _ (field 7 3 r e (p .fields) tt);
+      lastIn = wider (within _ _ _ (field 7 3 r e (p .fields) tt)) (lit≤ tt) (lit≤ tt);
+      riseMost = λ h. within _ _ _ (field 7 3 r e (p .fields) tt) .most;
+      frequencyLeast = λ h. absurd (false≢true (rw e at h));
       peakMost = peak-size _ _ (field 7 1 r e (p .fields) tt);
       voltMost = λ h. absurd (false≢true (rw e at h));
+    })
+    (λ e.
+    let v : natAbs (peak r) ≤ Limits.voltageEnd = peak-size _ _ (field 8 1 r e (p .fields) tt) in
+    record {
+      atIn = off (within _ _ _ (field 8 0 r e (p .fields) tt));
+      startIn = within _ _ _ (field 8 2 r e (p .fields) tt);
+      lastIn = wider (within _ _ _ (field 8 3 r e (p .fields) tt)) (lit≤ tt) (lit≤ tt);
+      riseMost = λ h. absurd (true≢false (rw e at h));
+      frequencyLeast = λ h. within _ _ _ (field 8 3 r e (p .fields) tt) .least;
+      peakMost = omega (arith, v);
+      voltMost = λ h. v;
     })
     refl
   where
@@ -237,7 +255,7 @@ named-branch r b = rw b
 
 source-no-branch : (k : ℕ) → sourceKind k ≡ true → branchKind k ≡ false
 unfolding branchKind kinds
-source-no-branch k e = by-source (λ k. branchKind k ≡ false) k e refl refl
+source-no-branch k e = by-source (λ k. branchKind k ≡ false) k e refl refl refl
 
 pub named-source : (r : Row) → isSource r ≡ true → named r ≡ at r
 unfolding named
@@ -269,7 +287,9 @@ sound-named head most nodes r s n =
           record {
             atIn = record { isNat = p .atIn .isNat; least = p .atIn .least; most = omega (arith, named-source r b) };
             startIn = p .startIn;
-            riseIn = p .riseIn;
+            lastIn = p .lastIn;
+            riseMost = p .riseMost;
+            frequencyLeast = p .frequencyLeast;
             peakMost = p .peakMost;
             voltMost = p .voltMost;
           };

@@ -1,4 +1,4 @@
--- What a table that passes has: every row sound, at most 64 branches and 16 sources, slots that fit the stores, one VS to a node. Assumes nothing.
+-- What a table that passes has: every row sound, at most 64 branches and 16 sources, slots that fit the stores, one VS or VC to a node. Assumes nothing.
 use Rattle.whole.specs.Plain.{ℕ, _+_, _≤_, _<_, _≡_, sym, ap, _∙_, true, false, _&&_, true≢false, List, [], _∷_, leb}
 use Rattle.whole.specs.Plain.{ltb, eqb, length, getD, take, length-take, take-length, getD-take, eqb-true, decLt, arith}
 use Rattle.whole.specs.Plain.{any, count, sum}
@@ -62,7 +62,7 @@ module _ (h : Row) (rows : List Row) (e : passes (h ∷ rows) ≡ true) where
   row-most =
       omega (arith, branch-most, source-most, count-parts [] isBranch isSource rows (λ i k. one-sort (kind (rowAt i)) (sound-at i k .kindLeast) (sound-at i k .kindMost)))
 
-  -- ---- at most one VS to a node
+  -- ---- at most one VS or VC to a node
 
   fixes-parts : (n : ℕ) (r : Row) → fixes n r ≡ true → (isFixing r ≡ true) × (at r ≡ n)
   unfolding fixes

@@ -30,12 +30,12 @@ abbrev Volts : Words → Type 0
 Volts v = (length v ≡ suc Limits.nodeEnd) × ((n : ℕ) → natAbs (word v n) ≤ Limits.voltageEnd)
 
 module _ (N : Net) (s : NetSound N) (a k : ℕ) where
-  -- ---- what a VS holds its node at
+  -- ---- what a VS or a VC holds its node at
 
   abbrev volt : ℕ → ℤ
   volt = held N k
 
-  -- it is a node off ground, and the VS's peak is in range
+  -- it is a node off ground, and the source's peak is in range
   with-vs : (n : ℕ) → fixed N n ≡ true → (1 ≤ n) × (n ≤ N .nodes) × (natAbs (volt n) ≤ Limits.voltageEnd)
   unfolding fixed fixes
   with-vs n e =
@@ -52,7 +52,7 @@ module _ (N : Net) (s : NetSound N) (a k : ℕ) where
 
   -- ---- node by node
 
-  -- an area's node has what its VS holds, and 0 without one; any other node has 0
+  -- an area's node has what its VS or VC holds, and 0 without one; any other node has 0
   pub still-at : (n : ℕ) → n ≤ Limits.nodeEnd → word (stillOf N a k) n ≡ cond (eqb (areaOf N n) a) (held N k n) z
   unfolding stillOf nodesOf
   still-at n h =

@@ -3,7 +3,7 @@ use Rattle.whole.specs.Plain.{ℕ, zero, suc, _+_, _≤_, _≡_, refl, sym, _�
 use Rattle.whole.specs.Plain.{eqb-true, ne-eqb, arith}
 use Rattle.paper.specs.Rows.{Row, kinds, kind, noKind, branchKind, sourceKind, fixingKind, isBranch, isSource, isFixing, isLine, isIS}
 
-pub kind-count : noKind ≡ 8
+pub kind-count : noKind ≡ 9
 unfolding kinds
 kind-count = refl
 
@@ -18,22 +18,37 @@ by-branch P (suc (suc (suc (suc zero)))) h a b c d e = d
 by-branch P (suc (suc (suc (suc (suc zero))))) h a b c d e = e
 by-branch P (suc (suc (suc (suc (suc (suc zero)))))) h a b c d e = absurd (true≢false (sym h))
 by-branch P (suc (suc (suc (suc (suc (suc (suc zero))))))) h a b c d e = absurd (true≢false (sym h))
-by-branch P (suc (suc (suc (suc (suc (suc (suc (suc k)))))))) h a b c d e = absurd (true≢false (sym h))
+by-branch P (suc (suc (suc (suc (suc (suc (suc (suc zero)))))))) h a b c d e = absurd (true≢false (sym h))
+by-branch P (suc (suc (suc (suc (suc (suc (suc (suc (suc k))))))))) h a b c d e = absurd (true≢false (sym h))
 
-pub by-source : (P : ℕ → Type 0) (k : ℕ) → sourceKind k ≡ true → P 6 → P 7 → P k
+pub by-source : (P : ℕ → Type 0) (k : ℕ) → sourceKind k ≡ true → P 6 → P 7 → P 8 → P k
 unfolding sourceKind kinds
-by-source P zero h a b = absurd (true≢false (sym h))
-by-source P (suc zero) h a b = absurd (true≢false (sym h))
-by-source P (suc (suc zero)) h a b = absurd (true≢false (sym h))
-by-source P (suc (suc (suc zero))) h a b = absurd (true≢false (sym h))
-by-source P (suc (suc (suc (suc zero)))) h a b = absurd (true≢false (sym h))
-by-source P (suc (suc (suc (suc (suc zero))))) h a b = absurd (true≢false (sym h))
-by-source P (suc (suc (suc (suc (suc (suc zero)))))) h a b = a
-by-source P (suc (suc (suc (suc (suc (suc (suc zero))))))) h a b = b
-by-source P (suc (suc (suc (suc (suc (suc (suc (suc k)))))))) h a b = absurd (true≢false (sym h))
+by-source P zero h a b c = absurd (true≢false (sym h))
+by-source P (suc zero) h a b c = absurd (true≢false (sym h))
+by-source P (suc (suc zero)) h a b c = absurd (true≢false (sym h))
+by-source P (suc (suc (suc zero))) h a b c = absurd (true≢false (sym h))
+by-source P (suc (suc (suc (suc zero)))) h a b c = absurd (true≢false (sym h))
+by-source P (suc (suc (suc (suc (suc zero))))) h a b c = absurd (true≢false (sym h))
+by-source P (suc (suc (suc (suc (suc (suc zero)))))) h a b c = a
+by-source P (suc (suc (suc (suc (suc (suc (suc zero))))))) h a b c = b
+by-source P (suc (suc (suc (suc (suc (suc (suc (suc zero)))))))) h a b c = c
+by-source P (suc (suc (suc (suc (suc (suc (suc (suc (suc k))))))))) h a b c = absurd (true≢false (sym h))
+
+pub by-fixing : (P : ℕ → Type 0) (k : ℕ) → fixingKind k ≡ true → P 6 → P 8 → P k
+unfolding fixingKind kinds
+by-fixing P zero h a b = absurd (true≢false (sym h))
+by-fixing P (suc zero) h a b = absurd (true≢false (sym h))
+by-fixing P (suc (suc zero)) h a b = absurd (true≢false (sym h))
+by-fixing P (suc (suc (suc zero))) h a b = absurd (true≢false (sym h))
+by-fixing P (suc (suc (suc (suc zero)))) h a b = absurd (true≢false (sym h))
+by-fixing P (suc (suc (suc (suc (suc zero))))) h a b = absurd (true≢false (sym h))
+by-fixing P (suc (suc (suc (suc (suc (suc zero)))))) h a b = a
+by-fixing P (suc (suc (suc (suc (suc (suc (suc zero))))))) h a b = absurd (true≢false (sym h))
+by-fixing P (suc (suc (suc (suc (suc (suc (suc (suc zero)))))))) h a b = b
+by-fixing P (suc (suc (suc (suc (suc (suc (suc (suc (suc k))))))))) h a b = absurd (true≢false (sym h))
 
 -- a row's kind is a branch's or a source's, and not both
-pub one-sort : (k : ℕ) → 1 ≤ k → k ≤ 7 → cond (branchKind k) 1 0 + cond (sourceKind k) 1 0 ≡ 1
+pub one-sort : (k : ℕ) → 1 ≤ k → k ≤ 8 → cond (branchKind k) 1 0 + cond (sourceKind k) 1 0 ≡ 1
 unfolding branchKind sourceKind kinds
 one-sort zero l h = absurd (omega arith)
 one-sort (suc zero) l h = refl
@@ -43,12 +58,13 @@ one-sort (suc (suc (suc (suc zero)))) l h = refl
 one-sort (suc (suc (suc (suc (suc zero))))) l h = refl
 one-sort (suc (suc (suc (suc (suc (suc zero)))))) l h = refl
 one-sort (suc (suc (suc (suc (suc (suc (suc zero))))))) l h = refl
-one-sort (suc (suc (suc (suc (suc (suc (suc (suc k)))))))) l h = absurd (omega arith)
+one-sort (suc (suc (suc (suc (suc (suc (suc (suc zero)))))))) l h = refl
+one-sort (suc (suc (suc (suc (suc (suc (suc (suc (suc k))))))))) l h = absurd (omega arith)
 
 -- ---- as code asks
 
-past : (n m : ℕ) → m ≤ 7 → eqb (suc (suc (suc (suc (suc (suc (suc (suc n)))))))) m ≡ false
-past n m l = ne-eqb (suc (suc (suc (suc (suc (suc (suc (suc n)))))))) m (λ e. omega arith)
+past : (n m : ℕ) → m ≤ 8 → eqb (suc (suc (suc (suc (suc (suc (suc (suc (suc n))))))))) m ≡ false
+past n m l = ne-eqb (suc (suc (suc (suc (suc (suc (suc (suc (suc n))))))))) m (λ e. omega arith)
 
 pub branch-kinds : (k : ℕ) → (eqb k 1 || eqb k 2 || eqb k 3 || eqb k 4 || eqb k 5) ≡ branchKind k
 unfolding branchKind kinds
@@ -60,10 +76,11 @@ branch-kinds (suc (suc (suc (suc zero)))) = refl
 branch-kinds (suc (suc (suc (suc (suc zero))))) = refl
 branch-kinds (suc (suc (suc (suc (suc (suc zero)))))) = refl
 branch-kinds (suc (suc (suc (suc (suc (suc (suc zero))))))) = refl
-branch-kinds (suc (suc (suc (suc (suc (suc (suc (suc n)))))))) =
+branch-kinds (suc (suc (suc (suc (suc (suc (suc (suc zero)))))))) = refl
+branch-kinds (suc (suc (suc (suc (suc (suc (suc (suc (suc n))))))))) =
     rw (past n 1 (omega arith), past n 2 (omega arith), past n 3 (omega arith), past n 4 (omega arith), past n 5 (omega arith))
 
-pub source-kinds : (k : ℕ) → (eqb k 6 || eqb k 7) ≡ sourceKind k
+pub source-kinds : (k : ℕ) → (eqb k 6 || eqb k 7 || eqb k 8) ≡ sourceKind k
 unfolding sourceKind kinds
 source-kinds zero = refl
 source-kinds (suc zero) = refl
@@ -73,9 +90,10 @@ source-kinds (suc (suc (suc (suc zero)))) = refl
 source-kinds (suc (suc (suc (suc (suc zero))))) = refl
 source-kinds (suc (suc (suc (suc (suc (suc zero)))))) = refl
 source-kinds (suc (suc (suc (suc (suc (suc (suc zero))))))) = refl
-source-kinds (suc (suc (suc (suc (suc (suc (suc (suc n)))))))) = rw (past n 6 (omega arith), past n 7 (omega arith))
+source-kinds (suc (suc (suc (suc (suc (suc (suc (suc zero)))))))) = refl
+source-kinds (suc (suc (suc (suc (suc (suc (suc (suc (suc n))))))))) = rw (past n 6 (omega arith), past n 7 (omega arith), past n 8 (omega arith))
 
-pub fixing-kinds : (k : ℕ) → eqb k 6 ≡ fixingKind k
+pub fixing-kinds : (k : ℕ) → (eqb k 6 || eqb k 8) ≡ fixingKind k
 unfolding fixingKind kinds
 fixing-kinds zero = refl
 fixing-kinds (suc zero) = refl
@@ -85,7 +103,8 @@ fixing-kinds (suc (suc (suc (suc zero)))) = refl
 fixing-kinds (suc (suc (suc (suc (suc zero))))) = refl
 fixing-kinds (suc (suc (suc (suc (suc (suc zero)))))) = refl
 fixing-kinds (suc (suc (suc (suc (suc (suc (suc zero))))))) = refl
-fixing-kinds (suc (suc (suc (suc (suc (suc (suc (suc n)))))))) = past n 6 (omega arith)
+fixing-kinds (suc (suc (suc (suc (suc (suc (suc (suc zero)))))))) = refl
+fixing-kinds (suc (suc (suc (suc (suc (suc (suc (suc (suc n))))))))) = rw (past n 6 (omega arith), past n 8 (omega arith))
 
 -- ---- of a row
 
@@ -95,7 +114,7 @@ line-branch r e = rw (eqb-true (kind r) 4 e)
 
 pub fixing-source : (r : Row) → isFixing r ≡ true → isSource r ≡ true
 unfolding sourceKind kinds
-fixing-source r e = rw (eqb-true (kind r) 6 (fixing-kinds (kind r) ∙ e))
+fixing-source r e = by-fixing (λ k. sourceKind k ≡ true) (kind r) e refl refl
 
 pub injecting-source : (r : Row) → isIS r ≡ true → isSource r ≡ true
 unfolding sourceKind kinds

@@ -32,11 +32,11 @@ valueFault head r =
 unfoldable pub travelFault : Row → Row → Bool
 travelFault head r = isLine r && ltb (travel r) (stepLength head)
 
--- "A node with a VS is fixed"
+-- "A node with a VS is fixed"; "A VC fixes its node like a VS."
 unfoldable pub fixes : ℕ → Row → Bool
 fixes n r = isFixing r && eqb (at r) n
 
--- 5 DOUBLE: "a second VS on a node"
+-- 5 DOUBLE: "a second VS on a node"; "5 covers any two of VS and VC"
 unfoldable pub doubleFault : List Row → Row → Bool
 doubleFault before r = isFixing r && any (fixes (at r)) before
 

@@ -77,6 +77,7 @@ kinds =
     ∷ kindOf "SW" aBranch (node ∷ node ∷ ohmic ∷ number Limits.closeLow Limits.openEnd ∷ number Limits.closeLow Limits.openEnd ∷ [])
     ∷ kindOf "VS" aFixing (node ∷ peakTo Limits.voltageEnd ∷ number Limits.startLow Limits.startEnd ∷ number Limits.riseLow Limits.riseEnd ∷ [])
     ∷ kindOf "IS" anInjecting (node ∷ peakTo Limits.injectionEnd ∷ number Limits.startLow Limits.startEnd ∷ number Limits.riseLow Limits.riseEnd ∷ [])
+    ∷ kindOf "VC" aFixing (node ∷ peakTo Limits.voltageEnd ∷ number Limits.startLow Limits.startEnd ∷ number Limits.frequencyLow Limits.frequencyEnd ∷ [])
     ∷ []
 
 -- the number of a word that is none of these
@@ -134,6 +135,9 @@ isSwitch = is 5
 abbrev pub isIS : Row → Bool
 isIS = is 7
 
+abbrev pub isVC : Row → Bool
+isVC = is 8
+
 -- "Branches are numbered from 1 in table order, sources not counted"
 abbrev pub isBranch : Row → Bool
 isBranch r = branchKind (kind r)
@@ -173,7 +177,7 @@ closes r = nat (word r 4)
 abbrev pub opens : Row → ℕ
 opens r = nat (word r 5)
 
--- a source: node, peak, start, rise
+-- a source: node, peak, start, and its rise or a VC's frequency
 abbrev pub at : Row → ℕ
 at r = nat (word r 1)
 
@@ -182,6 +186,9 @@ start r = nat (word r 3)
 
 abbrev pub rise : Row → ℕ
 rise r = nat (word r 4)
+
+abbrev pub frequency : Row → ℕ
+frequency r = nat (word r 4)
 
 abbrev pub peak : Row → ℤ
 peak r = word r 2

@@ -16,8 +16,10 @@ pub const VS: usize = 6;
 
 pub const IS: usize = 7;
 
+pub const VC: usize = 8;
+
 // how many there are, the study's among them
-pub const COUNT: usize = 8;
+pub const COUNT: usize = 9;
 
 // ---- their classes
 
@@ -30,12 +32,12 @@ pub fn is_branch(kind: usize) -> bool
 pub fn is_source(kind: usize) -> bool
     ensures { λ r. ⌜ r ≡ sourceKind kind ⌝ }
 {
-    (kind == VS) | (kind == IS)
+    (kind == VS) | (kind == IS) | (kind == VC)
 }
 
-// "A node with a VS is fixed"
+// "A node with a VS is fixed"; "A VC fixes its node like a VS."
 pub fn is_fixing(kind: usize) -> bool
     ensures { λ r. ⌜ r ≡ fixingKind kind ⌝ }
 {
-    kind == VS
+    (kind == VS) | (kind == VC)
 }

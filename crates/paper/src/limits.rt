@@ -75,6 +75,15 @@ impl Rise {
     pub const MAX: i64 = 1_000;
 }
 
+// mHz, of a VC
+pub struct Frequency;
+
+impl Frequency {
+    pub const MIN: i64 = 1;
+
+    pub const MAX: i64 = 100_000;
+}
+
 // how many of each a study may have, and how many words or bytes of each are lent
 pub struct Room;
 
@@ -137,6 +146,8 @@ pub fn fields_agree()
     ensures { λ _. do ⌜ (← ⟦Start::MAX⟧ .entry) ≡ pos Limits.startEnd ⌝ }
     ensures { λ _. do ⌜ (← ⟦Rise::MIN⟧ .entry) ≡ pos Limits.riseLow ⌝ }
     ensures { λ _. do ⌜ (← ⟦Rise::MAX⟧ .entry) ≡ pos Limits.riseEnd ⌝ }
+    ensures { λ _. do ⌜ (← ⟦Frequency::MIN⟧ .entry) ≡ pos Limits.frequencyLow ⌝ }
+    ensures { λ _. do ⌜ (← ⟦Frequency::MAX⟧ .entry) ≡ pos Limits.frequencyEnd ⌝ }
 {}
 
 pub fn room_agrees()

@@ -1,9 +1,9 @@
 -- What is an area's own: the ends of rows that leave its nodes, its nodes, its sources. End e is the end 1 + e mod 2 of row e / 2: 1 the from end, 2
 -- the to end. Assumes nothing.
 use Rattle.whole.specs.Plain.{ℕ, zero, suc, _+_, _-_, _*_, _/_, _%_, _≤_, _<_, _≡_, refl, Bool, true, false, cond, _&&_}
-use Rattle.whole.specs.Plain.{List, [], _∷_, _++_, map, eqb, pos, getD, length, arith, Words, word, nat, numbers, keep}
-use Rattle.paper.specs.Rows.{Row, kind, isLine, isBranch, isSource, at, peak, start, rise}
-use Rattle.paper.specs.Areas.{Net, areaOf, rowArea, fixed, nodesOf, freeOf}
+use Rattle.whole.specs.Plain.{List, [], _∷_, _++_, map, eqb, ℤ, pos, negℤ, getD, length, arith, Words, word, nat, numbers, keep}
+use Rattle.paper.specs.Rows.{Row, kind, isLine, isBranch, isSource, isVC, at, peak, start, rise, frequency}
+use Rattle.paper.specs.Areas.{Net, step, areaOf, rowArea, fixed, nodesOf, freeOf}
 use Rattle.paper.specs.Classes.{line-branch}
 use Rattle.laws_facts.specs.Nets.{rowAt}
 
@@ -83,9 +83,14 @@ ownSource N a r = isSource r && eqb (areaOf N (at r)) a
 unfoldable pub ownSources : Net → ℕ → List Row
 ownSources N a = keep (ownSource N a) (N .rows)
 
+-- a source's rise; in its place a VC has minus its pace, by how much its phase goes on at each step: "step · frequency". As a rise that is over before
+-- it begins: a VC goes the way of any source to its whole peak, and swings then
+unfoldable pub paceOf : Net → Row → ℤ
+paceOf N r = cond (isVC r) (negℤ (pos (step N * frequency r))) (pos (rise r))
+
 -- a source as a line of words
-unfoldable pub sourceLine : Row → Words
-sourceLine r = pos (kind r) ∷ pos (at r) ∷ peak r ∷ pos (start r) ∷ pos (rise r) ∷ []
+unfoldable pub sourceLine : Net → Row → Words
+sourceLine N r = pos (kind r) ∷ pos (at r) ∷ peak r ∷ pos (start r) ∷ paceOf N r ∷ []
 
 abbrev pub sourceLines : Net → ℕ → List Words
-sourceLines N a = map sourceLine (ownSources N a)
+sourceLines N a = map (sourceLine N) (ownSources N a)

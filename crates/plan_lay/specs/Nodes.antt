@@ -10,7 +10,7 @@ use Rattle.plan_ends.specs.Own.{fixedOf}
 use Rattle.plan_lay.specs.Listed.{listed, listed-same}
 use Rattle.plan_lay.specs.Flags.{Flagged}
 
--- held by a VS, or not
+-- held by a VS or a VC, or not
 abbrev pub same : Bool → Bool → Bool
 same true b = b
 same false b = not b

@@ -2,9 +2,11 @@
 ghost use Rattle.whole.specs.Plain.{ℕ, _+_, _≤_, _<_, _≡_, true, eqb, length};
 ghost use Rattle.whole.specs.Loans.{was, is};
 ghost use Rattle.paper.specs.Limits as Limits;
+ghost use Rattle.paper.specs.Rows.{isSource};
 ghost use Rattle.paper.specs.Network.{isNetwork};
-ghost use Rattle.laws_facts.specs.Nets.{netIn};
+ghost use Rattle.laws_facts.specs.Nets.{netIn, rowAt};
 ghost use Rattle.plan_record.specs.Mapped.{Mapped};
+ghost use Rattle.plan_ends.specs.Own.{paceOf};
 ghost use Rattle.plan_rows.specs.Planned.{rowIn, ownerIn, Noded};
 ghost use Rattle.plan_lay.specs.Grown.{Grown, Put};
 ghost use Rattle.plan_lay.specs.Ends.{farIn, frameIn, legsBy};
@@ -76,7 +78,7 @@ pub fn lay_legs(plan: &Table, rows: usize, a: usize, m: usize, legs: &mut [Line]
 
 // ---- nodes
 
-// row i's flag: "A node with a VS is fixed"
+// row i's flag: "A node with a VS is fixed"; "A VC fixes its node like a VS."
 fn flag_row(net: &[i64], i: usize, flags: &mut [bool; Node::PLACES])
     requires { ⌜ (isNetwork (now net) ≡ true) × (i < length (netIn (now net) .rows)) ⌝ }
     ensures { λ _. ⌜ is flags ≡ flagRow (netIn (was net)) i (was flags) ⌝ }
@@ -150,6 +152,19 @@ pub fn lay_nodes(
 
 // ---- sources
 
+// The rise of row i, a source; a VC has minus its pace there: "step · frequency", by how much its phase goes on at each step.
+fn pace(net: &[i64], i: usize) -> i64
+    requires { ⌜ (isNetwork (now net) ≡ true) × (i < length (netIn (now net) .rows)) ⌝ }
+    requires { ⌜ isSource (rowAt (netIn (now net)) i) ≡ true ⌝ }
+    ensures { λ r. ⌜ r ≡ paceOf (netIn (was net)) (rowAt (netIn (was net)) i) ⌝ }
+{
+    let last = plan_record::value(net, i, 4);
+    if plan_record::kind(net, i) == kinds::VC {
+        return -(net[0] * last);
+    }
+    last
+}
+
 // Row i in line m, where it is a source of the area's; the line to fill next.
 fn lay_source(
     net: &[i64],
@@ -176,7 +191,7 @@ fn lay_source(
         plan_record::value(net, i, 1),
         plan_record::value(net, i, 2),
         plan_record::value(net, i, 3),
-        plan_record::value(net, i, 4),
+        pace(net, i),
     ];
     sources[m] = line;
     m + 1

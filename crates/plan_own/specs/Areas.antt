@@ -71,7 +71,7 @@ room-next N a {at} {o} {legs′ = legs′} {nodes′ = nodes′} {sources′ = s
     let t = k .tables in
     let l : o .«legs_end» ≡ at .«legs_end» + length (ownEnds N a) = omega (arith, w .framed .long, mid-len (o .legs) (o .«legs_end») legs′ (omega (arith, w .legs-in, t .legs-long)), w .legs-in, k .legs-at) in
     let n : o .«nodes_end» ≡ at .«nodes_end» + length (nodesOf N a) = omega (arith, ap length (w .nodes), length-append (freeOf N a) (fixedOf N a), free-or-fixed N a, mid-len (o .base) (o .«nodes_end») nodes′ (omega (arith, w .nodes-in, t .nodes-long)), w .nodes-in, k .nodes-at) in
-    let s : o .«sources_end» ≡ at .«sources_end» + length (ownSources N a) = omega (arith, ap length (w .sources), length-map (ownSources N a) sourceLine, mid-len (o .sources) (o .«sources_end») sources′ (omega (arith, w .sources-in, t .sources-long)), w .sources-in, k .sources-at) in
+    let s : o .«sources_end» ≡ at .«sources_end» + length (ownSources N a) = omega (arith, ap length (w .sources), length-map (ownSources N a) (sourceLine N), mid-len (o .sources) (o .«sources_end») sources′ (omega (arith, w .sources-in, t .sources-long)), w .sources-in, k .sources-at) in
     record { legs = omega (arith, r .legs, ends-from N a); nodes = omega (arith, r .nodes, nodes-from N a); sources = omega (arith, r .sources, sources-from N a) }
 
 abbrev standing : Own → ℕ → ℕ → ℕ → ℕ → Own

@@ -2,6 +2,7 @@
 ghost use Rattle.whole.specs.Loans.{was, is};
 ghost use Rattle.paper.specs.Lent.{before, after};
 ghost use Rattle.run_pieces.specs.Pieces.{Closes, Goes, Hands};
+use list_pieces::Piece;
 use paper::Advance;
 use paper::Listing;
 use paper::Steps;
@@ -43,7 +44,7 @@ fn list_piece(
 ) -> Next
     ensures { λ r. ⌜ Goes (was network) (before records froms tos) (was out) r (is out) (after records froms tos) ⌝ }
 {
-    let piece = emt::list(network, records, froms, tos, out);
+    let piece: Piece = emt::list(network, records, froms, tos, out);
     let count = piece.count;
     let answer = piece.answer;
     if !run_bytes::write_all(&out[..count]) {

@@ -24,7 +24,7 @@ pub struct Wire {
 // near, far, row, end, kind, g, h, current, passed on
 pub type Line = [i64; 9];
 
-// A source as a line of words: kind, node, peak, start, rise.
+// A source as a line of words: kind, node, peak, start, and its rise, or minus a VC's pace.
 pub type SourceLine = [i64; 5];
 
 pub fn leg_at(legs: &[Line], j: usize) -> Wire

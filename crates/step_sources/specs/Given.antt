@@ -10,11 +10,10 @@ use Rattle.whole.specs.Filled.{getD-same}
 use Rattle.whole.specs.Written.{set-at}
 use Rattle.paper.specs.Limits as Limits
 use Rattle.paper.specs.Rows.{Row, at}
-use Rattle.paper.specs.Sources.{ramp}
 use Rattle.paper.specs.Kept.{either}
 use Rattle.laws_volts.specs.Range.{set-end}
 use Rattle.step_legs.specs.Sums.{none, from-none}
-use Rattle.step_sources.specs.Table.{Room, give, given}
+use Rattle.step_sources.specs.Table.{valueOf, Room, give, given}
 
 pub none-room : Room 0 none
 none-room = record { end = λ n. rw (getD-same (suc Limits.nodeEnd) n z) (omega arith) }
@@ -22,13 +21,13 @@ none-room = record { end = λ n. rw (getD-same (suc Limits.nodeEnd) n z) (omega 
 module _ (p : Row → Bool) (k : ℕ) where
   -- what a source gives at node n
   abbrev pub share : ℕ → Row → ℤ
-  share n r = cond (p r && eqb (at r) n) (ramp k r) z
+  share n r = cond (p r && eqb (at r) n) (valueOf k r) z
 
   module _ (w : Words) (r : Row) where
     abbrev sum : ℤ
-    sum = word w (at r) +ℤ ramp k r
+    sum = word w (at r) +ℤ valueOf k r
 
-    pub give-is : (n : ℕ) (x : ℤ) → n ≡ at r → x ≡ ramp k r → p r ≡ true → set w n (word w n +ℤ x) ≡ give p k w r
+    pub give-is : (n : ℕ) (x : ℤ) → n ≡ at r → x ≡ valueOf k r → p r ≡ true → set w n (word w n +ℤ x) ≡ give p k w r
     unfolding give
     give-is n x e f g = rw (e, f, g)
 
@@ -44,16 +43,16 @@ module _ (p : Row → Bool) (k : ℕ) where
     unfolding give
     give-at n h = by (p r)
       where
-        here : (t : Bool) → eqb (at r) n ≡ t → cond t sum (word w n) ≡ word w n +ℤ cond t (ramp k r) z
-        here true e = ap (λ (j : ℕ). word w j +ℤ ramp k r) (eqb-true (at r) n e)
+        here : (t : Bool) → eqb (at r) n ≡ t → cond t sum (word w n) ≡ word w n +ℤ cond t (valueOf k r) z
+        here true e = ap (λ (j : ℕ). word w j +ℤ valueOf k r) (eqb-true (at r) n e)
         here false e = sym (+ℤ-idr (word w n))
 
-        by : (b : Bool) → word (cond b (set w (at r) sum) w) n ≡ word w n +ℤ cond (b && eqb (at r) n) (ramp k r) z
+        by : (b : Bool) → word (cond b (set w (at r) sum) w) n ≡ word w n +ℤ cond (b && eqb (at r) n) (valueOf k r) z
         by true = set-at w (at r) n sum z h ∙ here (eqb (at r) n) refl
         by false = sym (+ℤ-idr (word w n))
 
     -- one source more than j
-    pub room-next : (j : ℕ) → Room j w → natAbs (ramp k r) ≤ Limits.injectionEnd → Room (j + 1) (give p k w r)
+    pub room-next : (j : ℕ) → Room j w → natAbs (valueOf k r) ≤ Limits.injectionEnd → Room (j + 1) (give p k w r)
     unfolding give
     room-next j room size = record { end = λ n. either (λ u. natAbs (word u n) ≤ (j + 1) * Limits.injectionEnd) (p r) _ w (set-end w (at r) n _ sum more (less n)) (less n) }
       where
@@ -61,7 +60,7 @@ module _ (p : Row → Bool) (k : ℕ) where
         less n = omega (arith, room .end n)
 
         more : natAbs sum ≤ (j + 1) * Limits.injectionEnd
-        more = omega (arith, abs-add-le (word w (at r)) (ramp k r) (room .end (at r)) size)
+        more = omega (arith, abs-add-le (word w (at r)) (valueOf k r) (room .end (at r)) size)
 
   fold-at : (rows : List Row) (w : Words) (n : ℕ) → n < length w → word (fold (give p k) w rows) n ≡ word w n +ℤ total (share n) rows
   unfolding fold total

@@ -20,23 +20,23 @@ use Rattle.text_faults.specs.Seen.{headOf, Sized, conductanceOf, seenDou
 
 -- ---- the kind as an index
 
-pub kind-sign : (x : ℤ) → kind (x ∷ []) < 8 → T (nonNeg x)
+pub kind-sign : (x : ℤ) → kind (x ∷ []) < 9 → T (nonNeg x)
 kind-sign (pos k) h = tt
 kind-sign (negsuc n) h = absurd (omega (arith, kind-count))
 
-pub kind-size : (x : ℤ) → kind (x ∷ []) < 8 → natAbs x ≡ kind (x ∷ [])
+pub kind-size : (x : ℤ) → kind (x ∷ []) < 9 → natAbs x ≡ kind (x ∷ [])
 kind-size (pos k) h = refl
 kind-size (negsuc n) h = absurd (omega (arith, kind-count))
 
 -- ---- a branch's size
 
-branch-names : (k : ℕ) → k < 8 → namesOf k ≤ 2
+branch-names : (k : ℕ) → k < 9 → namesOf k ≤ 2
 unfolding namesOf fieldsOf kinds bytes count
-branch-names = each (λ k. namesOf k ≤ 2) (omega arith) (omega arith) (omega arith) (omega arith) (omega arith) (omega arith) (omega arith) (omega arith)
+branch-names = each (λ k. namesOf k ≤ 2) (omega arith) (omega arith) (omega arith) (omega arith) (omega arith) (omega arith) (omega arith) (omega arith) (omega arith)
 
-branch-fields : (k : ℕ) → k < 8 → 2 < length (fieldsOf k)
+branch-fields : (k : ℕ) → k < 9 → 2 < length (fieldsOf k)
 unfolding fieldsOf kinds bytes
-branch-fields = each (λ k. 2 < length (fieldsOf k)) (omega arith) (omega arith) (omega arith) (omega arith) (omega arith) (omega arith) (omega arith) (omega arith)
+branch-fields = each (λ k. 2 < length (fieldsOf k)) (omega arith) (omega arith) (omega arith) (omega arith) (omega arith) (omega arith) (omega arith) (omega arith) (omega arith)
 
 module _ (step : ℕ) (l : 1 ≤ step) (h : step ≤ 1000000) where
   -- whose range is from low to end, and which is no C, or C's
@@ -45,7 +45,7 @@ module _ (step : ℕ) (l : 1 ≤ step) (h : step ≤ 1000000) where
       let t = in-range low end x b in
       record { long = l; short = h; some = omega arith; most = omega arith; farads = λ (e : k ≡ 3). let m = r e in omega arith }
 
-  branch-size : (k : ℕ) → k < 8 → (x : ℤ) → branchKind k ≡ true → between (low k 2) (high k 2) x ≡ true → Sized step k (nat x)
+  branch-size : (k : ℕ) → k < 9 → (x : ℤ) → branchKind k ≡ true → between (low k 2) (high k 2) x ≡ true → Sized step k (nat x)
   unfolding low high fieldsOf branchKind kinds bytes
   branch-size k known x = each (λ k. branchKind k ≡ true → between (low k 2) (high k 2) x ≡ true → Sized step k (nat x))
       (λ f b. absurd (false≢true f))
@@ -56,11 +56,12 @@ module _ (step : ℕ) (l : 1 ≤ step) (h : step ≤ 1000000) where
       (λ f b. of-range 5 1000 1000000000000 x (omega arith) (omega arith) (λ e. absurd (omega arith)) b)
       (λ f b. absurd (false≢true f))
       (λ f b. absurd (false≢true f))
+      (λ f b. absurd (false≢true f))
       k known
 
 -- ---- the faults of one row, of what code has read of it
 
-module _ (w : Words) (few : 6 ≤ length w) (known : kind w < 8) {k : ℕ} (e : k ≡ kind w) where
+module _ (w : Words) (few : 6 ≤ length w) (known : kind w < 9) {k : ℕ} (e : k ≡ kind w) where
   pub names-fit : {n : ℕ} → n ≡ namesOf k → n ≤ 5
   names-fit p = rw (p, e) (le-trans (names-few (kind w) known) (fields-few (kind w) known))
 
@@ -118,7 +119,7 @@ module _ (w : Words) (few : 6 ≤ length w) (known : kind w < 8) {k : ℕ} (e : 
 pub line-travel : (w : Words) → 6 ≤ length w → (step : ℕ) → kind w ≡ 4 → valueFault (headOf step) w ≡ false → travel w ≤ 1000000000
 unfolding valueFault fieldsOf kinds bytes low high namesOf count
 line-travel w few step e f =
-    let known : kind w < 8 = rw e (omega arith) in
+    let known : kind w < 9 = rw e (omega arith) in
     of-line (kind w) e (outside-values w few (kind w) known ∙ or-left _ _ (or-left _ _ f))
   where
     of-line : (k : ℕ) → k ≡ 4 → outsideFrom k (namesOf k) (length (fieldsOf k)) w ≡ false → nat (word w 4) ≤ 1000000000

@@ -1,11 +1,11 @@
 -- The faults of a row by what is seen are the paper's, after the rows that it stands for. Assumes nothing.
 use Rattle.whole.specs.Plain.{ℕ, _≤_, _<_, _≡_, refl, sym, _∙_, ap, subst, Bool, true, false, _&&_, false≢true}
 use Rattle.whole.specs.Plain.{true≢false, List, [], _∷_, tail, ℤ, pos, negsuc, length, getD, drop, getD-replicate}
-use Rattle.whole.specs.Plain.{eqb-true, arith, Words, word, nat, between, empty, any, count, sum}
+use Rattle.whole.specs.Plain.{arith, Words, word, between, empty, any, count, sum}
 use Rattle.whole.specs.Folds.{or-left}
 use Rattle.paper.specs.Limits as Limits
 use Rattle.paper.specs.Rows.{Row, bytes, kinds, kind, fieldsOf, isStudy, isBranch, isSource, isFixing, branchKind, sourceKind, fixingKind, at, stepLength}
-use Rattle.paper.specs.Classes.{kind-count, fixing-kinds}
+use Rattle.paper.specs.Classes.{kind-count, by-fixing}
 use Rattle.paper.specs.Conductance.{conductance, ofOhms, ofHenries, ofFarads}
 use Rattle.paper.specs.Faults.{outside, nodeFault, valueFault, travelFault, fixes, doubleFault, depth, slots, fullFault, lineFault, rowFault}
 use Rattle.paper.specs.Network.{Table, rowOfWords}
@@ -39,7 +39,7 @@ stands-none =
 
 -- ---- a row of the paper has the words of its kind only; its faults ask no other
 
-kind-word : (x : ℤ) → kind (x ∷ []) < 8 → x ≡ pos (kind (x ∷ []))
+kind-word : (x : ℤ) → kind (x ∷ []) < 9 → x ≡ pos (kind (x ∷ []))
 kind-word (pos k) h = refl
 kind-word (negsuc n) h = absurd (omega (arith, kind-count))
 
@@ -47,15 +47,18 @@ head-tail : (w : Words) → 6 ≤ length w → w ≡ word w 0 ∷ tail w
 head-tail [] h = absurd (omega arith)
 head-tail (x ∷ w) h = refl
 
-source-range : (w : Words) → outsideFrom 6 0 (namesOf 6) w ≡ false → between (pos 0) (pos 32) (word w 1) ≡ true
+-- the first field of a source that fixes is a node
+fixing-range : (w : Words) (k : ℕ) → fixingKind k ≡ true → outsideFrom k 0 (namesOf k) w ≡ false → between (pos 0) (pos 32) (word w 1) ≡ true
 unfolding namesOf fieldsOf kinds bytes count low high
-source-range w o = field-in 6 0 1 w o 0 (omega arith) (omega arith)
+fixing-range w k f =
+    by-fixing (λ k. outsideFrom k 0 (namesOf k) w ≡ false → between (pos 0) (pos 32) (word w 1) ≡ true) k f
+    (λ o. field-in 6 0 1 w o 0 (omega arith) (omega arith)) (λ o. field-in 8 0 1 w o 0 (omega arith) (omega arith))
 
 -- a row by its kind and its words
 unfoldable pub words : ℕ → Words → Words
 words k w = pos k ∷ word w 1 ∷ word w 2 ∷ word w 3 ∷ word w 4 ∷ word w 5 ∷ drop 6 w
 
-pub shape : (w : Words) → 6 ≤ length w → kind w < 8 → w ≡ words (kind w) w
+pub shape : (w : Words) → 6 ≤ length w → kind w < 9 → w ≡ words (kind w) w
 unfolding words
 shape w few known =
     head-tail w few
@@ -63,46 +66,43 @@ shape w few known =
     ∙ ap (λ (x : ℤ). x ∷ word w 1 ∷ word w 2 ∷ word w 3 ∷ word w 4 ∷ word w 5 ∷ drop 6 w) (kind-word (word w 0) known)
 
 -- what holds of a row of each kind
-pub by-kind : (P : Words → Type 0) (w : Words) → 6 ≤ length w → kind w < 8
-    → P (words 0 w) → P (words 1 w) → P (words 2 w) → P (words 3 w) → P (words 4 w) → P (words 5 w) → P (words 6 w) → P (words 7 w) → P w
-by-kind P w few known a b c d e f g h = subst P (sym (shape w few known)) (each (λ k. P (words k w)) a b c d e f g h (kind w) known)
+pub by-kind : (P : Words → Type 0) (w : Words) → 6 ≤ length w → kind w < 9
+    → P (words 0 w) → P (words 1 w) → P (words 2 w) → P (words 3 w) → P (words 4 w) → P (words 5 w) → P (words 6 w) → P (words 7 w) → P (words 8 w) → P w
+by-kind P w few known a b c d e f g h i = subst P (sym (shape w few known)) (each (λ k. P (words k w)) a b c d e f g h i (kind w) known)
 
-module _ (w : Words) (few : 6 ≤ length w) (known : kind w < 8) where
+module _ (w : Words) (few : 6 ≤ length w) (known : kind w < 9) where
   pub row-kind : kind (rowOfWords w) ≡ kind w
   unfolding words rowOfWords fieldsOf kinds bytes
-  row-kind = by-kind (λ v. kind (rowOfWords v) ≡ kind v) w few known refl refl refl refl refl refl refl refl
+  row-kind = by-kind (λ v. kind (rowOfWords v) ≡ kind v) w few known refl refl refl refl refl refl refl refl refl
 
   pub row-line-fault : (head : Row) (before : List Row) → lineFault head before (rowOfWords w) ≡ lineFault head before w
   unfolding words rowOfWords fieldsOf kinds bytes lineFault nodeFault valueFault travelFault doubleFault fullFault outside conductance ofOhms ofHenries ofFarads depth slots
-  row-line-fault head before = by-kind (λ v. lineFault head before (rowOfWords v) ≡ lineFault head before v) w few known refl refl refl refl refl refl refl refl
+  row-line-fault head before = by-kind (λ v. lineFault head before (rowOfWords v) ≡ lineFault head before v) w few known refl refl refl refl refl refl refl refl refl
 
   pub row-slots : (head : Row) → slots head (rowOfWords w) ≡ slots head w
   unfolding words rowOfWords fieldsOf kinds bytes depth slots
-  row-slots head = by-kind (λ v. slots head (rowOfWords v) ≡ slots head v) w few known refl refl refl refl refl refl refl refl
+  row-slots head = by-kind (λ v. slots head (rowOfWords v) ≡ slots head v) w few known refl refl refl refl refl refl refl refl refl
 
   pub row-fixes : (n : ℕ) → fixes n (rowOfWords w) ≡ fixes n w
   unfolding words rowOfWords fieldsOf kinds bytes fixes
-  row-fixes n = by-kind (λ v. fixes n (rowOfWords v) ≡ fixes n v) w few known refl refl refl refl refl refl refl refl
+  row-fixes n = by-kind (λ v. fixes n (rowOfWords v) ≡ fixes n v) w few known refl refl refl refl refl refl refl refl refl
 
   pub row-study : isStudy w ≡ true → stepLength (rowOfWords w) ≡ stepLength w
   unfolding words rowOfWords fieldsOf kinds bytes
-  row-study = by-kind (λ v. isStudy v ≡ true → stepLength (rowOfWords v) ≡ stepLength v) w few known (λ i. refl) (λ i. refl) (λ i. refl) (λ i. refl) (λ i. refl) (λ i. refl) (λ i. refl) (λ i. refl)
+  row-study = by-kind (λ v. isStudy v ≡ true → stepLength (rowOfWords v) ≡ stepLength v) w few known (λ i. refl) (λ i. refl) (λ i. refl) (λ i. refl) (λ i. refl) (λ i. refl) (λ i. refl) (λ i. refl) (λ i. refl)
 
   -- what a row that passes has, for what is seen next
-  pub source-node : nodeFault w ≡ false → kind w ≡ 6 → at w ≤ 32
+  pub source-node : nodeFault w ≡ false → isFixing w ≡ true → at w ≤ 32
   unfolding nodeFault
-  source-node f = of-source (kind w) (outside-names w few (kind w) known ∙ or-left _ _ (or-left _ _ (or-left _ _ f)))
-    where
-      of-source : (k : ℕ) → outsideFrom k 0 (namesOf k) w ≡ false → k ≡ 6 → nat (word w 1) ≤ 32
-      of-source k o e = in-range 0 32 (word w 1) (source-range w (rw e at o)) .1 .1
+  source-node f g = in-range 0 32 (word w 1) (fixing-range w (kind w) g (outside-names w few (kind w) known ∙ or-left _ _ (or-left _ _ (or-left _ _ f)))) .1 .1
 
 -- the faults of a row, seen and of the paper
-seen-double : (s : Seen) (before : List Row) (w : Words) → ((n : ℕ) → n ≤ 32 → getD (s .fixed) n false ≡ any (fixes n) before) → (kind w ≡ 6 → at w ≤ 32) → seenDouble s w ≡ doubleFault before w
+seen-double : (s : Seen) (before : List Row) (w : Words) → ((n : ℕ) → n ≤ 32 → getD (s .fixed) n false ≡ any (fixes n) before) → (isFixing w ≡ true → at w ≤ 32) → seenDouble s w ≡ doubleFault before w
 unfolding seenDouble doubleFault
 seen-double s before w h l = by-test (isFixing w) refl
   where
     by-test : (t : Bool) → isFixing w ≡ t → (isFixing w && getD (s .fixed) (at w) false) ≡ (isFixing w && any (fixes (at w)) before)
-    by-test true e = rw (h (at w) (l (eqb-true (kind w) 6 (fixing-kinds (kind w) ∙ e))))
+    by-test true e = rw (h (at w) (l e))
     by-test false e = rw e
 
 seen-full : (s : Seen) (before : List Row) (w : Words) → s .branches ≡ count isBranch before → s .sources ≡ count isSource before → s .slots ≡ sum (slots (headOf (s .step))) before
@@ -115,7 +115,7 @@ by-step : (head : Row) (before : List Row) (w : Words) → lineFault (headOf (st
 unfolding lineFault valueFault travelFault fullFault depth slots
 by-step head before w = refl
 
-module _ (s : Seen) (w : Words) (few : 6 ≤ length w) (known : kind w < 8) where
+module _ (s : Seen) (w : Words) (few : 6 ≤ length w) (known : kind w < 9) where
   after-study : (before : List Row) → s .branches ≡ count isBranch before → s .sources ≡ count isSource before → s .slots ≡ sum (slots (headOf (s .step))) before
       → ((n : ℕ) → n ≤ 32 → getD (s .fixed) n false ≡ any (fixes n) before) → seenFault s w ≡ lineFault (headOf (s .step)) before w
   unfolding seenFault lineFault
@@ -131,7 +131,7 @@ module _ (s : Seen) (w : Words) (few : 6 ≤ length w) (known : kind w < 8) wher
       by-kind (λ v. isStudy v ≡ true → s .slots ≡ 0 → seenFault s v ≡ lineFault [] [] v) w few known
       (λ i e. rw e)
       (λ i e. absurd (false≢true i)) (λ i e. absurd (false≢true i)) (λ i e. absurd (false≢true i)) (λ i e. absurd (false≢true i))
-      (λ i e. absurd (false≢true i)) (λ i e. absurd (false≢true i)) (λ i e. absurd (false≢true i))
+      (λ i e. absurd (false≢true i)) (λ i e. absurd (false≢true i)) (λ i e. absurd (false≢true i)) (λ i e. absurd (false≢true i))
 
   -- "in it 1 to 6 in turn": one function, and the paper's
   pub fault-is : (t : Table) → Stands s t → empty t ≡ isStudy w → seenFault s w ≡ rowFault t (rowOfWords w)

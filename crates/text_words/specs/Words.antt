@@ -19,9 +19,9 @@ pub letter-at : (k i : ℕ) → i < 5 → getD (lettersOf k) i 0 ≡ getD (wordO
 unfolding lettersOf
 letter-at k i h = table-at 5 (λ i. getD (wordOf k) i 0) 0 i h
 
-pub word-short : (k : ℕ) → k < 8 → length (wordOf k) ≤ 5
+pub word-short : (k : ℕ) → k < 9 → length (wordOf k) ≤ 5
 unfolding wordOf kinds bytes
-word-short = each (λ k. length (wordOf k) ≤ 5) (omega arith) (omega arith) (omega arith) (omega arith) (omega arith) (omega arith) (omega arith) (omega arith)
+word-short = each (λ k. length (wordOf k) ≤ 5) (omega arith) (omega arith) (omega arith) (omega arith) (omega arith) (omega arith) (omega arith) (omega arith) (omega arith)
 
 -- ---- two words, letter by letter
 
@@ -41,11 +41,11 @@ pub same-done : (a w : List ℕ) (i : ℕ) → length w ≡ length a → length 
 unfolding sameBytes
 same-done a w i e h = let g : length a ≤ i = omega arith in rw (drop-of-length-le a g, drop-of-length-le w h)
 
--- ---- the one kind whose word begins with a byte, in words of a length
+-- ---- the one kind whose word begins with two bytes, in words of a length; the second is 0 where there is none
 
-pub record Only (b n k : ℕ) : Type 0 where
-  pub most : k ≤ 8
-  pub only : (t : List ℕ) → suc (length t) ≡ n → placeOf 0 kinds (b ∷ t) ≡ cond (sameBytes (wordOf k) (b ∷ t)) k 8
+pub record Only (b c n k : ℕ) : Type 0 where
+  pub most : k ≤ 9
+  pub only : (t : List ℕ) → suc (length t) ≡ n → getD t 0 0 ≡ c → placeOf 0 kinds (b ∷ t) ≡ cond (sameBytes (wordOf k) (b ∷ t)) k 9
 
 -- a byte that begins none of the words in capitals
 pub record Other (b : ℕ) : Type 0 where
@@ -56,47 +56,57 @@ pub record Other (b : ℕ) : Type 0 where
   pub not-V : 86 ≡ b → ⊥
   pub not-I : 73 ≡ b → ⊥
 
-module _ {b n : ℕ} where
-  pub only-R : b ≡ 82 → Only b n 1
+module _ {b c n : ℕ} where
+  pub only-R : b ≡ 82 → Only b c n 1
   unfolding placeOf kinds bytes sameBytes wordOf
-  only-R e = record { most = omega arith; only = λ t l. rw e }
+  only-R e = record { most = omega arith; only = λ t l s. rw e }
 
-  pub only-C : b ≡ 67 → Only b n 3
+  pub only-C : b ≡ 67 → Only b c n 3
   unfolding placeOf kinds bytes sameBytes wordOf
-  only-C e = record { most = omega arith; only = λ t l. rw e }
+  only-C e = record { most = omega arith; only = λ t l s. rw e }
 
-  pub only-SW : b ≡ 83 → Only b n 5
+  pub only-SW : b ≡ 83 → Only b c n 5
   unfolding placeOf kinds bytes sameBytes wordOf
-  only-SW e = record { most = omega arith; only = λ t l. rw e }
+  only-SW e = record { most = omega arith; only = λ t l s. rw e }
 
-  pub only-VS : b ≡ 86 → Only b n 6
+  pub only-IS : b ≡ 73 → Only b c n 7
   unfolding placeOf kinds bytes sameBytes wordOf
-  only-VS e = record { most = omega arith; only = λ t l. rw e }
-
-  pub only-IS : b ≡ 73 → Only b n 7
-  unfolding placeOf kinds bytes sameBytes wordOf
-  only-IS e = record { most = omega arith; only = λ t l. rw e }
+  only-IS e = record { most = omega arith; only = λ t l s. rw e }
 
   -- L and LINE begin alike
-  pub only-L : b ≡ 76 → n ≡ 1 → Only b n 2
+  pub only-L : b ≡ 76 → n ≡ 1 → Only b c n 2
   unfolding placeOf kinds bytes sameBytes wordOf
   only-L e o =
-      let alone : (t : List ℕ) → suc (length t) ≡ n → placeOf 0 kinds (76 ∷ t) ≡ cond (sameBytes (wordOf 2) (76 ∷ t)) 2 8 = elim [ [] ↦ λ l. refl | c ∷ t ↦ λ l. absurd (omega arith) ] in
-      record { most = omega arith; only = λ t l. rw e (alone t l) }
+      let alone : (t : List ℕ) → suc (length t) ≡ n → placeOf 0 kinds (76 ∷ t) ≡ cond (sameBytes (wordOf 2) (76 ∷ t)) 2 9 = elim [ [] ↦ λ l. refl | x ∷ t ↦ λ l. absurd (omega arith) ] in
+      record { most = omega arith; only = λ t l s. rw e (alone t l) }
 
-  pub only-LINE : b ≡ 76 → (n ≡ 1 → ⊥) → Only b n 4
+  pub only-LINE : b ≡ 76 → (n ≡ 1 → ⊥) → Only b c n 4
   unfolding placeOf kinds bytes sameBytes wordOf
   only-LINE e o =
-      let more : (t : List ℕ) → suc (length t) ≡ n → placeOf 0 kinds (76 ∷ t) ≡ cond (sameBytes (wordOf 4) (76 ∷ t)) 4 8 = elim [ [] ↦ λ l. absurd (o (omega arith)) | c ∷ t ↦ λ l. refl ] in
-      record { most = omega arith; only = λ t l. rw e (more t l) }
+      let more : (t : List ℕ) → suc (length t) ≡ n → placeOf 0 kinds (76 ∷ t) ≡ cond (sameBytes (wordOf 4) (76 ∷ t)) 4 9 = elim [ [] ↦ λ l. absurd (o (omega arith)) | x ∷ t ↦ λ l. refl ] in
+      record { most = omega arith; only = λ t l s. rw e (more t l) }
 
-  pub only-study : Other b → Only b n 0
+  -- and VS and VC
+  pub only-VC : b ≡ 86 → c ≡ 67 → Only b c n 8
   unfolding placeOf kinds bytes sameBytes wordOf
-  only-study o = record { most = omega arith; only = λ t l. rw (ne-eqb 82 b (o .not-R), ne-eqb 76 b (o .not-L), ne-eqb 67 b (o .not-C), ne-eqb 83 b (o .not-S), ne-eqb 86 b (o .not-V), ne-eqb 73 b (o .not-I)) }
+  only-VC e o =
+      let more : (t : List ℕ) → getD t 0 0 ≡ c → placeOf 0 kinds (86 ∷ t) ≡ cond (sameBytes (wordOf 8) (86 ∷ t)) 8 9 = elim [ [] ↦ λ s. refl | x ∷ t ↦ λ s. rw (s ∙ o) ] in
+      record { most = omega arith; only = λ t l s. rw e (more t s) }
 
-  pub only-none : Other b → (115 ≡ b → ⊥) → Only b n 8
+  pub only-VS : b ≡ 86 → (c ≡ 67 → ⊥) → Only b c n 6
   unfolding placeOf kinds bytes sameBytes wordOf
-  only-none o s = record { most = omega arith; only = λ t l. rw (ne-eqb 115 b s, ne-eqb 82 b (o .not-R), ne-eqb 76 b (o .not-L), ne-eqb 67 b (o .not-C), ne-eqb 83 b (o .not-S), ne-eqb 86 b (o .not-V), ne-eqb 73 b (o .not-I)) }
+  only-VS e o =
+      let more : (t : List ℕ) → getD t 0 0 ≡ c → placeOf 0 kinds (86 ∷ t) ≡ cond (sameBytes (wordOf 6) (86 ∷ t)) 6 9
+      = elim [ [] ↦ λ s. refl | x ∷ t ↦ λ s. rw (ne-eqb 67 x (λ (q : 67 ≡ x). o (sym s ∙ sym q))) ] in
+      record { most = omega arith; only = λ t l s. rw e (more t s) }
+
+  pub only-study : Other b → Only b c n 0
+  unfolding placeOf kinds bytes sameBytes wordOf
+  only-study o = record { most = omega arith; only = λ t l s. rw (ne-eqb 82 b (o .not-R), ne-eqb 76 b (o .not-L), ne-eqb 67 b (o .not-C), ne-eqb 83 b (o .not-S), ne-eqb 86 b (o .not-V), ne-eqb 73 b (o .not-I)) }
+
+  pub only-none : Other b → (115 ≡ b → ⊥) → Only b c n 9
+  unfolding placeOf kinds bytes sameBytes wordOf
+  only-none o s = record { most = omega arith; only = λ t l q. rw (ne-eqb 115 b s, ne-eqb 82 b (o .not-R), ne-eqb 76 b (o .not-L), ne-eqb 67 b (o .not-C), ne-eqb 83 b (o .not-S), ne-eqb 86 b (o .not-V), ne-eqb 73 b (o .not-I)) }
 
 -- ---- a turn of the loop over a word's letters
 
@@ -108,19 +118,23 @@ same-next a w i e h n = rw (same-more a w i e h, eq-eqb (getD a i 0) (getD w i 0
 
 -- ---- the kind that a word names
 
-pub kind-none : (w : List ℕ) → length w ≡ 0 → 8 ≡ placeOf 0 kinds w
+pub kind-none : (w : List ℕ) → length w ≡ 0 → 9 ≡ placeOf 0 kinds w
 unfolding placeOf kinds bytes sameBytes
 kind-none [] e = refl
 kind-none (b ∷ w) e = absurd (omega arith)
 
-pub kind-at : (w : List ℕ) (k : ℕ) → (length w ≡ 0 → ⊥) → Only (getD w 0 0) (length w) k → placeOf 0 kinds w ≡ cond (sameBytes (wordOf k) w) k 8
-kind-at [] k h o = absurd (h refl)
-kind-at (b ∷ w) k h o = o .only w refl
+module _ (w : List ℕ) (k : ℕ) (h : length w ≡ 0 → ⊥) {c : ℕ} (s : c ≡ getD w 1 0) (o : Only (getD w 0 0) c (length w) k) where
+  kind-at : placeOf 0 kinds w ≡ cond (sameBytes (wordOf k) w) k 9
+  kind-at = go w h s o
+    where
+      go : (w : List ℕ) → (length w ≡ 0 → ⊥) → c ≡ getD w 1 0 → Only (getD w 0 0) c (length w) k → placeOf 0 kinds w ≡ cond (sameBytes (wordOf k) w) k 9
+      go [] h s o = absurd (h refl)
+      go (b ∷ w) h s o = o .only w refl (sym s)
 
-pub kind-past : (w : List ℕ) (k : ℕ) → (length w ≡ 0 → ⊥) → Only (getD w 0 0) (length w) k → 8 ≤ k → 8 ≡ placeOf 0 kinds w
-kind-past w k h o l =
-    let e : k ≡ 8 = omega (arith, o .most) in
-    sym (kind-at w k h o ∙ ap (λ (n : ℕ). cond (sameBytes (wordOf k) w) n 8) e ∙ either (λ (n : ℕ). n ≡ 8) (sameBytes (wordOf k) w) 8 8 refl refl)
+  pub kind-past : 9 ≤ k → 9 ≡ placeOf 0 kinds w
+  kind-past l =
+      let e : k ≡ 9 = omega (arith, o .most) in
+      sym (kind-at ∙ ap (λ (n : ℕ). cond (sameBytes (wordOf k) w) n 9) e ∙ either (λ (n : ℕ). n ≡ 9) (sameBytes (wordOf k) w) 9 9 refl refl)
 
-pub kind-same : (w : List ℕ) (k : ℕ) (t : Bool) → (length w ≡ 0 → ⊥) → Only (getD w 0 0) (length w) k → t ≡ sameBytes (wordOf k) w → cond t k 8 ≡ placeOf 0 kinds w
-kind-same w k t h o e = rw (kind-at w k h o, e)
+  pub kind-same : (t : Bool) → t ≡ sameBytes (wordOf k) w → cond t k 9 ≡ placeOf 0 kinds w
+  kind-same t e = rw (kind-at, e)

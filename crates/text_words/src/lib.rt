@@ -111,7 +111,7 @@ pub fn read_number(s: &[u8], signed: bool) -> Number
 // ---- words
 
 pub fn length_of(kind: usize) -> usize
-    requires { ⌜ kind < 8 ⌝ }
+    requires { ⌜ kind < 9 ⌝ }
     ensures { λ r. ⌜ r ≡ length (wordOf kind) ⌝ }
 {
     match kind {
@@ -120,12 +120,13 @@ pub fn length_of(kind: usize) -> usize
         5 => 2,
         6 => 2,
         7 => 2,
+        8 => 2,
         _ => 1,
     }
 }
 
 pub fn letters_of(kind: usize) -> [u8; 5]
-    requires { ⌜ kind < 8 ⌝ }
+    requires { ⌜ kind < 9 ⌝ }
     ensures { λ r. ⌜ r ≡ lettersOf kind ⌝ }
 {
     match kind {
@@ -136,12 +137,13 @@ pub fn letters_of(kind: usize) -> [u8; 5]
         4 => [b'L', b'I', b'N', b'E', 0],
         5 => [b'S', b'W', 0, 0, 0],
         6 => [b'V', b'S', 0, 0, 0],
-        _ => [b'I', b'S', 0, 0, 0],
+        7 => [b'I', b'S', 0, 0, 0],
+        _ => [b'V', b'C', 0, 0, 0],
     }
 }
 
 fn is_word(word: &[u8], kind: usize) -> bool
-    requires { ⌜ kind < 8 ⌝ }
+    requires { ⌜ kind < 9 ⌝ }
     ensures { λ r. ⌜ r ≡ sameBytes (wordOf kind) (was word) ⌝ }
 {
     if word.len() != length_of(kind) {
@@ -158,9 +160,19 @@ fn is_word(word: &[u8], kind: usize) -> bool
     true
 }
 
+// A word's second byte, 0 where it has none.
+fn second_of(word: &[u8]) -> u8
+    ensures { λ r. ⌜ r ≡ getD (was word) 1 0 ⌝ }
+{
+    if word.len() < 2 {
+        return 0;
+    }
+    word[1]
+}
+
 // The one kind whose word may begin so, or the number of kinds.
-fn candidate(first: u8, length: usize) -> usize
-    ensures { λ r. ⌜ Only first length r ⌝ }
+fn candidate(first: u8, second: u8, length: usize) -> usize
+    ensures { λ r. ⌜ Only first second length r ⌝ }
 {
     match first {
         b'R' => 1,
@@ -172,7 +184,12 @@ fn candidate(first: u8, length: usize) -> usize
         }
         b'C' => 3,
         b'S' => 5,
-        b'V' => 6,
+        b'V' => {
+            if second == b'C' {
+                return 8;
+            }
+            6
+        }
         b'I' => 7,
         b'a'..=b'z' => 0,
         _ => paper::kinds::COUNT,
@@ -186,7 +203,8 @@ pub fn kind_of(word: &[u8]) -> usize
     if word.len() == 0 {
         return paper::kinds::COUNT;
     }
-    let kind = candidate(word[0], word.len());
+    let second = second_of(word);
+    let kind = candidate(word[0], second, word.len());
     if paper::kinds::COUNT <= kind {
         return paper::kinds::COUNT;
     }

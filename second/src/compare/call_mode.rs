@@ -1,6 +1,7 @@
 //! `compare calls`: the proved library's six calls against ours, every lent word after every call.
 
 use super::arguments::Arguments;
+use super::cosine_slips;
 use super::damage;
 use super::dice::Dice;
 use super::ends_mode;
@@ -18,6 +19,7 @@ use super::tally::{Difference, Tally};
 use super::text_mode;
 use super::travel_slips;
 use super::travels;
+use super::waves;
 use super::widest;
 use super::write_slips;
 use super::writings;
@@ -27,7 +29,7 @@ const SHRINK_TRIES: usize = 3_000;
 /// Every how manyth study has each single word changed; that asks some 20,000 questions.
 const EVERY_WORD_TURN: u64 = 500;
 
-/// So many studies have travel times and odd peaks of every kind.
+/// So many studies have travel times, parts of a turn and odd peaks of every kind.
 const ALL_KINDS: u64 = 1_000;
 
 pub type Question<'a> = &'a dyn Fn(&[u8], &mut Tally) -> Result<(), Difference>;
@@ -46,6 +48,7 @@ pub fn compare_calls(arguments: &Arguments) -> bool {
     let mut tally = compare_all(&calls, &extent, true);
     if extent.studies >= ALL_KINDS {
         travels::miss_nothing(&mut tally);
+        waves::miss_nothing(&mut tally);
     }
     if calls.node.is_some() && extent.studies >= ALL_KINDS {
         nodes::miss_nothing(&mut tally);
@@ -92,6 +95,7 @@ fn compare_all(calls: &Calls, extent: &Extent, aloud: bool) -> Tally {
         let seed = extent.seed.wrapping_mul(0x0100_0000_01b3).wrapping_add(index);
         let text = studies::random_text(&mut Dice::new(seed));
         travels::count_text(&text, &mut tally);
+        waves::count_text(&text, &mut tally);
         let depth = if index % EVERY_WORD_TURN == 0 { Depth::EveryWord } else { Depth::Usual };
         let failed = tally.failed;
         ask(&text, aloud, &mut tally, &|text, tally| {
@@ -130,7 +134,8 @@ fn compare_reading(calls: &Calls, extent: &Extent, aloud: bool, tally: &mut Tall
     }
 }
 
-/// What random studies do not come to: the widest step, the longest text, and a study without areas.
+/// What random studies do not come to: the widest step, the longest text, a study without areas, and each place of a
+/// power-frequency source's turn.
 fn compare_fixed_studies(calls: &Calls, aloud: bool, tally: &mut Tally) {
     ask(&widest::text(), aloud, tally, &|text, tally| listings::ask_widest(calls, text, tally));
     for text in ["study\t1000\t1\t0\n", "study\t1\t1000000\t0\n"] {
@@ -143,6 +148,9 @@ fn compare_fixed_studies(calls: &Calls, aloud: bool, tally: &mut Tally) {
     ask(&writings::longest_text(), aloud, tally, &|text, tally| {
         writings::ask_writings(calls, text, 0, Depth::Usual, tally)
     });
+    for text in waves::every_place() {
+        ask(&text, aloud, tally, &|text, tally| waves::ask_place(calls, text, tally));
+    }
 }
 
 /// A slip is found by its first difference; the proved library gets a handful of reports.
@@ -182,6 +190,7 @@ pub fn compare_self(arguments: &Arguments) -> bool {
         list_slips::planted(),
         write_slips::planted(),
         peak_slips::planted(),
+        cosine_slips::planted(),
     ]
     .concat();
     for (name, calls, in_reader) in planted {

@@ -19,7 +19,7 @@ pub fn damaged(dice: &mut Dice, text: &[u8]) -> Vec<u8> {
             0 | 1 => with_byte_damage(dice, &damaged),
             2..=9 => with_field_damage(dice, &damaged),
             10 => with_line_damage(dice, &damaged),
-            11..=13 => with_second_voltage_source(dice, &damaged),
+            11..=13 => with_second_fixing_source(dice, &damaged),
             14..=16 => overfilled(dice, &damaged),
             17 | 18 => with_some_travel(dice, &damaged),
             _ => with_end_damage(dice, &damaged),
@@ -92,10 +92,11 @@ fn with_line_damage(dice: &mut Dice, text: &[u8]) -> Vec<u8> {
     lines.concat()
 }
 
-fn with_second_voltage_source(dice: &mut Dice, text: &[u8]) -> Vec<u8> {
+fn with_second_fixing_source(dice: &mut Dice, text: &[u8]) -> Vec<u8> {
     let mut lines = lines_of(text);
     let node = dice.between(1, 3);
-    lines.push(format!("VS\t{node}\t5\t1\t0\n").into_bytes());
+    let (word, last) = dice.pick(&[("VS", 0), ("VC", 50_000)]);
+    lines.push(format!("{word}\t{node}\t5\t1\t{last}\n").into_bytes());
     lines.concat()
 }
 
@@ -112,7 +113,8 @@ fn overfilled(dice: &mut Dice, text: &[u8]) -> Vec<u8> {
         return with_line_for_all_slots(dice, text);
     }
     let times = dice.between(most - 8, most + 1).max(1) as usize;
-    [text.to_vec(), line.repeat(times).into_bytes()].concat()
+    let last = dice.pick(&["", "VC\t32\t5\t1\t50000\n"]);
+    [text.to_vec(), line.repeat(times).into_bytes(), last.as_bytes().to_vec()].concat()
 }
 
 /// A further line that takes all slots left, or one more or less.

@@ -1,7 +1,7 @@
 //! Number spellings at and around every limit of the paper, and spellings that are none.
 
 /// Every end of a range in the text, each once; the neighbours of each are tried too.
-const ENDS: [i128; 15] = [
+const ENDS: [i128; 16] = [
     0,
     1,
     16,
@@ -9,6 +9,7 @@ const ENDS: [i128; 15] = [
     64,
     1_000,
     4_096,
+    100_000,
     1_000_000,
     1_000_001,
     20_000_000,

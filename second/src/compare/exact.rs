@@ -12,12 +12,13 @@ pub fn row(kind: Kind, fields: &[Whole]) -> Row {
 pub fn exact_study(dice: &mut Dice) -> Study {
     let mut study = Study { step_length: 1000, steps: 8, limit: HIGHEST_LIMIT, rows: Vec::new() };
     let sign = dice.pick(&[1, -1]);
-    match dice.below(10) {
+    match dice.below(12) {
         0 => voltage_at_its_end(dice, sign, &mut study),
         1 => branch_history_at_its_end(dice, sign, &mut study),
         2 => line_value_at_its_end(dice, sign, &mut study),
         3 | 4 => half_voltages(dice, sign, &mut study),
         5 | 6 => refusals_at_one_step(dice, sign, &mut study),
+        7 | 8 => cosine_at_its_quarters(dice, sign, &mut study),
         _ => half_voltages_in_a_mesh(dice, sign, &mut study),
     }
     study
@@ -126,6 +127,29 @@ fn half_voltages_in_a_mesh(dice: &mut Dice, sign: Whole, study: &mut Study) {
             }
         }
     }
+}
+
+/// With 1 ms at 62.5 Hz sixteen steps are a turn, so that steps fall on the ends of its quarters; with a bit less or
+/// more they come just before or just behind. A small peak is rounded to few values, all of them toward zero.
+fn cosine_at_its_quarters(dice: &mut Dice, sign: Whole, study: &mut Study) {
+    let (step_length, frequency) = dice.pick(&[
+        (1_000_000, 62_500),
+        (500_000, 62_500),
+        (1_000_000, 31_250),
+        (999_999, 62_500),
+        (1_000_000, 62_499),
+        (1_000_000, 62_501),
+        (1_000_000, 50_000),
+        (1_000_000, 100_000),
+    ]);
+    let (small, any) = (dice.between(1, 99), dice.spread(1, 20_000_000));
+    let peak = sign * Whole::from(dice.pick(&[small, any, 20_000_000, 19_999_999]));
+    let start = Whole::from(dice.between(1, 4));
+    study.step_length = step_length;
+    study.steps = Whole::from(dice.between(10, 40));
+    study.rows.push(row(Kind::Resistor, &[1, 2, 1_000_000]));
+    study.rows.push(row(Kind::CosineSource, &[1, peak, start, frequency]));
+    study.rows.push(row(Kind::Resistor, &[2, 0, 1_000_000]));
 }
 
 /// A value whose unrounded conductance ends in a half (for a C only at some step lengths).

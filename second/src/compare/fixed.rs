@@ -5,7 +5,7 @@ use super::edges;
 const STUDY: &str = "study\t1000\t3\t1000000000000000\n";
 
 /// A good line of each kind, with its fields apart.
-const GOOD_LINES: [&[&str]; 8] = [
+const GOOD_LINES: [&[&str]; 9] = [
     &["study", "1000", "3", "1000000000000000"],
     &["R", "1", "2", "1000000"],
     &["L", "1", "2", "1000000"],
@@ -14,6 +14,7 @@ const GOOD_LINES: [&[&str]; 8] = [
     &["SW", "1", "2", "1000000", "1", "3"],
     &["VS", "1", "1000", "1", "0"],
     &["IS", "1", "1000", "1", "0"],
+    &["VC", "1", "1000", "1", "50000"],
 ];
 
 /// A line for each number 1 to 6 that is at fault by that number and no lower one, after `full_table`.
@@ -26,7 +27,7 @@ const FAULTS: [&str; 6] = [
     "R\t1\t0\t1000\n",
 ];
 
-/// The tables of E1 to E10, each with its study line.
+/// The tables of E1 to E10, each with its study line, and a power-frequency source's.
 pub fn examples() -> Vec<String> {
     let source = "VS\t1\t1000\t1\t0\n";
     let mut all = vec![
@@ -41,6 +42,7 @@ pub fn examples() -> Vec<String> {
         format!("study\t1000\t8\t0\n{source}LINE\t1\t2\t400000\t2500\n"),
     ];
     all.push("study\t1000\t3\t0\nVS\t1\t20000000\t1\t0\nL\t1\t0\t500\n".to_string());
+    all.push("study\t1000000\t7\t0\nVC\t1\t1000\t2\t50000\nR\t1\t0\t1000000\n".to_string());
     all
 }
 
@@ -191,7 +193,10 @@ fn field_counts() -> Vec<Vec<u8>> {
                 texts.push(text_with(STUDY, &bare));
             }
         }
-        for word in ["r", "RR", "VSS", "LINES", "LIN", "S", "I", "Study", "studyy", "1", "-", " R", "R "] {
+        for word in [
+            "r", "RR", "VSS", "V", "VCC", "VR", "vc", "CV", "LINES", "LIN", "S", "I", "Study", "studyy", "1",
+            "-", " R", "R ",
+        ] {
             let mut fields = owned(good);
             fields[0] = word.to_string();
             texts.push(text_with(STUDY, &fields));
@@ -218,12 +223,12 @@ fn long_numbers() -> Vec<Vec<u8>> {
     texts
 }
 
-/// 64 branches that take all 4,096 slots, and 16 sources, one of them a VS on node 1.
+/// 64 branches that take all 4,096 slots, and 16 sources, one of them a VC on node 1.
 fn full_table() -> String {
     let lines = "LINE\t1\t2\t400000\t1024000\n".repeat(2);
     let resistors = "R\t1\t0\t1000000\n".repeat(62);
     let sources = "IS\t2\t1\t1\t0\n".repeat(15);
-    format!("study\t1000\t3\t1000000000000000\n{lines}{resistors}VS\t1\t5\t1\t0\n{sources}")
+    format!("study\t1000\t3\t1000000000000000\n{lines}{resistors}VC\t1\t5\t1\t50000\n{sources}")
 }
 
 /// The same fault on two lines, and every other pair of faults on two lines in either order.
@@ -260,8 +265,15 @@ fn full_tables() -> Vec<Vec<u8>> {
         }
     }
     for sources in [15, 16, 17] {
-        let lines: String = (1..=sources).map(|node| format!("VS\t{node}\t5\t1\t0\n")).collect();
-        texts.push(format!("{STUDY}{lines}").into_bytes());
+        for words in [["VS", "VS"], ["VC", "VC"], ["VS", "VC"], ["IS", "VC"]] {
+            let line = |node: usize| format!("{}\t{node}\t5\t1\t1\n", words[node % 2]);
+            let lines: String = (1..=sources).map(line).collect();
+            texts.push(format!("{STUDY}{lines}").into_bytes());
+        }
+    }
+    for (first, second) in [("VS", "VC"), ("VC", "VS"), ("VC", "VC"), ("IS", "VC"), ("VC", "IS")] {
+        texts.push(format!("{STUDY}{first}\t1\t5\t1\t1\n{second}\t1\t5\t1\t1\n").into_bytes());
+        texts.push(format!("{STUDY}{first}\t1\t5\t1\t1\n{second}\t2\t5\t1\t1\n").into_bytes());
     }
     for whole in [0, 1, 2046, 2047, 2048, 2049, 1_000_000] {
         for rest in [0, 1, 500, 999] {

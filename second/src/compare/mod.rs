@@ -4,6 +4,7 @@
 pub mod arguments;
 pub mod bridged;
 pub mod call_mode;
+pub mod cosine_slips;
 pub mod damage;
 pub mod dice;
 pub mod edges;
@@ -27,6 +28,7 @@ pub mod tally;
 pub mod text_mode;
 pub mod travel_slips;
 pub mod travels;
+pub mod waves;
 pub mod widest;
 pub mod write_slips;
 pub mod writings;

@@ -5,9 +5,10 @@ use super::dice::Dice;
 use super::foreign::{AdvanceCall, Calls, ResetCall};
 use super::lent::{self, same_advance, same_reset, Lent};
 use super::tally::{Difference, Tally};
+use super::waves;
 use super::writings;
 use crate::limits::{self, Whole};
-use crate::network::{Network, Study};
+use crate::network::{Branch, Network, Study};
 use crate::reader;
 use crate::record;
 use crate::state;
@@ -52,6 +53,7 @@ pub fn ask_moves(
     }
     asker.lent.network = words;
     asker.start_again()?;
+    asker.move_a_source(&study)?;
     if depth == Depth::EveryWord {
         asker.change_every_word()?;
     }
@@ -172,11 +174,17 @@ impl Asker<'_> {
             // One count may be one too far from another's.
             let area = 1 + self.dice.below(network.area_count);
             self.lent.records[state::count_place(area)] += self.dice.pick(&[-1, 1]);
+            if self.dice.one_in(2) {
+                part_too_far(&mut self.dice, &network, &mut self.lent.records);
+            }
             set_peaks(&mut self.dice, &network, &mut self.lent.records);
         }
         for _ in 0..6 {
-            let area = 1 + self.dice.below(network.area_count.max(1)) as u64;
-            self.ask_advance(area)?;
+            let area = 1 + self.dice.below(network.area_count.max(1));
+            if self.ask_advance(area as u64)? {
+                let step = self.lent.records[state::count_place(area)].into();
+                waves::count_step(&network, area, step, self.tally);
+            }
         }
         Ok(())
     }
@@ -221,6 +229,23 @@ impl Asker<'_> {
                 words(&mut self.lent, Some(old));
             }
         }
+        Ok(())
+    }
+
+    /// A source moved to another's node, where there are two.
+    fn move_a_source(&mut self, study: &Study) -> Result<(), Difference> {
+        let is_source = |row: &usize| study.rows[*row].kind.is_source();
+        let sources: Vec<usize> = (0..study.rows.len()).filter(is_source).collect();
+        if sources.len() < 2 {
+            return Ok(());
+        }
+        let kept = self.lent.clone();
+        let node_place = |row: usize| 8 + 8 * row + 1;
+        let (one, other) = (self.dice.pick(&sources), self.dice.pick(&sources));
+        self.lent.network[node_place(one)] = kept.network[node_place(other)];
+        let area = self.some_area();
+        self.ask_advance(area)?;
+        self.lent = kept;
         Ok(())
     }
 
@@ -338,6 +363,28 @@ fn set_counts(dice: &mut Dice, network: &Network, records: &mut [i64]) {
         let inside = dice.between(low, high);
         records[state::count_place(area)] = dice.pick(&[low, high, inside]);
     }
+}
+
+/// All areas at one count but for one, a step farther from the others than one of its lines allows.
+fn part_too_far(dice: &mut Dice, network: &Network, records: &mut [i64]) {
+    let areas = |line: &Branch| (network.area_of[line.from], network.area_of[line.to]);
+    let parts = |line: &&Branch| line.is_line() && areas(line).0 != areas(line).1;
+    let lines: Vec<&Branch> = network.branches.iter().filter(parts).collect();
+    if lines.is_empty() {
+        return;
+    }
+    let line = dice.pick(&lines);
+    let apart = line.travel().map_or(0, |travel| travel.whole_steps as i64) + 1;
+    let highest = network.steps as i64 - apart;
+    if highest < 0 {
+        return;
+    }
+    let level = dice.between(0, highest);
+    for area in 1..=network.area_count {
+        records[state::count_place(area)] = level;
+    }
+    let leading = dice.pick(&[areas(line).0, areas(line).1]);
+    records[state::count_place(leading)] = level + apart;
 }
 
 /// The reader asked with a network of the right length and with wrong ones. What it reads is written out again.

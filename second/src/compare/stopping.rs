@@ -82,7 +82,11 @@ impl Maker<'_> {
         let peak = self.dice.between(-1_000_000, 1_000_000).into();
         let start = self.dice.between(1, 3).into();
         let rise = self.dice.pick(&[0, 0, 1, 7]);
-        self.add(Kind::VoltageSource, &[node, peak, start, rise]);
+        if self.dice.one_in(4) {
+            self.add(Kind::CosineSource, &[node, peak, start, 100_000]);
+        } else {
+            self.add(Kind::VoltageSource, &[node, peak, start, rise]);
+        }
     }
 
     /// An area that one of 14 to 17 stops before a step chosen at random; one past the last never comes.

@@ -103,7 +103,9 @@ struct Maker<'a> {
 impl Maker<'_> {
     fn new(dice: &mut Dice, temper: Temper) -> Maker<'_> {
         let random_length = dice.spread(1, 1_000_000);
-        let step_length = dice.pick(&[1, 2, 50, 256, 999, 1000, 1000, 1000, 1_000_000, random_length]);
+        // The longest are those in which a power-frequency source gets around.
+        let step_length =
+            dice.pick(&[1, 2, 50, 256, 999, 1000, 1000, 1000, 15_625, 1_000_000, 1_000_000, random_length]);
         let steps = match dice.below(12) {
             0 => 1,
             1 => dice.between(13, 40),
@@ -270,7 +272,8 @@ impl Maker<'_> {
             let wanted = node == 1 || self.dice.one_in(4);
             if wanted && self.temper != Temper::Stiff {
                 let peak = self.voltage_peak();
-                self.add_source(Kind::VoltageSource, node, peak);
+                let kind = if self.dice.one_in(3) { Kind::CosineSource } else { Kind::VoltageSource };
+                self.add_source(kind, node, peak);
             }
         }
         let injections =
@@ -301,12 +304,23 @@ impl Maker<'_> {
 
     fn add_source(&mut self, kind: Kind, node: usize, peak: i64) {
         let start = if self.dice.one_in(2) { 1 } else { self.dice.between(1, self.study.steps as i64 + 1) };
-        let rise = match self.dice.below(5) {
+        let last = if kind == Kind::CosineSource { self.frequency() } else { self.rise() };
+        self.study.rows.push(row(kind, &[node as Whole, peak.into(), start.into(), last.into()]));
+    }
+
+    fn rise(&mut self) -> i64 {
+        match self.dice.below(5) {
             0 => self.dice.between(1, 8),
             1 => self.dice.between(1, 1000),
             _ => 0,
-        };
-        self.study.rows.push(row(kind, &[node as Whole, peak.into(), start.into(), rise.into()]));
+        }
+    }
+
+    /// Mostly one that gets around in a few steps, as far as their length allows; else one of those in use, or any.
+    fn frequency(&mut self) -> i64 {
+        let (steps, anything) = (self.dice.between(2, 48), self.dice.spread(1, 100_000));
+        let around = (1_000_000_000_000 / self.study.step_length as i64 / steps).clamp(1, 100_000);
+        self.dice.pick(&[around, around, around, 50_000, 60_000, 16_667, 62_500, anything])
     }
 
     fn row_count(&self, sources: bool) -> usize {

@@ -33,7 +33,7 @@ pub fn planted() -> Vec<(&'static str, Calls, bool)> {
 type Words<'a> = &'a mut [i64];
 
 /// Reads, but refuses by this number the first line that `refused` finds among the rows so far.
-fn read_refusing(
+pub fn read_refusing(
     text: &[u8],
     network: &mut [i64],
     number: Refusal,
@@ -72,21 +72,37 @@ fn read_odd_slots(text: &[u8], network: &mut [i64]) -> (u64, u64) {
     read_refusing(text, network, Refusal::Full, full)
 }
 
-/// Reads a text that is FULL without the rests of its travel times; where that is accepted, they are put back.
 fn read_even_slots(text: &[u8], network: &mut [i64]) -> (u64, u64) {
+    let without_rests = |study: &mut Study| {
+        let step_length = study.step_length;
+        for row in study.rows.iter_mut().filter(|row| row.kind == Kind::Line) {
+            row.fields[3] -= row.fields[3] % step_length;
+        }
+    };
+    read_taking(text, network, Refusal::Full, &[&without_rests])
+}
+
+/// Reads, but takes a text that is refused by this number where it passes with each of these changes.
+pub fn read_taking(
+    text: &[u8],
+    network: &mut [i64],
+    number: Refusal,
+    changes: &[&dyn Fn(&mut Study)],
+) -> (u64, u64) {
     let answer = calls::read(text, network);
-    if answer.0 != Refusal::Full.number() {
+    if answer.0 != number.number() {
         return answer;
     }
-    let Some(mut study) = unjudged_study(text) else { return answer };
-    let whole = study.clone();
-    for row in study.rows.iter_mut().filter(|row| row.kind == Kind::Line) {
-        row.fields[3] -= row.fields[3] % whole.step_length;
-    }
-    if reader::read_study(record::text_of(&study).as_bytes()).is_err() {
+    let Some(study) = unjudged_study(text) else { return answer };
+    let passes = |change: &&dyn Fn(&mut Study)| {
+        let mut changed = study.clone();
+        change(&mut changed);
+        reader::read_study(record::text_of(&changed).as_bytes()).is_ok()
+    };
+    if !changes.iter().all(passes) {
         return answer;
     }
-    network.copy_from_slice(&record::record_of(&whole));
+    network.copy_from_slice(&record::record_of(&study));
     (0, 0)
 }
 

@@ -26,7 +26,7 @@ pub fn planted() -> Vec<(&'static str, Calls, bool)> {
 }
 
 /// Right but for the text of an accepted network.
-fn write_as(network: &[i64], out: &mut [u8], text_of: impl Fn(Study) -> String) -> (u64, u64) {
+pub fn write_as(network: &[i64], out: &mut [u8], text_of: impl Fn(Study) -> String) -> (u64, u64) {
     let answer = write::write(network, &mut out.to_vec());
     if answer.0 != 0 {
         return answer;

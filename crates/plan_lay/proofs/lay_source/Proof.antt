@@ -54,6 +54,11 @@ own c = rw (source (c .before .before .before), eq-eqb _ _ (sym (area (c .before
 room : (c : tie.Else2) → let s = c .before .before .before .before .before .before in s .args .m < length (s .args .sources .now)
 room c = c .before .before .before .before .before .before .pre .1 .1 (own c)
 
+pace-requires : tie.Need-pace-requires
+pace-requires c κs =
+    let e = c .before .before .before .before in
+    (e .before .before .before .before .before .before .pre .0, source (e .before .before .before))
+
 returns : tie.Need-returns-3
 returns c =
     let v4 = c .before in
@@ -62,13 +67,13 @@ returns c =
     let v1 = v2 .before in
     let e = v1 .before in
     let s = e .before .before .before .before .before .before in
-    let line = source-line (row s) (net-sound (s .args .net .now) (s .pre .0 .0) .row (s .args .i) (s .pre .0 .1)) (source (e .before .before .before)) in
-    rw (read64 _ (v1 .value .ok) ∙ v1 .value .ensures, read64 _ (v2 .value2 .ok) ∙ v2 .value2 .ensures, read64 _ (v3 .value3 .ok) ∙ v3 .value3 .ensures, read64 _ (v4 .value4 .ok) ∙ v4 .value4 .ensures, read64 _ (c .value5 .ok) ∙ c .value5 .ensures, line)
+    let line = source-line (netIn (s .args .net .now)) (row s) (net-sound (s .args .net .now) (s .pre .0 .0) .row (s .args .i) (s .pre .0 .1)) (source (e .before .before .before)) in
+    rw (read64 _ (v1 .value .ok) ∙ v1 .value .ensures, read64 _ (v2 .value2 .ok) ∙ v2 .value2 .ensures, read64 _ (v3 .value3 .ok) ∙ v3 .value3 .ensures, read64 _ (v4 .value4 .ok) ∙ v4 .value4 .ensures, read64 _ (c .pace .ok) ∙ c .pace .ensures, line)
     (put-yes (own e))
 
 pub lay-source-spec : {M : Type 1} → statement M
 lay-source-spec =
     tie.close
     (tie.spec (λ c κs. search needs) (λ c κs. search needs) (λ c. put-no (none c)) number-requires (λ c. omega (arith, node c)) (λ c. omega (arith, node c)) (λ c. put-no (away c))
-    (λ c κs. search needs) (λ c κs. search needs) (λ c κs. search needs) (λ c κs. search needs) (λ c κs. search needs)
+    (λ c κs. search needs) (λ c κs. search needs) (λ c κs. search needs) (λ c κs. search needs) pace-requires
     (λ c. omega (arith, room (c .before .before .before .before .before))) (λ c. room (c .before .before .before .before .before)) (λ c. omega (arith, room (c .before .before .before .before .before))) (λ c. search needs) returns)

@@ -1,22 +1,16 @@
--- `step_sources::source_at` meets its contract: all words but the peak are numbers. Assumes nothing.
+-- `step_sources::source_at` meets its contract: the kind and the node are numbers. Assumes nothing.
 use borrow.Author.Needs.{needs}
 use Rattle.whole.specs.Index.{index}
 use Rattle.step_sources.proofs.source_at.Statement.{statement}
 use Rattle.step_sources.proofs.source_at.Tie as tie
 
 kind : tie.Need-cast-t4
-kind c = let s = c .before .before in index _ _ (c .t9 .given) (s .pre .0 .kindIs (s .args .j) (s .pre .1))
+kind c = let s = c .before .before in index _ _ (c .t9 .given) (s .pre .0 .sound (s .args .j) (s .pre .1) .kindIs)
 
 node : tie.Need-cast-t13
 node c = let s = c .before .before .before in index _ _ (c .t12 .given) (s .pre .0 .sound (s .args .j) (s .pre .1) .atIn .isNat)
 
-start : tie.Need-cast-t20
-start c = let s = c .before .before .before .before .before in index _ _ (c .t19 .given) (s .pre .0 .sound (s .args .j) (s .pre .1) .startIn .isNat)
-
-rise : tie.Need-cast-t24
-rise c = let s = c .before .before .before .before .before .before in index _ _ (c .t23 .given) (s .pre .0 .sound (s .args .j) (s .pre .1) .riseIn .isNat)
-
 pub source-at-spec : {M : Type 1} → statement M
 source-at-spec =
     tie.close
-    (tie.spec (λ c. search needs) (λ c. search needs) (λ c. search needs) kind (λ c. search needs) node (λ c. search needs) (λ c. search needs) start (λ c. search needs) rise (λ c. search needs))
+    (tie.spec (λ c. search needs) (λ c. search needs) (λ c. search needs) kind (λ c. search needs) node (λ c. search needs) (λ c. search needs) (λ c. search needs) (λ c. search needs))

@@ -38,7 +38,7 @@ abbrev heard : tie.After-drive → tie.After-hear
 heard d = d .before .before .before .before
 
 drive-requires : tie.Need-drive-requires
-drive-requires c κs = let s = start (c .before .before .before) in (drives (s .pre .0 .trying), (s .pre .1, refl))
+drive-requires c κs = let s = start (c .before .before .before) in let t = s .pre .0 .trying in ((drives t, t .few), (s .pre .1, refl))
 
 -- ---- the voltages
 abbrev driven : tie.After-solve → tie.After-drive

@@ -19,11 +19,15 @@ returns-3 c = let e : c .before .args .kind ≡ 7 = c .match .keys3 in rw e
 
 returns-4 : tie.Need-returns-4
 unfolding namesOf count fieldsOf kinds bytes
-returns-4 c =
+returns-4 c = let e : c .before .args .kind ≡ 8 = c .match .keys4 in rw e
+
+returns-5 : tie.Need-returns-5
+unfolding namesOf count fieldsOf kinds bytes
+returns-5 c =
     let r = c .match .rest in
-    each (λ (k : ℕ). (k ≡ 0 → ⊥) → (k ≡ 6 → ⊥) → (k ≡ 7 → ⊥) → _≡_ {A = ℕ} 2 (namesOf k))
-    (λ a b c. absurd (a refl)) (λ a b c. refl) (λ a b c. refl) (λ a b c. refl) (λ a b c. refl) (λ a b c. refl) (λ a b c. absurd (b refl)) (λ a b c. absurd (c refl))
-    (c .before .args .kind) (c .before .pre) (r .0 .0 .1) (r .0 .1) (r .1)
+    each (λ (k : ℕ). (k ≡ 0 → ⊥) → (k ≡ 6 → ⊥) → (k ≡ 7 → ⊥) → (k ≡ 8 → ⊥) → _≡_ {A = ℕ} 2 (namesOf k))
+    (λ a b c d. absurd (a refl)) (λ a b c d. refl) (λ a b c d. refl) (λ a b c d. refl) (λ a b c d. refl) (λ a b c d. refl) (λ a b c d. absurd (b refl)) (λ a b c d. absurd (c refl)) (λ a b c d. absurd (d refl))
+    (c .before .args .kind) (c .before .pre) (r .0 .0 .0 .1) (r .0 .0 .1) (r .0 .1) (r .1)
 
 pub names-spec : {M : Type 1} → statement M
-names-spec = tie.close (tie.spec returns returns-2 returns-3 returns-4)
+names-spec = tie.close (tie.spec returns returns-2 returns-3 returns-4 returns-5)
