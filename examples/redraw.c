@@ -13,12 +13,10 @@ static uint8_t text[EMT_TEXT_BYTES + 1]; // a byte more, so that a text that is 
 static int64_t network[EMT_NETWORK_WORDS];
 
 // The row of the record with the branch of this number; NULL where there is none.
-static int64_t *branch_row(int64_t branch) {
-    for (int64_t r = 0; r < network[EMT_NETWORK_ROWS]; r++) {
-        int64_t *row = network + EMT_NETWORK_ROW(r);
-        if (!EMT_IS_SOURCE(row[0]) && --branch == 0) return row;
-    }
-    return NULL;
+static int64_t *branch_row(uint64_t branch) {
+    uint64_t place;
+    if (emt_row(network, EMT_NETWORK_WORDS, branch, &place) != EMT_ACCEPTED) return NULL;
+    return network + EMT_NETWORK_ROW(place - 1);
 }
 
 int main(int words, char **word) {
@@ -32,7 +30,7 @@ int main(int words, char **word) {
     uint64_t answer = emt_read(text, bytes, network, EMT_NETWORK_WORDS, &line);
     if (answer != EMT_ACCEPTED) return fprintf(stderr, "line %" PRIu64 " is refused by %" PRIu64 "\n", line, answer), 1;
 
-    int64_t *row = branch_row(atoll(word[1]));
+    int64_t *row = branch_row(strtoull(word[1], NULL, 10));
     if (!row || row[0] != EMT_R) return fprintf(stderr, "branch %s is no resistor\n", word[1]), 1;
     row[3] = atoll(word[2]); // kind, from, to, mΩ
 

@@ -1,11 +1,27 @@
-/* Zanguremi: the calls of the proved library (rt staticlib emt -> target/staticlib/libemt.a).
+/* Zanguremi: the calls of the proved library (rt staticlib emt -> target/staticlib/libemt.a; installed: cc .. $(pkg-config --cflags --libs emt)).
  *
  * The caller lends all memory; the library allocates nothing and keeps nothing between calls. Lent pieces must not overlap.
  * Every call settles its answer and every lent word on all inputs: a wrong length, a damaged record or a damaged text is refused by a
  * number, and a refused call leaves all lent memory as it was. One lent thing is left open, the room of emt_advance_in. What is answered beside
- * the number (*line, *place, *voltage, *peak, *step, *written, *area, *number) is always written.
+ * the number (*line, *place, *voltage, *peak, *step, *count, *written, *area, *number) is always written.
  *
- * Units: voltage 0.1 V, current 0.1 nA, conductance nS, time ns. */
+ * Units: voltage 0.1 V, current 0.1 nA, conductance nS, time ns.
+ *
+ * What a call takes for granted, since it cannot see it:
+ * - Lengths count words of 8 bytes: EMT_NETWORK_WORDS, and not sizeof network, which is EMT_STORE. Three count bytes: text_len, out_len and
+ *   room_bytes.
+ * - Pointers: none may be null, whatever its length, and each leads to as much memory as its length says (one word for what is answered).
+ *   Words stand at multiples of 8 bytes, as arrays of int64_t do.
+ * - Threads: the library has no memory of its own, so calls that are lent separate memory may run at once. A network, which no call but emt_read
+ *   writes, may be lent to many at a time. Records, line stores, room, buffer and what is answered are one call's alone until it returns:
+ *   two calls on one state go one after the other (examples/scheduler.c).
+ * - Stack: emt_advance touches some 34 KB, emt_advance_in under 8 KB; docs/BENCHMARK.md has every call's bytes. They are measured, not proved.
+ * - Doubles: the floating-point mode is the one that a C program starts with: rounding to nearest, subnormal numbers kept, exceptions
+ *   masked. In another mode results may differ, or the call dies of SIGFPE. A call never sets the mode; it raises flags.
+ * - Processor: x86-64 with its C calling convention of Linux.
+ *
+ * A second call: a refusal changes nothing, so the same call on the same memory is refused by the same number again, as often as it is made.
+ * An area that one of 14 to 17 has stopped stays stopped, whatever the others do; emt_reset starts the study again. After EMT_STOPPED see emt_list. */
 #ifndef EMT_H
 #define EMT_H
 
@@ -15,6 +31,14 @@
 #ifdef __cplusplus
 extern "C" {
 #endif
+
+/* ---- Version. A program may be linked to a library of another version if the first two numbers are those of the header it was compiled with. The
+ * first is 0 while lent words may still move; the second goes up where a length, a word's place, a call or an answer changes, the third for all else.
+ * (A length that has changed is refused by EMT_STORE.) */
+#define EMT_VERSION_MAJOR 0
+#define EMT_VERSION_MINOR 5
+#define EMT_VERSION_PATCH 0
+#define EMT_VERSION "0.5.0"
 
 /* ---- Lengths of lent memory; another length is refused by EMT_STORE */
 #define EMT_NETWORK_WORDS 1024 /* a network, as emt_read writes it */
@@ -65,11 +89,11 @@ enum { EMT_R = 1, EMT_L = 2, EMT_C = 3, EMT_LINE = 4, EMT_SW = 5, EMT_VS = 6, EM
 #define EMT_PEAK_STEP(node) (336 + (node) - 1) /* the first step where it came; 0 before any step */
 
 /* ---- Answers. Reading: 9, 7, then 1 to 6; resetting: 9, 8; advancing: 9, 8, then 10 to 17; listing: 9, 8, 10; writing: 9, 8; asking
- * for a node: 9, 8, 10, 2. */
+ * for a node: 9, 8, 10, 2; asking how a network is laid out: 9, 8, 2. */
 enum {
     EMT_ACCEPTED = 0,
     EMT_FORM = 1,        /* a line's word, fields or spelling */
-    EMT_NODE = 2,        /* node over 32, both ends equal, source or line end on ground; asking: no such node */
+    EMT_NODE = 2,        /* node over 32, both ends equal, source or line end on ground; asking: no such node or branch */
     EMT_VALUE = 3,       /* a field, or the conductance it gives, out of range */
     EMT_TRAVEL = 4,      /* travel time shorter than the step */
     EMT_DOUBLE = 5,      /* a second VS or VC on a node */
@@ -129,7 +153,8 @@ uint64_t emt_node(const int64_t *network, size_t network_len, const int64_t *rec
                   int64_t *voltage, uint64_t *peak, uint64_t *step);
 
 /* How a network is laid out. Each answers 0, or 9, 8, or 2 for no such node or branch; what is told is 0 then. *count areas, numbered from 1; the
- * area of a node; the row of a branch (both from 1) in the network, which EMT_NETWORK_ROW(*place - 1) begins; line *place + 1 of the text gave it. */
+ * area of a node; the row of a branch (both from 1) in the network, which EMT_NETWORK_ROW(*place - 1) begins and whose current is
+ * EMT_CURRENT(*place - 1); line *place + 1 of the text gave it. */
 uint64_t emt_areas(const int64_t *network, size_t network_len, uint64_t *count);
 uint64_t emt_area(const int64_t *network, size_t network_len, uint64_t node, uint64_t *number);
 uint64_t emt_row(const int64_t *network, size_t network_len, uint64_t branch, uint64_t *place);

@@ -1,6 +1,6 @@
 #!/usr/bin/env bash
-# The library as its customers link it: the three callers of examples/, E1 to E10 through the compiled calls, a listing that stops, a study that is changed and written out again, and tables
-# of peaks.
+# The library as its customers link it: the three callers of examples/, E1 to E10 through the compiled calls, a listing that stops, what include/emt.h says that a call takes for granted,
+# how networks are laid out, a study that is changed and written out again, and tables of peaks.
 # LIBEMT=PATH takes this archive and makes none.
 # Closing line: N passed, M failed.
 set -u
@@ -16,7 +16,7 @@ stop() {
     exit 1
 }
 
-for tool in rt $compiler rustc; do
+for tool in rt $compiler $disassembler rustc; do
     command -v $tool >/dev/null 2>&1 || stop "tests/callers.sh needs '$tool'"
 done
 archive=target/staticlib/libemt.a
@@ -27,18 +27,26 @@ else
     tools/libemt >"$work/rt" 2>&1 || { tail -n 5 "$work/rt"; stop "libemt.a is not made"; }
 fi
 
-flags=(-std=c11 -Wall -Wextra -Werror)
+flags=(-pthread -std=c11 -Wall -Wextra -Werror)
 passed=0
 failed=0
-for program in examples stopped; do
-    compile "$work/$program" tests/callers/$program.c "$archive" || stop "tests/callers/$program.c does not compile"
-    run "$work/$program" >"$work/told"
+for program in examples stopped stated layout; do
+    compile "$work/$program" tests/callers/$program.c "$archive" -lm || stop "tests/callers/$program.c does not compile"
+    run "$work/$program" studies/areas.txt >"$work/told"
     grep -v ' passed, ' "$work/told"
     line=$(grep -E '^[0-9]+ passed, [0-9]+ failed$' "$work/told") || stop "tests/callers/$program.c does not end"
     passed=$((passed + ${line%% *}))
     line=${line#*, }
     failed=$((failed + ${line%% *}))
 done
+
+# no memory of its own: nothing in the archive stands where a program may write
+if "$disassembler" -t "$archive" | grep -E '\*COM\*|[[:space:]]\.(data|bss|tdata|tbss)($|[[:space:]]|\.[^r])'; then
+    echo "the archive has memory of its own"
+    failed=$((failed + 1))
+else
+    passed=$((passed + 1))
+fi
 
 compile "$work/in_c" examples/caller.c "$archive" || stop "examples/caller.c does not compile"
 compile "$work/in_room" examples/little_stack.c "$archive" || stop "examples/little_stack.c does not compile"

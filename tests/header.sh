@@ -1,6 +1,6 @@
 #!/usr/bin/env bash
 # Every number of include/emt.h is the definitions' own: limits and lengths (crates/paper/specs/Limits), where the records have their words (Where), the
-# numbers of the answers (Answers, Looking, Pieces), the size of the lent room (crates/emt/specs/Numbered). Closing line: N passed, M failed.
+# numbers of the answers (Answers, Looking, Pieces), the size of the lent room (crates/emt/specs/Numbered). The version has one spelling. Closing line: N passed, M failed.
 set -u
 cd "$(dirname "$0")/.." || exit 1
 
@@ -63,9 +63,17 @@ while read -r name number; do
     expect "EMT_${name^^}" "$number"
 done < <(sed -nE 's/^(reading|resetting|advance|looking|listing|writing)Number \(?([A-Z]\.)?([A-Za-z]+)(( [a-z])+\))? = ([1-9][0-9]*)$/\3 \6/p' $specs/Answers.antt $specs/Looking.antt $specs/Pieces.antt | sort -u)
 
+expect 'version_agrees()' 1
+
 {
     echo '#include <emt.h>'
     echo '#include <stdio.h>'
+    echo '#include <string.h>'
+    echo 'static int version_agrees(void) {'
+    echo '    char version[32];'
+    echo '    snprintf(version, sizeof version, "%d.%d.%d", EMT_VERSION_MAJOR, EMT_VERSION_MINOR, EMT_VERSION_PATCH);'
+    echo '    return strcmp(version, EMT_VERSION) == 0;'
+    echo '}'
     echo 'int main(void) {'
     while IFS=$'\t' read -r name number; do
         echo "    if ((long long)($name) == ${number}LL) puts(\"ok\"); else printf(\"%s is %lld, not $number\\n\", \"$name\", (long long)($name));"

@@ -1,6 +1,7 @@
 #!/usr/bin/env bash
 # The worked studies: each listing ends as studies/NAME.end says (its last step and the closing line), by the second program and by
-# emtrun, and the two listings are the same bytes throughout. The repair that studies/floating.md tells is tried too.
+# emtrun, and the two listings are the same bytes throughout. Where studies/NAME.py has the closed form, emtrun's listing is as close to it as the page says, and one that is off by a
+# thousandth is told. The repair that studies/floating.md tells is tried too.
 # EMTRUN=PATH runs this program as emtrun and makes none. Closing line: N passed, M failed.
 set -u
 cd "$(dirname "$0")/.." || exit 1
@@ -20,6 +21,12 @@ check() { # what it is, and the status of the comparison before
     fi
 }
 
+export PYTHONDONTWRITEBYTECODE=1
+if ! command -v python3 >/dev/null 2>&1; then
+    echo "tests/studies.sh needs 'python3' for the closed forms"
+    echo "0 passed, 1 failed"
+    exit 1
+fi
 second=second/target/release/second
 if ! cargo build -j1 --release --offline --manifest-path second/Cargo.toml >"$work/cargo" 2>&1; then
     tail -n 1 "$work/cargo"
@@ -45,6 +52,21 @@ for program in second emtrun; do
     [ "$last" = "$(printf 'done\t200')" ]
     check "$program: studies/floating.txt with the stray capacitance ends in '$last'" $?
 done
+
+checks=0
+for script in studies/*.py; do
+    [ -x "$script" ] || continue
+    name=$(basename "$script" .py)
+    checks=$((checks + 1))
+    "$script" <"$work/$name.emtrun" >"$work/told" 2>&1
+    check "$script: $(tail -n 1 "$work/told")" $?
+    awk 'BEGIN { FS = OFS = "\t" } /^[vi]/ { $4 = sprintf("%.0f", $4 * 1.001) } { print }' "$work/$name.emtrun" >"$work/off"
+    "$script" <"$work/off" >"$work/told" 2>&1
+    [ $? -eq 1 ] && grep -q '^largest difference: 0\.' "$work/told"
+    check "$script takes a listing that is off by 0.1 %: $(tail -n 1 "$work/told")" $?
+done
+[ $checks -ge 5 ]
+check "only $checks closed forms" $?
 
 echo "$passed passed, $failed failed"
 [ "$failed" -eq 0 ]

@@ -1,5 +1,5 @@
 //! The paper's three calls over lent memory (the listing by pieces is in list.rs, the writer in write.rs, the
-//! question for a node in node.rs): each answers its number and what the number carries, and every refusal leaves all lent memory unchanged.
+//! questions for a node in node.rs and for a network's layout in layout.rs): each answers its number and what the number carries, and every refusal leaves all lent memory unchanged.
 
 use crate::limits::Whole;
 use crate::network::{Network, Travel};

@@ -1,6 +1,6 @@
 // The compiled calls for a program that cannot link them. It writes a block of 64-bit words to standard input, their number before it, and the block
 // comes back from standard output as the call has left it. Word 0 is the call, numbered from 0 in the order of emt.h, and afterwards its answer; word 1
-// the area or node; word 2 the second answer; words 3 to 5 area, number and place of a stop, or words 2 to 4 a node's voltage, peak and step; from word 6 on stand place and length of the
+// the area, node or branch; word 2 the second answer; words 3 to 5 area, number and place of a stop, or words 2 to 4 a node's voltage, peak and step; from word 6 on stand place and length of the
 // network, the records, the two line stores, and the text or buffer, whose length is in bytes. What is lent lies behind these, with words between that no call may change. The number after
 // the last call's lists a text whole: in place of the block come back the number of bytes of its listing, and the listing. An advance is made twice, by emt_advance and, on a copy of the
 // block, by emt_advance_in in a room that holds anything: where the two differ in a word, the copy's guards among them, or one around the room has changed, the answer is one that no call gives.
@@ -76,8 +76,11 @@ static uint64_t call(void) {
     case 1: return emt_reset(network, n, records, r, froms, f, tos, t);
     case 2: return advance_twice();
     case 3: return emt_node(network, n, records, r, (uint64_t)block[1], block + 2, second + 1, second + 2);
-    case 4: return emt_list(network, n, records, r, froms, f, tos, t, bytes, length(4), second, second + 1, second + 2, second + 3);
-    case 5: return emt_write(network, n, bytes, length(4), second);
+    case 4: return emt_areas(network, n, second);
+    case 5: return emt_area(network, n, (uint64_t)block[1], second);
+    case 6: return emt_row(network, n, (uint64_t)block[1], second);
+    case 7: return emt_list(network, n, records, r, froms, f, tos, t, bytes, length(4), second, second + 1, second + 2, second + 3);
+    case 8: return emt_write(network, n, bytes, length(4), second);
     default: exit(1);
     }
 }
@@ -116,7 +119,7 @@ int main(void) {
     while (get(&words, sizeof words)) {
         block = realloc(block, 8 * words);
         if (!block || !get(block, 8 * words)) return 1;
-        if (block[0] == 6) {
+        if (block[0] == 9) {
             if (!list_text()) return 1;
             continue;
         }

@@ -202,22 +202,55 @@ static void other_rooms(void) {
     room_bytes = sizeof(struct emt_room);
 }
 
-// The calls before the first advance: a reset needs little; reading a text has a network of its own on the stack, and is told and not held to 8,192 bytes.
+// The other calls, on a network of 80 rows: a reset needs little; reading a text has a network of its own on the stack, and listing the tables of all areas.
+// They are told; only the reset is held to 8,192 bytes.
+static char widest[8192];
+static size_t widest_bytes;
+static uint8_t listed[1 << 16];
+
 static void only_reset(void) {
     answers[0] = emt_reset(ours.network, EMT_NETWORK_WORDS, ours.records, EMT_RECORD_WORDS, ours.froms, EMT_STORE_WORDS, ours.tos, EMT_STORE_WORDS);
 }
 
-static void only_read(void) { answers[1] = emt_read((const uint8_t *)e5, strlen(e5), theirs.network, EMT_NETWORK_WORDS, &places[1]); }
+static void only_read(void) { answers[0] = emt_read((const uint8_t *)widest, widest_bytes, ours.network, EMT_NETWORK_WORDS, &places[0]); }
 
-static void beforehand(void) {
-    start(e5, strlen(e5));
-    paint();
-    on(painted[0], PAINTED, only_reset);
-    on(painted[1], PAINTED, only_read);
-    expect("emt_reset", "answer", (int64_t)answers[0], 0);
-    expect("emt_read", "answer", (int64_t)answers[1], 0);
-    expect("emt_reset", "over 8,192 bytes", touched(painted[0]) > LITTLE, 0);
-    printf("emt_reset touches %zu bytes, emt_read %zu\n", touched(painted[0]), touched(painted[1]));
+static void only_list(void) {
+    uint64_t written, stopped, number;
+    answers[0] = emt_list(ours.network, EMT_NETWORK_WORDS, ours.records, EMT_RECORD_WORDS, ours.froms, EMT_STORE_WORDS, ours.tos, EMT_STORE_WORDS, listed, sizeof listed, &written, &stopped,
+                          &number, &places[0]);
+}
+
+static void only_write(void) { answers[0] = emt_write(ours.network, EMT_NETWORK_WORDS, listed, sizeof listed, &places[0]); }
+
+static void only_node(void) {
+    int64_t voltage;
+    uint64_t peak;
+    answers[0] = emt_node(ours.network, EMT_NETWORK_WORDS, ours.records, EMT_RECORD_WORDS, 32, &voltage, &peak, &places[0]);
+}
+
+static void only_areas(void) { answers[0] = emt_areas(ours.network, EMT_NETWORK_WORDS, &places[0]); }
+
+static void only_area(void) { answers[0] = emt_area(ours.network, EMT_NETWORK_WORDS, 32, &places[0]); }
+
+static void only_row(void) { answers[0] = emt_row(ours.network, EMT_NETWORK_WORDS, 64, &places[0]); }
+
+static void other_calls(void) {
+    static const struct {
+        const char *name;
+        void (*call)(void);
+        uint64_t answer;
+    } calls[] = {{"emt_read", only_read, 0}, {"emt_reset", only_reset, 0}, {"emt_list", only_list, EMT_MORE}, {"emt_write", only_write, 0},
+                 {"emt_node", only_node, 0}, {"emt_areas", only_areas, 0}, {"emt_area", only_area, 0},        {"emt_row", only_row, 0}};
+    widest_bytes = largest(widest, 1);
+    start(widest, widest_bytes);
+    for (size_t k = 0; k < sizeof calls / sizeof *calls; k++) {
+        calls[k].call();
+        paint();
+        on(painted[0], PAINTED, calls[k].call);
+        expect(calls[k].name, "answer", (int64_t)answers[0], (int64_t)calls[k].answer);
+        printf("%s touches %zu bytes\n", calls[k].name, touched(painted[0]));
+        if (calls[k].call == only_reset) expect("emt_reset", "over 8,192 bytes", touched(painted[0]) > LITTLE, 0);
+    }
 }
 
 // ---- 8,192 bytes
@@ -263,7 +296,7 @@ int main(int count, char **files) {
     study("32 areas of 80 rows", text, largest(text, 1));
     refusals();
     other_rooms();
-    beforehand();
+    other_calls();
     on_little();
     printf("%d passed, %d failed\n", passed, failed);
     return failed != 0;

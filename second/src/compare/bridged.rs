@@ -2,6 +2,7 @@
 //! `EMT_BRIDGE` names its command; the words that go to and fro are told by tests/callers/bridge.c.
 
 use super::lent::Lendable;
+use crate::layout::Layout;
 use crate::list::Listed;
 use crate::node::Asked;
 use std::io::{self, BufWriter, Read, Write};
@@ -15,7 +16,7 @@ const COMMAND: &str = "EMT_BRIDGE";
 const UNWRITTEN: u64 = 0xDEAD_BEEF_DEAD_BEEF;
 const TRESPASS: u64 = 999_999_999;
 
-/// Call, area or node, second answer and three more (of a stop; a node's are the second and the first two), then
+/// Call, area, node or branch, second answer and three more (of a stop; a node's are the second and the first two), then
 /// place and length of five lent pieces.
 const HEAD_WORDS: usize = FIRST_PIECE + 2 * PIECES;
 const SECOND: usize = 2;
@@ -23,9 +24,12 @@ const STOP: usize = 3;
 const FIRST_PIECE: usize = 6;
 const PIECES: usize = 5;
 const NODE: u64 = 3;
-const LIST: u64 = 4;
-const WRITE: u64 = 5;
-const LISTING: u64 = 6;
+const AREAS: u64 = 4;
+const AREA: u64 = 5;
+const ROW: u64 = 6;
+const LIST: u64 = 7;
+const WRITE: u64 = 8;
+const LISTING: u64 = 9;
 const NETWORK: usize = 0;
 const RECORDS: usize = 1;
 const BYTES: usize = 4;
@@ -92,6 +96,20 @@ pub fn node(network: &[i64], records: &[i64], node: u64) -> Asked {
     bridge.call();
     let told = bridge.answer(NODE);
     Asked { number: told.number, voltage: told.written as i64, peak: told.stop[0], step: told.stop[1] }
+}
+
+pub fn layout(network: &[i64], asked: Layout) -> (u64, u64) {
+    let (call, number) = match asked {
+        Layout::Areas => (AREAS, 0),
+        Layout::AreaOf(node) => (AREA, node),
+        Layout::RowOf(branch) => (ROW, branch),
+    };
+    let mut bridge = bridge();
+    bridge.begin(call, number);
+    bridge.lend_words(NETWORK, network);
+    bridge.call();
+    let told = bridge.answer(call);
+    (told.number, told.written)
 }
 
 fn on_state(call: u64, area: u64, network: &[i64], state: [&mut [i64]; 3], out: Option<&mut [u8]>) -> Listed {

@@ -1,4 +1,4 @@
-//! `compare calls`: the proved library's six calls against ours, every lent word after every call.
+//! `compare calls`: the proved library's calls against ours, every lent word after every call.
 
 use super::arguments::Arguments;
 use super::cosine_slips;
@@ -7,6 +7,8 @@ use super::dice::Dice;
 use super::ends_mode;
 use super::fixed;
 use super::foreign::{self, Calls};
+use super::layout_slips;
+use super::layouts;
 use super::list_slips;
 use super::listings;
 use super::moves::{self, Depth};
@@ -38,7 +40,7 @@ pub type Question<'a> = &'a dyn Fn(&[u8], &mut Tally) -> Result<(), Difference>;
 pub fn compare_calls(arguments: &Arguments) -> bool {
     let Some(calls) = foreign::proved_calls() else {
         println!(
-            "built without the proved library: see README.md for the features read, reset, advance, list, write, node"
+            "built without the proved library: see README.md for the features read, reset, advance, list, write, node, layout"
         );
         return false;
     };
@@ -55,6 +57,9 @@ pub fn compare_calls(arguments: &Arguments) -> bool {
     }
     if calls.write.is_some() {
         writings::miss_nothing(&mut tally);
+    }
+    if calls.layout.is_some() && extent.studies >= ALL_KINDS {
+        layouts::miss_nothing(&mut tally);
     }
     tally.finish()
 }
@@ -100,6 +105,7 @@ fn compare_all(calls: &Calls, extent: &Extent, aloud: bool) -> Tally {
         let failed = tally.failed;
         ask(&text, aloud, &mut tally, &|text, tally| {
             moves::ask_moves(calls, text, seed, depth, tally)?;
+            layouts::ask_layouts(calls, text, seed, depth, tally)?;
             listings::ask_listings(calls, text, seed, depth, tally)?;
             writings::ask_writings(calls, text, seed, depth, tally)?;
             nodes::ask_nodes(calls, text, seed, depth, tally)
@@ -142,11 +148,13 @@ fn compare_fixed_studies(calls: &Calls, aloud: bool, tally: &mut Tally) {
         ask(text.as_bytes(), aloud, tally, &|text, tally| {
             listings::ask_listings(calls, text, 0, Depth::Usual, tally)?;
             writings::ask_writings(calls, text, 0, Depth::Usual, tally)?;
-            nodes::ask_nodes(calls, text, 0, Depth::Usual, tally)
+            nodes::ask_nodes(calls, text, 0, Depth::Usual, tally)?;
+            layouts::ask_layouts(calls, text, 0, Depth::Usual, tally)
         });
     }
     ask(&writings::longest_text(), aloud, tally, &|text, tally| {
-        writings::ask_writings(calls, text, 0, Depth::Usual, tally)
+        writings::ask_writings(calls, text, 0, Depth::Usual, tally)?;
+        layouts::ask_layouts(calls, text, 0, Depth::Usual, tally)
     });
     for text in waves::every_place() {
         ask(&text, aloud, tally, &|text, tally| waves::ask_place(calls, text, tally));
@@ -183,9 +191,11 @@ pub fn compare_self(arguments: &Arguments) -> bool {
     let mut tally = compare_all(&slips::own_calls(), &extent, true);
     writings::miss_nothing(&mut tally);
     nodes::miss_nothing(&mut tally);
+    layouts::miss_nothing(&mut tally);
     // The planted ones need no list of texts but where the slip is the reader's.
     let planted = [
         slips::planted(),
+        layout_slips::planted(),
         travel_slips::planted(),
         list_slips::planted(),
         write_slips::planted(),

@@ -2,6 +2,7 @@
 //! declarations, as far as this build links it.
 
 use super::bridged;
+use crate::layout::Layout;
 use crate::list::Listed;
 use crate::node::Asked;
 
@@ -11,6 +12,8 @@ pub type AdvanceCall = fn(&[i64], &mut [i64], &mut [i64], &mut [i64], u64) -> (u
 pub type ListCall = fn(&[i64], &mut [i64], &mut [i64], &mut [i64], &mut [u8]) -> Listed;
 pub type WriteCall = fn(&[i64], &mut [u8]) -> (u64, u64);
 pub type NodeCall = fn(&[i64], &[i64], u64) -> Asked;
+/// Three calls in one: each asks something of its own.
+pub type LayoutCall = fn(&[i64], Layout) -> (u64, u64);
 
 /// A later call is compared only together with the earlier ones.
 #[derive(Clone, Copy)]
@@ -21,6 +24,7 @@ pub struct Calls {
     pub list: Option<ListCall>,
     pub write: Option<WriteCall>,
     pub node: Option<NodeCall>,
+    pub layout: Option<LayoutCall>,
 }
 
 /// The proved calls, or none in a build without the library where no bridge is named.
@@ -33,6 +37,7 @@ pub fn proved_calls() -> Option<Calls> {
             list: Some(bridged::list),
             write: Some(bridged::write),
             node: Some(bridged::node),
+            layout: Some(bridged::layout),
         });
     }
     #[cfg(feature = "read")]
@@ -58,6 +63,10 @@ pub fn proved_calls() -> Option<Calls> {
         node: Some(linked::node),
         #[cfg(not(feature = "node"))]
         node: None,
+        #[cfg(feature = "layout")]
+        layout: Some(linked::layout),
+        #[cfg(not(feature = "layout"))]
+        layout: None,
     });
     #[cfg(not(feature = "read"))]
     None
@@ -65,6 +74,8 @@ pub fn proved_calls() -> Option<Calls> {
 
 #[cfg(feature = "read")]
 mod linked {
+    #[cfg(feature = "layout")]
+    use crate::layout::Layout;
     #[cfg(feature = "list")]
     use crate::list::Listed;
     #[cfg(feature = "node")]
@@ -155,6 +166,12 @@ mod linked {
             peak: *mut u64,
             step: *mut u64,
         ) -> u64;
+        #[cfg(feature = "layout")]
+        fn emt_areas(network: *const i64, network_len: usize, count: *mut u64) -> u64;
+        #[cfg(feature = "layout")]
+        fn emt_area(network: *const i64, network_len: usize, node: u64, number: *mut u64) -> u64;
+        #[cfg(feature = "layout")]
+        fn emt_row(network: *const i64, network_len: usize, branch: u64, place: *mut u64) -> u64;
     }
 
     /// Answers that no call gives. The first shows a call that leaves its second answer unwritten; the other stands
@@ -338,5 +355,19 @@ mod linked {
             )
         };
         Asked { number, voltage, peak, step }
+    }
+
+    #[cfg(feature = "layout")]
+    pub fn layout(network: &[i64], asked: Layout) -> (u64, u64) {
+        let (words, length, mut told) = (network.as_ptr(), network.len(), UNWRITTEN);
+        // SAFETY: pointer and length come from a slice, and `told` is one word of our own.
+        let number = unsafe {
+            match asked {
+                Layout::Areas => emt_areas(words, length, &mut told),
+                Layout::AreaOf(node) => emt_area(words, length, node, &mut told),
+                Layout::RowOf(branch) => emt_row(words, length, branch, &mut told),
+            }
+        };
+        (number, told)
     }
 }

@@ -1,9 +1,10 @@
 //! Lent memory for one question: our calls work on it directly, the others on a copy between guard words.
 
 use super::dice::Dice;
-use super::foreign::{AdvanceCall, ListCall, NodeCall, ReadCall, ResetCall, WriteCall};
+use super::foreign::{AdvanceCall, LayoutCall, ListCall, NodeCall, ReadCall, ResetCall, WriteCall};
 use super::tally::Difference;
 use crate::calls;
+use crate::layout::{self, Layout};
 use crate::list::{self, Listed, STEP_ROOM};
 use crate::node::{self, Asked};
 use crate::state::{RECORD_WORDS, STORE_WORDS};
@@ -263,6 +264,21 @@ pub fn same_node(call: NodeCall, network: &[i64], records: &[i64], number: u64) 
     let lengths = format!("{} and {} words", network.len(), records.len());
     let question = format!("in asking for node {number}, {lengths}, records: {}", nonzero(records));
     settle(question, format!("{ours:?}"), format!("{theirs:?}"), found).map(|()| ours)
+}
+
+/// Asks both how the network is laid out; answers ours where number and what is told agree and nothing lent has
+/// changed.
+pub fn same_layout(call: LayoutCall, network: &[i64], asked: Layout) -> Result<(u64, u64), Difference> {
+    let mut words = Guarded::around(network);
+    let theirs = call(words.lent(), asked);
+    let ours = layout::layout(network, asked);
+    let found = words.differences("network", network);
+    if ours == theirs && found.is_empty() {
+        return Ok(ours);
+    }
+    let question = format!("in asking for {asked:?}, {} words: {}", network.len(), nonzero(network));
+    let shown = |answer: (u64, u64)| format!("number {}, told {}", answer.0, answer.1);
+    settle(question, shown(ours), shown(theirs), found).map(|()| ours)
 }
 
 /// The answer, and what is listed from the line on in which the two part.

@@ -13,6 +13,8 @@ pub mod ends_mode;
 pub mod exact;
 pub mod fixed;
 pub mod foreign;
+pub mod layout_slips;
+pub mod layouts;
 pub mod lent;
 pub mod list_slips;
 pub mod listings;

@@ -3,6 +3,7 @@
 
 use super::foreign::Calls;
 use crate::calls;
+use crate::layout;
 use crate::limits::Whole;
 use crate::list;
 use crate::network::{Network, Travel};
@@ -19,6 +20,7 @@ pub fn own_calls() -> Calls {
         list: Some(list::list),
         write: Some(write::write),
         node: Some(node::node),
+        layout: Some(layout::layout),
     }
 }
 

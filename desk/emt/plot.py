@@ -1,0 +1,115 @@
+"""`emt plot`: a picture by gnuplot, for a report. Voltages above, currents below, over the time; peaks marked with value and time."""
+import os
+import shutil
+import subprocess
+
+from .axes import Axis, peak, thinned
+from .quantities import CURRENT, TIME, VOLTAGE
+
+POINTS_MOST = 6000  # of one curve in a picture; more cannot be told apart
+TERMINALS = {'.svg': "svg size {w},{h} font ',14' background '#ffffff'", '.png': "pngcairo size {w},{h} font ',12'",
+             '.pdf': "pdfcairo size {wcm}cm,{hcm}cm font ',11'"}
+LABELS_MOST = 4
+COLOURS = ('#0060a8', '#c8391e', '#1b8a4b', '#8a4fb0', '#b07a00', '#00868a', '#a83268', '#4d4d4d')
+
+
+class NoPicture(Exception):
+    """A picture cannot be made: no gnuplot, an unknown ending, nothing to draw."""
+
+
+def quoted(text):
+    return "'" + text.replace("'", "''").replace('\n', ' ') + "'"
+
+
+class Panel:
+    """The curves of one quantity, with their values in a window."""
+
+    def __init__(self, result, curves, window, base):
+        self.result, self.window = result, window
+        self.curves = [(curve, curve.values(result)) for curve in curves]
+        self.peaks = [peak(values, window) for _, values in self.curves]
+        self.axis = Axis.of(curves[0].quantity, max(abs(value) for value, _ in self.peaks), base)
+
+    def data(self, time):
+        """A block of points for each curve: time and value, as they are written."""
+        for values in (values for _, values in self.curves):
+            steps = thinned(values, self.window, POINTS_MOST)
+            yield '\n'.join(f'{time.written(step * self.result.network.step)} {self.axis.written(values[step - 1])}' for step in steps)
+
+    @property
+    def labelled(self):
+        """Few peaks have their words beside them; many have these in the key, where they do not cover one another."""
+        return len(self.curves) <= LABELS_MOST
+
+    def words(self, place, time):
+        value, step = self.peaks[place]
+        return f'{self.axis.short(value)} at {time.short(step * self.result.network.step)}'
+
+    def titles(self, time, marked):
+        return [curve.label + (f' ({self.words(place, time)})' if marked and not self.labelled else '') for place, (curve, _) in enumerate(self.curves)]
+
+    def marks(self, time):
+        """A point at each peak, with a label where there are few; labels of peaks that are close stand above one another. And how many stand so at most."""
+        lines, placed, most = [], [], 0
+        span = max(1, len(self.window) - 1)
+        height = max(abs(value) for value, _ in self.peaks) or 1
+        for place, (value, step) in enumerate(self.peaks):
+            near = sum(abs(step - other) < 0.3 * span and abs(value - at) < 0.15 * height for at, other in placed)
+            placed.append((value, step))
+            most = max(most, near)
+            side, shift = ('right', -1) if (step - self.window.first) / span > 0.7 else ('left', 1)
+            up = (0.8 + 1.1 * near) * (1 if value >= 0 else -1)
+            colour = COLOURS[place % len(COLOURS)]
+            words = quoted(self.words(place, time) if self.labelled else '')
+            lines.append(f"set label {place + 1} {words} at {time.written(step * self.result.network.step)},{self.axis.written(value)} {side} "
+                         f"offset {shift},{up:.1f} textcolor rgb '{colour}' point pt 7 ps 0.5 lc rgb '{colour}' noenhanced front")
+        return lines, most
+
+
+def stroke(place):
+    """The colour of a curve; the second round of colours is dashed."""
+    return f"lc rgb '{COLOURS[place % len(COLOURS)]}'" + (' dt 2' if place // len(COLOURS) % 2 else '')
+
+
+def drawn(panel, number, time, marked):
+    """The commands of one panel, its blocks of data being $pNcM."""
+    marks, most = panel.marks(time) if marked else ([], 0)
+    curves = ', '.join(f'$p{number}c{place} using 1:2 with lines lw 1.6 {stroke(place)} title {quoted(title)} noenhanced'
+                       for place, title in enumerate(panel.titles(time, marked)))
+    room = 0.1 + 0.08 * most if marked and panel.labelled else 0
+    above, below = (0.05 + room * any((value >= 0) == up for value, _ in panel.peaks) for up in (True, False))
+    return [f'set ylabel {quoted(panel.axis.title)} noenhanced', f'set offsets 0, 0, graph {above:.2f}, graph {below:.2f}', 'unset label', *marks, f'plot {curves}']
+
+
+def script(panels, time, window, step, title, path, size, marked):
+    """All that gnuplot is told."""
+    width, height = size or (900, 110 + 300 * len(panels))
+    ending = os.path.splitext(path)[1].lower()
+    if ending not in TERMINALS:
+        raise NoPicture(f'a picture ends in {", ".join(TERMINALS)}, not in {ending or "nothing"}')
+    terminal = TERMINALS[ending].format(w=width, h=height, wcm=round(width / 50, 2), hcm=round(height / 50, 2))
+    widest = max(len(one) for panel in panels for one in panel.titles(time, marked))
+    ends = [time.written(one * step) for one in window] if len(window) > 1 else []
+    lines = ['set encoding utf8', f'set terminal {terminal}', f'set output {quoted(path)}', 'set grid lt 1 lc rgb "#d4d4d4"', 'set key outside right top',
+             f'set xlabel {quoted(time.title)}', f'set lmargin 12; set rmargin {11 + widest * 7 // 8}', f'set xrange [{":".join(ends)}]']
+    for number, panel in enumerate(panels):
+        lines += [f'$p{number}c{place} << EOD\n{block}\nEOD' for place, block in enumerate(panel.data(time))]
+    lines.append(f'set multiplot layout {len(panels)},1' + (f' title {quoted(title)} noenhanced' if title else ''))
+    for number, panel in enumerate(panels):
+        lines += drawn(panel, number, time, marked)
+    return '\n'.join(lines + ['unset multiplot', ''])
+
+
+def picture(result, curves, window, path, title='', bases=None, size=None, marked=True):
+    """Draws the curves into a file; bases: per unit of these, by quantity."""
+    if not shutil.which('gnuplot'):
+        raise NoPicture('pictures need gnuplot: apt-get install gnuplot-nox (tools/setup does it)')
+    if not len(window):
+        raise NoPicture('nothing to draw: no full step in this time' if result.steps else 'nothing to draw: no full step was taken')
+    panels = [Panel(result, chosen, window, (bases or {}).get(quantity)) for quantity in (VOLTAGE, CURRENT)
+              for chosen in [[curve for curve in curves if curve.quantity is quantity]] if chosen]
+    time = Axis.of(TIME, window.last * result.network.step)
+    told = subprocess.run(['gnuplot'], input=script(panels, time, window, result.network.step, title, path, size, marked), text=True, capture_output=True)
+    if told.returncode or not os.path.exists(path):
+        raise NoPicture(f'gnuplot: {told.stderr.strip()}')
+    return panels, time
