@@ -16,7 +16,7 @@ static bool load_network(const whole *net) {
     for (int r = 0; r < net[3]; r++) {
         const whole *row = net + 8 + 8 * r;
         if (!in(row[0], 1, KINDS)) return false;
-        enum kind kind = (enum kind)(row[0] - 1);
+        enum kind kind = row[0] == 9 ? SW : (enum kind)(row[0] - 1); // SWT, by the clock: there is no other switch here
         int fields = shapes[kind].nodes + shapes[kind].others;
         for (int i = 0; i < fields; i++)
             if (row[1 + i] < 0 && !(kind >= VS && i == 1)) return false;

@@ -15,7 +15,7 @@ $1 == "R" { printf "R%d %s %s %.10g\n", NR, $2, $3, $4 / 1000; print_i = "@r" NR
 $1 == "L" { printf "L%d %s %s %sn IC=0\n", NR, $2, $3, $4; print_i = "@l" NR "[i]" }
 $1 == "C" { printf "C%d %s %s %sp IC=0\n", NR, $2, $3, $4; print_i = "@c" NR "[i]" }
 $1 == "LINE" { printf "T%d %s 0 %s 0 Z0=%.10g TD=%sn REL=1000 ABS=1000 IC=0,0,0,0\n", NR, $2, $3, $4 / 1000, $5 }
-$1 == "SW" { print "no switches" > "/dev/stderr"; exit 1 }
+$1 == "SW" || $1 == "SWT" { print "no switches" > "/dev/stderr"; exit 1 }
 { for (i = 2; i <= 3; i++) if ($i + 0 > nodes) nodes = $i + 0; if (print_i != "") currents = currents " " print_i }
 END {
     print ".options method=trap"

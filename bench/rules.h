@@ -64,7 +64,7 @@ static const struct {
     [L] = {"L", 2, 1, {1}, {OHMS}},
     [C] = {"C", 2, 1, {1}, {1000000000}},
     [LINE] = {"LINE", 2, 2, {1000, 1}, {OHMS, 1000000000}},
-    [SW] = {"SW", 2, 3, {1000, 1, 2}, {OHMS, MOST_STEPS, MOST_STEPS + 1}},
+    [SW] = {"SWT", 2, 3, {1000, 1, 2}, {OHMS, MOST_STEPS, MOST_STEPS + 1}},
     [VS] = {"VS", 1, 3, {-HIGHEST, 1, 0}, {HIGHEST, MOST_STEPS, 1000}},
     [IS] = {"IS", 1, 3, {-STRONGEST, 1, 0}, {STRONGEST, MOST_STEPS, 1000}},
 };

@@ -76,7 +76,7 @@ extern "C" {
 #define EMT_NETWORK_LIMIT 2
 #define EMT_NETWORK_ROWS 3                /* how many rows; words 4 to 7 are 0 */
 #define EMT_NETWORK_ROW(r) (8 + 8 * (r))  /* r from 0: kind, then the fields as in the text */
-enum { EMT_R = 1, EMT_L = 2, EMT_C = 3, EMT_LINE = 4, EMT_SW = 5, EMT_VS = 6, EMT_IS = 7, EMT_VC = 8 };
+enum { EMT_R = 1, EMT_L = 2, EMT_C = 3, EMT_LINE = 4, EMT_SW = 5, EMT_VS = 6, EMT_IS = 7, EMT_VC = 8, EMT_SWT = 9 };
 #define EMT_IS_SOURCE(kind) ((kind) == EMT_VS || (kind) == EMT_IS || (kind) == EMT_VC) /* any other is a branch */
 
 /* ---- Words of the records. Rows count from 0 in the order of the text, sources among them. */
@@ -87,6 +87,7 @@ enum { EMT_R = 1, EMT_L = 2, EMT_C = 3, EMT_LINE = 4, EMT_SW = 5, EMT_VS = 6, EM
 #define EMT_HISTORY_OF(row) (224 + (row))    /* of L and C */
 #define EMT_PEAK(node) (304 + (node) - 1)    /* the voltage's largest magnitude over all steps of the node's area */
 #define EMT_PEAK_STEP(node) (336 + (node) - 1) /* the first step where it came; 0 before any step */
+#define EMT_LATCH(r) (368 + (r))             /* of an SW the step after which it parted, 0 while it has not; 0 of any other row */
 
 /* ---- Answers. Reading: 9, 7, then 1 to 6; resetting: 9, 8; advancing: 9, 8, then 10 to 17; listing: 9, 8, 10; writing: 9, 8; asking
  * for a node: 9, 8, 10, 2; asking how a network is laid out: 9, 8, 2. */

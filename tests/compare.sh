@@ -1,7 +1,7 @@
 #!/usr/bin/env bash
 # The proved program and the proved calls, compiled, against the second program (second/README.md): whole listings of 20,000 random texts, of a fixed list and of one-byte
 # edits; the same and 20,000 texts more through the reader, each that is read written out again; then 2,000 studies with areas advanced in random orders, damaged memory and refused calls
-# among them, their networks, good and damaged, written and read again, their nodes and their layout asked for; each place of a power-frequency source's turn; and 500 studies, most with areas that stop, taken to their end by six schedulers each.
+# among them, their networks, good and damaged, written and read again, their nodes and their layout asked for and their breakers' latches looked at; each place of a power-frequency source's turn; and 500 studies, most with areas that stop, taken to their end by six schedulers each.
 # A seed a day, printed; `tests/compare.sh SEED` repeats one. On a processor that is not x86-64 the calls go through tests/callers/bridge.c, and emtrun is emulated, a start for each
 # text: there a quarter of the texts are listed. EMTRUN=PATH and LIBEMT=PATH take this program and this archive and make none. Closing line: N passed, M failed.
 set -u

@@ -150,7 +150,7 @@ for file in "$prefix"/share/man/man?/*; do
     fi
 done
 names emt.3 $(grep -hoE '\bemt_[a-z_]+\(' include/emt.h include/emt_words.h | tr -d '(' | grep -v _tables | sort -u)
-names emtrun.1 study R L C LINE SW VS IS VC done stop bad $(sed -nE 's/^\| ([1-7]|1[4-7]) \| ([A-Z]+) \|.*/\2/p' README.md)
+names emtrun.1 study R L C LINE SW SWT VS IS VC done stop bad $(sed -nE 's/^\| ([1-7]|1[4-7]) \| ([A-Z]+) \|.*/\2/p' README.md)
 if [ -x "$prefix/bin/emt" ]; then
     verbs=$("$prefix/bin/emt" --help | sed -nE 's/^    ([a-z]+) .*/\1/p')
     check "emt has verbs" "$([ "$(echo "$verbs" | wc -l)" -ge 6 ]; echo $?)" 0

@@ -5,7 +5,7 @@ use crate::network::{Branch, Network};
 
 /// Area numbers by node (place 0 is ground, in no area, number 0).
 ///
-/// Nodes joined by R, L, C or SW, open or closed, share an area; ground and lines join nothing. Every node
+/// Nodes joined by R, L, C or a switch, open or closed, share an area; ground and lines join nothing. Every node
 /// first carries its own number; joined nodes take the lower of both until nothing changes, so each ends
 /// with the lowest node of its area. Those lowest nodes, in rising order, are areas 1, 2, ...
 pub fn number_areas(node_count: usize, branches: &[Branch]) -> Vec<usize> {
@@ -32,26 +32,26 @@ fn joins(branch: &Branch) -> bool {
 }
 
 /// The lowest free node of the area without a path of conducting branches to ground, to a fixed node or to
-/// a node with a line end (itself included).
-pub fn lowest_floating_node(network: &Network, area: usize, step: Whole) -> Option<usize> {
-    let held = held_nodes(network, step);
+/// a node with a line end (itself included). Latches stand by branch.
+pub fn lowest_floating_node(network: &Network, area: usize, step: Whole, latches: &[Whole]) -> Option<usize> {
+    let held = held_nodes(network, step, latches);
     let mut nodes = network.nodes_of_area(area).into_iter();
     nodes.find(|node| !network.is_fixed(*node) && !held[*node])
 }
 
 /// Every node that a conducting path ties to something that settles its voltage. The ends of such paths are
 /// held from the beginning; being held then spreads over conducting branches until it spreads no more.
-fn held_nodes(network: &Network, step: Whole) -> Vec<bool> {
+fn held_nodes(network: &Network, step: Whole, latches: &[Whole]) -> Vec<bool> {
     let has_line_end =
         |node: usize| network.branches.iter().any(|branch| branch.is_line() && branch.touches(node));
     let mut held: Vec<bool> = (0..=network.node_count)
         .map(|node| node == 0 || network.is_fixed(node) || has_line_end(node))
         .collect();
-    let paths: Vec<&Branch> =
-        network.branches.iter().filter(|branch| !branch.is_line() && branch.conducts_at(step)).collect();
+    let leads = |(branch, latch): &(&Branch, &Whole)| !branch.is_line() && branch.conducts_at(step, **latch);
+    let paths: Vec<(&Branch, &Whole)> = network.branches.iter().zip(latches).filter(leads).collect();
     // Each pass either holds a further node or is the last, so as many passes as nodes are enough.
     for _ in 0..network.node_count {
-        for branch in &paths {
+        for (branch, _) in &paths {
             let either = held[branch.from] || held[branch.to];
             held[branch.from] = either;
             held[branch.to] = either;

@@ -8,7 +8,7 @@ use crate::reader;
 use crate::record::{self, NETWORK_WORDS};
 use crate::refusal::{Refusal, Stop};
 use crate::state::{self, RECORD_WORDS, STORE_WORDS};
-use crate::step::{self, AreaStep, Histories};
+use crate::step::{self, AreaStep, Past};
 
 /// Answers the number and the line (0 where none); an accepted reading writes all 1,024 words.
 pub fn read(text: &[u8], network: &mut [i64]) -> (u64, u64) {
@@ -104,23 +104,23 @@ fn checked_step(
     if let Some(branch) = step::first_waiting_line(&network, area, step, &count_of) {
         return Err(Stop::at(Refusal::Wait, branch));
     }
-    let histories = lent_histories(received, &network, step, records, froms, tos);
-    let taken = step::take_step(&network, area, step, &histories)?;
+    let past = lent_past(received, &network, step, records, froms, tos);
+    let taken = step::take_step(&network, area, step, &past)?;
     Ok((network, area, taken))
 }
 
 /// L and C keep theirs in the records. A line's from end receives what the to end sent, and the other way
 /// about; a value before step 1 is 0, whatever its slot holds.
-fn lent_histories(
+fn lent_past(
     received: Received,
     network: &Network,
     step: Whole,
     records: &[i64],
     froms: &[i64],
     tos: &[i64],
-) -> Histories {
+) -> Past {
     let first = state::first_slots(network);
-    let mut histories = Histories { at_from: Vec::new(), at_to: Vec::new() };
+    let mut past = Past { at_from: Vec::new(), at_to: Vec::new(), latches: Vec::new() };
     for (index, branch) in network.branches.iter().enumerate() {
         let (at_from, at_to) = match branch.travel() {
             None => (Whole::from(records[state::history_place(branch.row)]), 0),
@@ -130,10 +130,11 @@ fn lent_histories(
                 (heard(tos), heard(froms))
             }
         };
-        histories.at_from.push(at_from);
-        histories.at_to.push(at_to);
+        past.at_from.push(at_from);
+        past.at_to.push(at_to);
+        past.latches.push(records[state::latch_place(branch.row)].into());
     }
-    histories
+    past
 }
 
 /// Writes the area's own words only, and answers its new count.
@@ -156,6 +157,13 @@ fn write_step(
     let first = state::first_slots(network);
     for done in &taken.branches {
         let branch = &network.branches[done.branch];
+        if let (Some(breaker), Some(now)) = (branch.breaker(), done.from_current) {
+            let word = |place: usize| Whole::from(records[place]);
+            let (latch, before) =
+                (word(state::latch_place(branch.row)), word(state::from_current_place(branch.row)));
+            let latch = breaker.latch_after(latch, count.into(), now, before);
+            records[state::latch_place(branch.row)] = latch as i64;
+        }
         put(records, state::from_current_place(branch.row), done.from_current);
         put(records, state::to_current_place(branch.row), done.to_current);
         put(records, state::history_place(branch.row), done.next_history);

@@ -9,6 +9,7 @@ pub mod calls;
 pub mod compare;
 pub mod cosine;
 pub mod ends;
+pub mod latch;
 pub mod layout;
 pub mod limits;
 pub mod list;

@@ -2,6 +2,7 @@
 
 use crate::areas;
 use crate::cosine;
+use crate::latch::Breaker;
 use crate::limits::Whole;
 
 #[derive(Clone, Copy, PartialEq, Eq, Debug)]
@@ -14,10 +15,11 @@ pub enum Kind {
     VoltageSource,
     CurrentSource,
     CosineSource,
+    TimedSwitch,
 }
 
 /// Each kind with its word in the text, its number in the record and how many numbers follow the word.
-const KINDS: [(Kind, &str, i64, usize); 8] = [
+const KINDS: [(Kind, &str, i64, usize); 9] = [
     (Kind::Resistor, "R", 1, 3),
     (Kind::Inductor, "L", 2, 3),
     (Kind::Capacitor, "C", 3, 3),
@@ -26,6 +28,7 @@ const KINDS: [(Kind, &str, i64, usize); 8] = [
     (Kind::VoltageSource, "VS", 6, 4),
     (Kind::CurrentSource, "IS", 7, 4),
     (Kind::CosineSource, "VC", 8, 4),
+    (Kind::TimedSwitch, "SWT", 9, 5),
 ];
 
 impl Kind {
@@ -109,7 +112,9 @@ impl Row {
     pub fn conductance(&self, step_length: Whole) -> Option<Whole> {
         let value = self.fields[2];
         match self.kind {
-            Kind::Resistor | Kind::Line | Kind::Switch => Some(nearest_halves_up(1_000_000_000_000, value)),
+            Kind::Resistor | Kind::Line | Kind::Switch | Kind::TimedSwitch => {
+                Some(nearest_halves_up(1_000_000_000_000, value))
+            }
             Kind::Inductor => Some(nearest_halves_up(1_000_000_000 * step_length, 2 * value)),
             Kind::Capacitor => Some(nearest_halves_up(2_000_000 * value, step_length)),
             Kind::VoltageSource | Kind::CurrentSource | Kind::CosineSource => None,
@@ -144,8 +149,16 @@ pub enum Element {
     Resistor,
     Inductor,
     Capacitor,
-    Line { travel: Travel },
-    Switch { close: Whole, open: Whole },
+    Line {
+        travel: Travel,
+    },
+    /// SW: parts at a current zero.
+    Switch(Breaker),
+    /// SWT: closed at steps close to open - 1, whatever its current.
+    TimedSwitch {
+        close: Whole,
+        open: Whole,
+    },
 }
 
 #[derive(Clone, Debug)]
@@ -175,19 +188,19 @@ impl Branch {
         matches!(self.element, Element::Inductor | Element::Capacitor)
     }
 
-    /// An open switch carries no current and has no conductance; it is closed at steps close to open - 1.
-    pub fn conducts_at(&self, step: Whole) -> bool {
+    pub fn breaker(&self) -> Option<Breaker> {
         match self.element {
-            Element::Switch { close, open } => close <= step && step < open,
-            _ => true,
+            Element::Switch(breaker) => Some(breaker),
+            _ => None,
         }
     }
 
-    pub fn conductance_at(&self, step: Whole) -> Whole {
-        if self.conducts_at(step) {
-            self.conductance
-        } else {
-            0
+    /// An open switch carries no current and has no conductance. `latch` is the branch's own, 0 where it has none.
+    pub fn conducts_at(&self, step: Whole, latch: Whole) -> bool {
+        match self.element {
+            Element::Switch(breaker) => breaker.is_closed(latch, step),
+            Element::TimedSwitch { close, open } => close <= step && step < open,
+            _ => true,
         }
     }
 
@@ -301,6 +314,11 @@ impl Network {
         here.map(|source| source.value_at(step)).sum()
     }
 
+    /// The area of a branch that is no line: ground, in no area, has the number 0.
+    pub fn area_of_branch(&self, branch: &Branch) -> usize {
+        self.area_of[branch.from].max(self.area_of[branch.to])
+    }
+
     /// The branches with an end in the area, by index. A line may belong to two areas.
     pub fn branches_of_area(&self, area: usize) -> Vec<usize> {
         let touches = |branch: &Branch| self.area_of[branch.from] == area || self.area_of[branch.to] == area;
@@ -326,7 +344,8 @@ fn branch_of_row(row: &Row, index: usize, step_length: Whole) -> Branch {
         Kind::Inductor => Element::Inductor,
         Kind::Capacitor => Element::Capacitor,
         Kind::Line => Element::Line { travel: Travel::of(row.fields[3], step_length) },
-        Kind::Switch => Element::Switch { close: row.fields[3], open: row.fields[4] },
+        Kind::Switch => Element::Switch(Breaker { close: row.fields[3], open: row.fields[4] }),
+        Kind::TimedSwitch => Element::TimedSwitch { close: row.fields[3], open: row.fields[4] },
         Kind::Resistor | Kind::VoltageSource | Kind::CurrentSource | Kind::CosineSource => Element::Resistor,
     };
     Branch {

@@ -149,7 +149,7 @@ fn value_fault(row: &Row, step_length: Whole) -> bool {
         Kind::Inductor => limits::NANOHENRY.contains(&fields[2]),
         Kind::Capacitor => limits::PICOFARAD.contains(&fields[2]),
         Kind::Line => limits::MILLIOHM.contains(&fields[2]) && limits::TRAVEL.contains(&fields[3]),
-        Kind::Switch => {
+        Kind::Switch | Kind::TimedSwitch => {
             limits::MILLIOHM.contains(&fields[2])
                 && limits::SWITCH_STEP.contains(&fields[3])
                 && limits::SWITCH_STEP.contains(&fields[4])

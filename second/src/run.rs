@@ -1,12 +1,12 @@
 //! A whole run from rest. Every value that a line end ever sent is kept, so that no ring, no slot and no
-//! remainder stands between a reading and the step it asks for. So is every voltage, and a peak is looked for
-//! among them when it is asked for.
+//! remainder stands between a reading and the step it asks for. So is every voltage and every breaker's current: a
+//! peak, or the step after which a breaker parted, is looked for among them when it is asked for.
 
 use crate::limits::Whole;
 use crate::network::Network;
 use crate::peaks::Peak;
 use crate::refusal::{Refusal, Stop};
-use crate::step::{self, AreaStep, Histories};
+use crate::step::{self, AreaStep, Past};
 
 #[derive(Clone, Debug)]
 pub struct Run {
@@ -23,6 +23,8 @@ pub struct Run {
     sent_to: Vec<Vec<Whole>>,
     /// By node, then by step; place 0 is ground's.
     past_voltages: Vec<Vec<Whole>>,
+    /// By branch, then by step; none but of breakers.
+    past_currents: Vec<Vec<Whole>>,
     pub largest_imbalance: Whole,
 }
 
@@ -38,6 +40,7 @@ impl Run {
             sent_from: vec![Vec::new(); branches],
             sent_to: vec![Vec::new(); branches],
             past_voltages: vec![Vec::new(); network.node_count + 1],
+            past_currents: vec![Vec::new(); branches],
             largest_imbalance: 0,
             network,
         }
@@ -56,8 +59,8 @@ impl Run {
         if let Some(branch) = step::first_waiting_line(&self.network, area, step, &count_of) {
             return Err(Stop::at(Refusal::Wait, branch));
         }
-        let histories = self.histories_at(area, step);
-        let taken = step::take_step(&self.network, area, step, &histories)?;
+        let past = self.past_of(area, step);
+        let taken = step::take_step(&self.network, area, step, &past)?;
         self.keep(area, &taken);
         Ok(step)
     }
@@ -66,21 +69,28 @@ impl Run {
         Peak::of_all(&self.past_voltages[node])
     }
 
+    /// The step after which a breaker parted; 0 where it has not, and for every other branch.
+    pub fn latch(&self, index: usize) -> Whole {
+        let breaker = self.network.branches[index].breaker();
+        breaker.map_or(0, |breaker| breaker.latch_of_all(&self.past_currents[index]))
+    }
+
     /// A line end's history is what it receives of the values that the far end sent.
-    fn histories_at(&self, area: usize, step: Whole) -> Histories {
-        let mut histories = Histories { at_from: self.histories.clone(), at_to: self.histories.clone() };
+    fn past_of(&self, area: usize, step: Whole) -> Past {
+        let latches = (0..self.network.branches.len()).map(|index| self.latch(index)).collect();
+        let mut past = Past { at_from: self.histories.clone(), at_to: self.histories.clone(), latches };
         for (index, branch) in self.network.branches.iter().enumerate() {
             let Some(travel) = branch.travel() else { continue };
             if self.network.area_of[branch.from] == area {
                 let sent = &self.sent_to[index];
-                histories.at_from[index] = travel.received(step, &|at| sent[at as usize - 1]);
+                past.at_from[index] = travel.received(step, &|at| sent[at as usize - 1]);
             }
             if self.network.area_of[branch.to] == area {
                 let sent = &self.sent_from[index];
-                histories.at_to[index] = travel.received(step, &|at| sent[at as usize - 1]);
+                past.at_to[index] = travel.received(step, &|at| sent[at as usize - 1]);
             }
         }
-        histories
+        past
     }
 
     fn keep(&mut self, area: usize, taken: &AreaStep) {
@@ -94,6 +104,9 @@ impl Run {
             self.from_currents[index] = done.from_current.unwrap_or(self.from_currents[index]);
             self.to_currents[index] = done.to_current.unwrap_or(self.to_currents[index]);
             self.histories[index] = done.next_history.unwrap_or(self.histories[index]);
+            if self.network.branches[index].breaker().is_some() {
+                self.past_currents[index].extend(done.from_current);
+            }
             self.sent_from[index].extend(done.from_sent);
             self.sent_to[index].extend(done.to_sent);
         }

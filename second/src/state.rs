@@ -16,6 +16,7 @@ const TO_CURRENTS: usize = 144;
 const HISTORIES: usize = 224;
 const PEAKS: usize = 304;
 const PEAK_STEPS: usize = 336;
+const LATCHES: usize = 368;
 
 pub fn count_place(area: usize) -> usize {
     COUNTS + area - 1
@@ -43,6 +44,10 @@ pub fn peak_place(node: usize) -> usize {
 
 pub fn peak_step_place(node: usize) -> usize {
     PEAK_STEPS + node - 1
+}
+
+pub fn latch_place(row: usize) -> usize {
+    LATCHES + row
 }
 
 /// By branch, the first of a line's slots, the same in both stores: slots stand in table order.
@@ -80,6 +85,9 @@ pub fn record_ranges(network: &Network) -> Vec<RangeInclusive<Whole>> {
         if branch.keeps_history() {
             ranges[history_place(branch.row)] = limits::HISTORY;
         }
+        if branch.breaker().is_some() {
+            ranges[latch_place(branch.row)] = 0..=network.steps;
+        }
     }
     ranges
 }
@@ -100,12 +108,15 @@ pub fn well_formed(network: &Network, records: &[i64], froms: &[i64], tos: &[i64
     records_well_formed(network, records) && store_fits(froms) && store_fits(tos)
 }
 
-/// Whether the records by themselves are: each word in its range, peaks beside their voltages and counts, and
-/// the counts at a line's two ends.
+/// Whether the records by themselves are: each word in its range, peaks beside their voltages and counts, latches
+/// beside their switch's steps and counts, and the counts at a line's two ends.
 pub fn records_well_formed(network: &Network, records: &[i64]) -> bool {
     let ranges = record_ranges(network);
     let words_fit = records.iter().zip(&ranges).all(|(word, range)| range.contains(&Whole::from(*word)));
-    words_fit && peaks_fit(network, records) && counts_close(network, records)
+    words_fit
+        && peaks_fit(network, records)
+        && latches_fit(network, records)
+        && counts_close(network, records)
 }
 
 /// No peak is below the voltage's magnitude, none came at a step past the count. Step 0 beside a count passes.
@@ -114,6 +125,17 @@ fn peaks_fit(network: &Network, records: &[i64]) -> bool {
     (1..=network.node_count).all(|node| {
         let count = word(count_place(network.area_of[node]));
         word(voltage_place(node)).abs() <= word(peak_place(node)) && word(peak_step_place(node)) <= count
+    })
+}
+
+/// A latch that is set is no earlier than the breaker's first chance and not past the count of its area. One that is
+/// not set passes at any count: so a breaker goes on that has found no zero.
+fn latches_fit(network: &Network, records: &[i64]) -> bool {
+    network.branches.iter().all(|branch| {
+        let Some(breaker) = branch.breaker() else { return true };
+        let count = Whole::from(records[count_place(network.area_of_branch(branch))]);
+        let latch = Whole::from(records[latch_place(branch.row)]);
+        latch == 0 || (breaker.first_chance()..=count).contains(&latch)
     })
 }
 

@@ -6,11 +6,13 @@ use crate::network::{Branch, Element, Network};
 use crate::refusal::{Refusal, Stop};
 use crate::solve;
 
-/// Histories by branch. L and C use `at_from` alone; a line has one history at each end.
+/// What a step reads of those before it, by branch. Of the histories L and C use `at_from` alone; a line has one at
+/// each end. A latch is 0 but where a breaker has parted.
 #[derive(Clone, Debug)]
-pub struct Histories {
+pub struct Past {
     pub at_from: Vec<Whole>,
     pub at_to: Vec<Whole>,
+    pub latches: Vec<Whole>,
 }
 
 /// What an accepted step leaves for one branch; `None` where the area has nothing to leave.
@@ -52,16 +54,11 @@ pub fn first_waiting_line(
 }
 
 /// Judges 14, then 15, then 16, then 17, each over the whole area.
-pub fn take_step(
-    network: &Network,
-    area: usize,
-    step: Whole,
-    histories: &Histories,
-) -> Result<AreaStep, Stop> {
-    if let Some(node) = areas::lowest_floating_node(network, area, step) {
+pub fn take_step(network: &Network, area: usize, step: Whole, past: &Past) -> Result<AreaStep, Stop> {
+    if let Some(node) = areas::lowest_floating_node(network, area, step, &past.latches) {
         return Err(Stop::at(Refusal::Floating, node));
     }
-    let view = View { network, step, histories };
+    let view = View { network, step, past };
     let voltages = view.solved_voltages(area)?;
     let largest_imbalance = view.checked_balance(area, &voltages)?;
     let branches = view.branch_steps(area, &voltages);
@@ -77,14 +74,23 @@ pub fn take_step(
     Ok(AreaStep { voltages, branches, largest_imbalance })
 }
 
-/// The network at one step, with the histories that step reads.
+/// The network at one step, with what that step reads of those before.
 struct View<'a> {
     network: &'a Network,
     step: Whole,
-    histories: &'a Histories,
+    past: &'a Past,
 }
 
 impl View<'_> {
+    fn conductance(&self, index: usize) -> Whole {
+        let branch = &self.network.branches[index];
+        if branch.conducts_at(self.step, self.past.latches[index]) {
+            branch.conductance
+        } else {
+            0
+        }
+    }
+
     /// Voltages by node: ground and all other areas 0, fixed nodes at their source, free nodes solved.
     fn solved_voltages(&self, area: usize) -> Result<Vec<Whole>, Stop> {
         let network = self.network;
@@ -109,12 +115,12 @@ impl View<'_> {
     /// On the diagonal the node's sum of conductances, lines included; elsewhere minus the sum of the
     /// conductances that join the two nodes. A line joins no neighbours.
     fn matrix_entry(&self, row: usize, column: usize) -> Whole {
-        let here = self.network.branches.iter().filter(|branch| branch.touches(row));
+        let here = self.network.branches.iter().enumerate().filter(|(_, branch)| branch.touches(row));
         if row == column {
-            return here.map(|branch| branch.conductance_at(self.step)).sum();
+            return here.map(|(index, _)| self.conductance(index)).sum();
         }
-        let joining = here.filter(|branch| !branch.is_line() && branch.touches(column));
-        -joining.map(|branch| branch.conductance_at(self.step)).sum::<Whole>()
+        let joining = here.filter(|(_, branch)| !branch.is_line() && branch.touches(column));
+        -joining.map(|(index, _)| self.conductance(index)).sum::<Whole>()
     }
 
     /// Injection minus histories as they leave the node, plus conductance times fixed neighbour voltage.
@@ -127,7 +133,7 @@ impl View<'_> {
             }
             if branch.touches(node) && !branch.is_line() {
                 let neighbour = if branch.from == node { branch.to } else { branch.from };
-                sum += branch.conductance_at(self.step) * known[neighbour];
+                sum += self.conductance(index) * known[neighbour];
             }
         }
         sum
@@ -138,11 +144,11 @@ impl View<'_> {
     fn history_leaving(&self, index: usize, node: usize) -> Whole {
         let branch = &self.network.branches[index];
         match branch.element {
-            Element::Line { .. } if branch.from == node => self.histories.at_from[index],
-            Element::Line { .. } => self.histories.at_to[index],
-            Element::Inductor | Element::Capacitor if branch.from == node => self.histories.at_from[index],
-            Element::Inductor | Element::Capacitor => -self.histories.at_from[index],
-            Element::Resistor | Element::Switch { .. } => 0,
+            Element::Line { .. } if branch.from == node => self.past.at_from[index],
+            Element::Line { .. } => self.past.at_to[index],
+            Element::Inductor | Element::Capacitor if branch.from == node => self.past.at_from[index],
+            Element::Inductor | Element::Capacitor => -self.past.at_from[index],
+            Element::Resistor | Element::Switch(_) | Element::TimedSwitch { .. } => 0,
         }
     }
 
@@ -151,7 +157,7 @@ impl View<'_> {
         let branch = &self.network.branches[index];
         let neighbour = if branch.from == node { branch.to } else { branch.from };
         let across = if branch.is_line() { voltages[node] } else { voltages[node] - voltages[neighbour] };
-        branch.conductance_at(self.step) * across + self.history_leaving(index, node)
+        self.conductance(index) * across + self.history_leaving(index, node)
     }
 
     /// At each free node the exact sum of currents leaving, minus injection, must keep the limit.

@@ -147,7 +147,7 @@ fn unfit_networks() {
     let good = network_words(E5);
     assert!(study_of_record(&good).is_some());
     for (place, value) in
-        [(3, 81), (3, -1), (3, 3), (3, 1), (4, 1), (7, 1), (8, 0), (8, 9), (13, 1), (24, 1), (1023, 1)]
+        [(3, 81), (3, -1), (3, 3), (3, 1), (4, 1), (7, 1), (8, 0), (8, 10), (13, 1), (24, 1), (1023, 1)]
     {
         let mut words = good.clone();
         words[place] = value;
@@ -211,9 +211,16 @@ fn advance_depends_on_its_own_area_only() {
             other.records[state::peak_step_place(node)] = 0;
         }
         for branch in &network.branches {
-            other.records[state::from_current_place(branch.row)] = dice.between(-1_000_000, 1_000_000);
-            if branch.keeps_history() && network.area_of[branch.from.max(branch.to)] != area {
+            // Of its own currents an advance reads the breakers'.
+            let own = !branch.is_line() && network.area_of_branch(branch) == area;
+            if !own || branch.breaker().is_none() {
+                other.records[state::from_current_place(branch.row)] = dice.between(-1_000_000, 1_000_000);
+            }
+            if branch.keeps_history() && !own {
                 other.records[state::history_place(branch.row)] = dice.between(-1_000_000, 1_000_000);
+            }
+            if branch.breaker().is_some() && !own {
+                other.records[state::latch_place(branch.row)] = 0;
             }
         }
         let answers = (advance(&mut one, area as u64), advance(&mut other, area as u64));
@@ -223,6 +230,11 @@ fn advance_depends_on_its_own_area_only() {
             for place in [state::voltage_place(node), state::peak_place(node), state::peak_step_place(node)] {
                 assert_eq!(one.records[place], other.records[place], "seed {seed}");
             }
+        }
+        let own = network.branches.iter().filter(|branch| branch.breaker().is_some());
+        for branch in own.filter(|branch| network.area_of_branch(branch) == area) {
+            let place = state::latch_place(branch.row);
+            assert_eq!(one.records[place], other.records[place], "seed {seed}");
         }
         assert_eq!((one.froms, one.tos), (other.froms, other.tos), "seed {seed}");
     }
@@ -280,7 +292,7 @@ fn room_before_each_step() {
 #[test]
 fn a_refused_area_stops_the_listing() {
     // Node 2, an area of its own, hangs at a switch that opens at step 2.
-    let text = "study\t1000\t5\t0\nVS\t1\t9\t1\t0\nR\t1\t0\t1000\nSW\t2\t0\t1000\t1\t2\n";
+    let text = "study\t1000\t5\t0\nVS\t1\t9\t1\t0\nR\t1\t0\t1000\nSWT\t2\t0\t1000\t1\t2\n";
     let mut lent = at_rest(text);
     let (told, lines) = list_told(&mut lent, 65_536);
     assert_eq!((told.number, told.stop), (STOPPED, [2, 14, 2]));

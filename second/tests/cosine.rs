@@ -204,7 +204,7 @@ fn kind_8_in_the_record_and_back() {
     let mut out = vec![b'?'; TEXT_ROOM];
     assert_eq!(write(&words, &mut out), (0, text.len() as u64));
     assert_eq!(&out[..text.len()], text.as_bytes());
-    for (place, word) in [(8, 9), (9, 0), (9, 33), (11, 0), (12, 0), (12, 100_001), (13, 1)] {
+    for (place, word) in [(8, 10), (9, 0), (9, 33), (11, 0), (12, 0), (12, 100_001), (13, 1)] {
         let mut unfit = words.clone();
         unfit[place] = word;
         assert_eq!(write(&unfit, &mut out), (8, 0), "word {place} set to {word}");

@@ -1,6 +1,7 @@
 //! Ramps, injections, switches, conductances, doubles and rounding, each by itself.
 
 use second::areas::number_areas;
+use second::latch::Breaker;
 use second::listing::listing_of;
 use second::network::{nearest_halves_up, Branch, Course, Element, Source, Travel};
 use second::solve::{double_of, solve};
@@ -36,8 +37,10 @@ fn injection_on_a_fixed_node_changes_nothing() {
 
 #[test]
 fn switch_opens_and_the_node_floats() {
-    let text = "study\t1000\t9\t0\nVS\t1\t8\t1\t0\nSW\t1\t2\t1000\t1\t3\n";
-    assert!(listing_of(text.as_bytes()).ends_with("v\t2\t2\t8\ni\t2\t1\t0\nstop\t3\t1\t14\t2\n"));
+    for word in ["SW", "SWT"] {
+        let text = format!("study\t1000\t9\t0\nVS\t1\t8\t1\t0\n{word}\t1\t2\t1000\t1\t3\n");
+        assert!(listing_of(text.as_bytes()).ends_with("v\t2\t2\t8\ni\t2\t1\t0\nstop\t3\t1\t14\t2\n"));
+    }
 }
 
 #[test]
@@ -75,12 +78,13 @@ fn elimination_of_two_rows() {
 #[test]
 fn areas_by_lowest_node() {
     let branch = |from, to, element| Branch { row: 0, from, to, conductance: 1, element };
-    let open = Element::Switch { close: 9, open: 10 };
+    let open = Element::Switch(Breaker { close: 9, open: 10 });
     let branches = [
         branch(5, 2, Element::Resistor),
         branch(1, 0, Element::Resistor),
         branch(0, 3, Element::Capacitor),
         branch(4, 5, open),
+        branch(6, 0, Element::TimedSwitch { close: 1, open: 2 }),
         branch(1, 3, Element::Line { travel: Travel::of(1000, 1000) }),
     ];
     assert_eq!(number_areas(6, &branches), [0, 1, 2, 3, 2, 2, 4]);

@@ -136,7 +136,7 @@ fn step_1_overwrites_what_stood_there() {
 
 #[test]
 fn a_refused_step_changes_no_peak() {
-    let mut lent = at_rest("study\t1000\t9\t0\nVS\t1\t8\t1\t2\nSW\t1\t2\t1000\t1\t2\n");
+    let mut lent = at_rest("study\t1000\t9\t0\nVS\t1\t8\t1\t2\nSWT\t1\t2\t1000\t1\t2\n");
     assert_eq!(advance(&mut lent, 1), (0, 1));
     assert_eq!(advance(&mut lent, 1), (14, 2));
     assert_eq!((peak(&lent, 1), peak(&lent, 2)), ((0, 1), (0, 1)));

@@ -59,8 +59,8 @@ fn sources_stay_among_branches_and_the_minus_stays() {
 
 #[test]
 fn all_fields_of_every_kind() {
-    let rows: [&[i64]; 3] = [&[5, 0, 1, 1000, 5, 9], &[2, 1, 2, 500], &[3, 2, 0, 7]];
-    let text = "study\t1000\t8\t3\nSW\t0\t1\t1000\t5\t9\nL\t1\t2\t500\nC\t2\t0\t7\n";
+    let rows: [&[i64]; 4] = [&[5, 0, 1, 1000, 5, 9], &[2, 1, 2, 500], &[9, 1, 2, 1000, 1, 2], &[3, 2, 0, 7]];
+    let text = "study\t1000\t8\t3\nSW\t0\t1\t1000\t5\t9\nL\t1\t2\t500\nSWT\t1\t2\t1000\t1\t2\nC\t2\t0\t7\n";
     assert_eq!(written(&drawn([1000, 8, 3], &rows), TEXT_ROOM), (0, text.to_string()));
 }
 
@@ -77,11 +77,11 @@ fn a_longer_area_is_fine() {
     }
 }
 
-/// No text is longer: no line of a branch is longer than a switch's, no line of a source than an IS's.
+/// No text is longer: no line of a branch is longer than an SWT's, no line of a source than an IS's.
 #[test]
 fn the_longest_text_has_room() {
     let text = longest_text();
-    assert_eq!(text.len(), 39 + 64 * 39 + 16 * 37);
+    assert_eq!(text.len(), 39 + 64 * 40 + 16 * 37);
     let network = record_of(&text).expect("a good text");
     assert_eq!(written(&network, TEXT_ROOM).1.as_bytes(), text);
 }
@@ -114,7 +114,7 @@ fn networks_that_no_text_gives() {
         &[1, 1, 1, 1000],
         &[1, 33, 1, 1000],
         &[0, 1, 2, 1000],
-        &[9, 1, 2, 1000],
+        &[10, 1, 2, 1000],
         &[1, 1, 2, 1000, 1],
     ] {
         assert_eq!(written(&resistor(fields), TEXT_ROOM), (8, String::new()), "{fields:?}");

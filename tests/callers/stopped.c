@@ -47,7 +47,7 @@ static void expect_lines(const char *what, const char *lines) {
 
 // Area 1 is refused: nothing has moved since the last full step, and the same comes again, the stop line alone.
 static void first_area(void) {
-    start("study\t1000\t5\t0\nSW\t1\t0\t1000\t1\t2\n");
+    start("study\t1000\t5\t0\nSWT\t1\t0\t1000\t1\t2\n");
     expect("area 1: a step", list(), EMT_STOPPED);
     expect_stop("area 1", 1, EMT_FLOATING, 1);
     expect_lines("area 1", "v\t1\t1\t0\ni\t1\t1\t0\nstop\t2\t1\t14\t1\n");
@@ -62,7 +62,7 @@ static void first_area(void) {
 
 // Area 2 is refused: area 1 keeps the step that it took, and areas at different steps are not listed.
 static void second_area(void) {
-    start("study\t1000\t5\t0\nVS\t1\t9\t1\t0\nSW\t2\t0\t1000\t1\t2\n");
+    start("study\t1000\t5\t0\nVS\t1\t9\t1\t0\nSWT\t2\t0\t1000\t1\t2\n");
     expect("area 2", list(), EMT_STOPPED);
     expect_stop("area 2", 2, EMT_FLOATING, 2);
     expect_lines("area 2", "v\t1\t1\t9\nv\t1\t2\t0\ni\t1\t1\t0\nstop\t2\t2\t14\t2\n");

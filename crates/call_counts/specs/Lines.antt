@@ -1,12 +1,13 @@
 -- The plan's lines are the network's: whose counts are compared, and for which row an area waits. Assumes nothing.
-use Rattle.whole.specs.Plain.{ℕ, _+_, _≤_, _<_, _≡_, refl, ap, _∙_, true, false, List, [], length, drop}
-use Rattle.whole.specs.Plain.{drop-of-length-le, drop-cons, le-trans, div-le-self, arith, Words}
+use Rattle.whole.specs.Plain.{ℕ, _+_, _≤_, _<_, max, _≡_, refl, sym, ap, subst, _∙_, true, false, List, [], length, drop}
+use Rattle.whole.specs.Plain.{drop-of-length-le, drop-cons, le-trans, div-le-self, eq-eqb, arith, Words, word, nat}
 use native.Mathlib.Numerals.{add-one}
 use Rattle.paper.specs.Rows as Rows
-use Rattle.paper.specs.Classes.{line-branch}
-use Rattle.paper.specs.Rows.{isLine, travel}
+use Rattle.paper.specs.Classes.{line-branch, breaker-branch, breaker-line}
+use Rattle.paper.specs.Rows.{isLine, isBreaker, travel}
 use Rattle.paper.specs.Areas.{Net, areaOf, areaCount, step}
-use Rattle.paper.specs.Records.{near}
+use Rattle.paper.specs.Records.{latchAt, near, latched}
+use Rattle.paper.specs.Latch.{latchFormed}
 use Rattle.paper.specs.Advance.{waitsFor, firstLate}
 use Rattle.laws_facts.specs.Sound.{BranchSound, LineSound}
 use Rattle.laws_facts.specs.Nets.{NetSound, rowAt, area-of}
@@ -14,8 +15,9 @@ use Rattle.plan_ends.specs.Own.{ownerOf}
 use Rattle.plan_rows.specs.declared.Row.{Row}
 use Rattle.plan_rows.specs.declared.Totals.{Totals}
 use Rattle.plan_rows.specs.Planned.{rowIn, rowOf, Planned}
+use Rattle.plan_rows.specs.Switching.{may-paper}
 use Rattle.plan_net.specs.Of.{Of}
-use Rattle.call_counts.specs.Counts.{CountsIn, EndsIn, Counted, nearBy, waitsBy}
+use Rattle.call_counts.specs.Counts.{CountIn, CountsIn, EndsIn, Counted, nearBy, latchFormedBy, latchedBy, waitsBy}
 
 -- a plan of the network's rows
 pub record RowsOf (N : Net) (plan : List (List ℕ)) (rows : ℕ) : Type 0 where
@@ -31,6 +33,13 @@ module _ (N : Net) (recs : Words) (i : ℕ) where
   unfolding nearBy near rowOf ownerOf
   near-row = elim (isLine (rowAt N i)) as (λ l. isLine (rowAt N i) ≡ l → nearBy recs (rowOf N i) ≡ near N recs (rowAt N i)) [ true ↦ λ e. rw e | false ↦ λ e. rw e ] refl
 
+  latched-row : latchedBy recs (rowOf N i) i ≡ latched N recs i
+  unfolding latchedBy latchFormedBy latched latchFormed rowOf ownerOf
+  latched-row = elim (isBreaker (rowAt N i)) as (λ b. isBreaker (rowAt N i) ≡ b → latchedBy recs (rowOf N i) i ≡ latched N recs i) [
+    | true ↦ λ e. rw (may-paper N i (nat (word recs (latchAt i))), e, breaker-line (rowAt N i) e, breaker-branch (rowAt N i) e)
+    | false ↦ λ e. rw e
+  ] refl
+
   waits-row : (a k : ℕ) → waitsBy a k recs (rowOf N i) ≡ waitsFor N a k recs (rowAt N i)
   unfolding waitsBy waitsFor rowOf ownerOf
   waits-row a k = elim (isLine (rowAt N i)) as (λ l. isLine (rowAt N i) ≡ l → waitsBy a k recs (rowOf N i) ≡ waitsFor N a k recs (rowAt N i)) [ true ↦ λ e. rw e | false ↦ λ e. rw e ] refl
@@ -42,6 +51,9 @@ module _ {N : Net} {plan : List (List ℕ)} (p : Planned N plan) (i : ℕ) (h : 
 
   pub near-is : (recs : Words) → nearBy recs (rowIn plan i) ≡ near N recs (rowAt N i)
   near-is recs = ap (nearBy recs) (p .row i h) ∙ near-row N recs i
+
+  pub latched-is : (recs : Words) → latchedBy recs (rowIn plan i) i ≡ latched N recs i
+  latched-is recs = ap (λ (r : Row). latchedBy recs r i) (p .row i h) ∙ latched-row N recs i
 
   pub waits-is : (a k : ℕ) (recs : Words) → waitsBy a k recs (rowIn plan i) ≡ waitsFor N a k recs (rowAt N i)
   waits-is a k recs = ap (waitsBy a k recs) (p .row i h) ∙ waits-row N recs i a k
@@ -62,6 +74,15 @@ module _ {N : Net} (s : NetSound N) {recs : Words} (c : CountsIn recs (areaCount
         delay = le-trans (div-le-self (travel r) (step N)) (line .travelIn .most);
       })
 
+-- an SW's area
+breaker-in : {N : Net} → NetSound N → {recs : Words} → CountsIn recs (areaCount N) → (i : ℕ) → i < length (N .rows) → isBreaker (rowAt N i) ≡ true → CountIn recs (rowOf N i .«from_area»)
+unfolding rowOf ownerOf
+breaker-in {N} s c i h b =
+    let r = rowAt N i in
+    let e : BranchSound (step N) (N .nodes) r = s .row i h .branch (breaker-branch r b) in
+    let n = max (Rows.from r) (Rows.to r) in
+    rw (breaker-line r b, breaker-branch r b) (c .at (areaOf N n) (s .areaLeast n (omega (arith, e .apart)) (omega (arith, e .fromIn .most, e .toIn .most))) (area-of N n))
+
 pub counted : {N : Net} {plan : List (List ℕ)} {t : Totals} {recs : Words} → Of N plan t → CountsIn recs (t .areas) → Counted plan (t .rows) recs
 counted {N} {plan} {t} {recs} o c =
     let n : t .rows ≡ length (N .rows) = ap (λ (u : Totals). u .rows) (o .counts) in
@@ -71,6 +92,9 @@ counted {N} {plan} {t} {recs} o c =
       line = λ i h l.
           let k : i < length (N .rows) = omega arith in
           rw (o .planned .row i k) (ends-in (o .sound) a i k (rw (kind-is (o .planned) i k) at l));
+      breaker = λ i h b.
+          let k : i < length (N .rows) = omega arith in
+          subst (λ (r : Row). CountIn recs (r .«from_area»)) (sym (o .planned .row i k)) (breaker-in (o .sound) a i k (eq-eqb _ 5 (sym (kind-is (o .planned) i k) ∙ b)));
     }
 
 -- ---- 13 WAIT, row by row

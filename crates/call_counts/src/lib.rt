@@ -1,11 +1,13 @@
-// The areas' counts of steps, by the plan: how far those at a line's two ends may part (part of refusal 10), when an area must wait (refusal 13), and how
-// many steps all have taken.
-ghost use Rattle.whole.specs.Plain.{_≡_, every, numbers};
+// The areas' counts of steps, by the plan: how far those at a line's two ends may part, and a breaker's latch against that of its area (parts of refusal 10);
+// when an area must wait (refusal 13), and how many steps all have taken.
+ghost use Rattle.whole.specs.Plain.{_≤_, _<_, _≡_, length, every, numbers};
 ghost use Rattle.whole.specs.Loans.{was};
 ghost use Rattle.paper.specs.Areas.{Net};
 ghost use Rattle.paper.specs.Records.{countOf};
 ghost use Rattle.paper.specs.Advance.{firstLate};
-ghost use Rattle.call_counts.specs.Counts.{CountIn, CountsIn, LineIn, Counted, nearBy, waitsBy};
+ghost use Rattle.paper.specs.Limits as Limits;
+ghost use Rattle.call_counts.specs.Counts.{CountIn, CountsIn, LineIn, BreakerIn, Counted, nearBy, waitsBy};
+ghost use Rattle.call_counts.specs.Counts.{latchFormedBy, latchedBy};
 ghost use Rattle.call_counts.specs.Lines.{RowsOf};
 ghost use Rattle.call_counts.specs.Level.{takenBy, tookAll};
 use paper::kinds;
@@ -33,6 +35,36 @@ pub fn near(r: Row, records: &[i64]) -> bool
     let from = count_of(records, r.from_area);
     let to = count_of(records, r.to_area);
     (from <= to + r.delay) & (to <= from + r.delay)
+}
+
+// Not "a set latch that is below open - 1, not above close or past the area's count".
+fn latch_formed(r: Row, latch: i64, count: usize) -> bool
+    requires { ⌜ count ≤ Limits.stepsEnd ⌝ }
+    ensures { λ b. ⌜ b ≡ latchFormedBy r latch count ⌝ }
+{
+    if latch < 0 {
+        return false;
+    }
+    let step = latch as usize;
+    if step == 0 {
+        return true;
+    }
+    if count < step {
+        return false;
+    }
+    plan_rows::may_part(r, step)
+}
+
+// The same of the row in place i, where it is an SW.
+pub fn latched(r: Row, records: &[i64], i: usize) -> bool
+    requires { ⌜ BreakerIn (now records) r × (i < Limits.rowEnd) × (length (now records) ≡ Limits.recordWords) ⌝ }
+    ensures { λ b. ⌜ b ≡ latchedBy (was records) r i ⌝ }
+{
+    if r.kind != kinds::SW {
+        return true;
+    }
+    let count = count_of(records, r.from_area);
+    latch_formed(r, records[sections::LATCHES + i], count)
 }
 
 // 13 WAIT: "a far area's count is below k - d"

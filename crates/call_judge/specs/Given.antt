@@ -81,7 +81,7 @@ module _ {net : Words} {plan : List (List ℕ)} {areas : List ℕ} {totals : Tot
       let p : a ≡ turn .area = omega arith in
       ap (ownIn owns′) p ∙ ap (λ (x : List (List ℕ)). ownIn x (turn .area)) e ∙ own-put owns (turn .area) o (omega (arith, area-few s (turn .area) (g .most)))
 
-  pub tables-alone : Tables (netIn net) (turn .area) (turn .area) (turn .k) plan owns′ legs′ nodes′ sources′ f
+  pub tables-alone : Tables (netIn net) (turn .area) (turn .area) (turn .k) (m .records) plan owns′ legs′ nodes′ sources′ f
   tables-alone = record {
     sound = of s .sound;
     planned = s .planned;

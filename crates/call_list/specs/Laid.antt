@@ -33,8 +33,8 @@ level-here net m n l e =
 
 module _ (net : Words) {plan owns : List (List ℕ)} {totals : Totals} {legs : List Words} {nodes : List ℕ} {sources : List Words} (o : Of (netIn net) plan totals) (l : Laid (netIn net) owns legs nodes sources)
     (u : Unprepared (netIn net) owns) where
-  laid-tables : (f : List (List Float)) → Square f → AllTables net 1 plan owns legs nodes sources f
-  laid-tables f q =
+  laid-tables : (recs : Words) (f : List (List Float)) → Square f → AllTables net 1 recs plan owns legs nodes sources f
+  laid-tables recs f q =
       record {
         sound = o .sound;
         planned = o .planned;
@@ -49,4 +49,4 @@ module _ (net : Words) {plan owns : List (List ℕ)} {totals : Totals} {legs : L
       }
 
   pub begins : {m : Memory} → InStep net (stepsTaken (netIn net) (m .records)) m → Begins net plan totals owns legs nodes sources m
-  begins v = record { of = o; tables = laid-tables; level = v }
+  begins {m} v = record { of = o; tables = laid-tables (m .records); level = v }

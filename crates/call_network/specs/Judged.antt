@@ -23,7 +23,7 @@ spareZero w =
     && (ltb 3 (length (fieldsOf (kind w))) || upTo 0 (word w 4))
 
 abbrev pub knownRow : Words → Bool
-knownRow w = leb 1 (kind w) && leb (kind w) 8
+knownRow w = leb 1 (kind w) && leb (kind w) 9
 
 -- a row that the reader could have written after those that are seen
 unfoldable pub goodRow : Seen → Words → Bool

@@ -34,7 +34,7 @@ same-refl (negsuc a ∷ w) = both (eq-eqb a a refl) (same-refl w)
 pub record Replayed (net : Words) (i : ℕ) (s : Seen) : Type 0 where
   pub stands : Stands s (take (suc i) (tableOf net))
   pub pass : passes (take (suc i) (tableOf net)) ≡ true
-  pub known : (k : ℕ) → k < i → kind (wordsOf net k) < 9
+  pub known : (k : ℕ) → k < i → kind (wordsOf net k) < 10
   pub spare : (k : ℕ) → k < i → spareZero (wordsOf net k) ≡ true
 
 -- a record of the right length, with a number of rows that it has room for
@@ -96,10 +96,10 @@ module _ (net : Words) (rows : ℕ) (z₀ : Sized net rows) where
     unfolding goodRow
     good-fault = eqb-true (seenFault s w) 0 (and-right (knownRow w && spareZero w) (eqb (seenFault s w) 0) g)
 
-    pub good-kind : (1 ≤ kind w) × (kind w ≤ 8)
-    good-kind = (leb-true 1 (kind w) (and-left (leb 1 (kind w)) (leb (kind w) 8) known-row), leb-true (kind w) 8 (and-right (leb 1 (kind w)) (leb (kind w) 8) known-row))
+    pub good-kind : (1 ≤ kind w) × (kind w ≤ 9)
+    good-kind = (leb-true 1 (kind w) (and-left (leb 1 (kind w)) (leb (kind w) 9) known-row), leb-true (kind w) 9 (and-right (leb 1 (kind w)) (leb (kind w) 9) known-row))
 
-    pub good-known : kind w < 9
+    pub good-known : kind w < 10
     good-known = omega (arith, good-kind .1)
 
     long : length w ≡ 8

@@ -81,14 +81,14 @@ module _ (net : Words) (rows : ℕ) (z₀ : Sized net rows) where
       same-kind : kind w ≡ kind row
       same-kind = kind-head w ∙ ap (λ (x : ℤ). kind (x ∷ [])) (same-word 0 (omega arith)) ∙ sym (kind-head row)
 
-      kinds : (1 ≤ kind w) × (kind w ≤ 8)
+      kinds : (1 ≤ kind w) × (kind w ≤ 9)
       unfolding row
       kinds =
           let s = Nets.net-sound net e .row i at-row in
           (omega (arith, same-kind, s .kindLeast), omega (arith, same-kind, s .kindMost))
 
       known-passes : knownRow w ≡ true
-      known-passes = both (le-leb 1 (kind w) (kinds .0)) (le-leb (kind w) 8 (kinds .1))
+      known-passes = both (le-leb 1 (kind w) (kinds .0)) (le-leb (kind w) 9 (kinds .1))
 
       -- a word past the kind's fields
       spare : (j : ℕ) → length (fieldsOf (kind w)) < j → j < 8 → upTo 0 (word w j) ≡ true

@@ -55,7 +55,7 @@ each-word P a b c d e f g h (suc (suc (suc (suc (suc (suc zero)))))) l = g
 each-word P a b c d e f g h (suc (suc (suc (suc (suc (suc (suc zero))))))) l = h
 each-word P a b c d e f g h (suc (suc (suc (suc (suc (suc (suc (suc j)))))))) l = absurd (omega arith)
 
-module _ (w : Words) (long : length w ≡ 8) (k : kind w < 9) where
+module _ (w : Words) (long : length w ≡ 8) (k : kind w < 10) where
   few : 6 ≤ length w
   few = omega (arith, long)
 
@@ -86,9 +86,9 @@ module _ (w : Words) (long : length w ≡ 8) (k : kind w < 9) where
       elim (decLt j (suc f))
       [ yes u ↦ getD-take (suc f) w j z u | no u ↦ List·getD-eq-default (take (suc f) w) z (rw length-take (omega arith)) ∙ sym (spare j h (omega arith)) ]
 
-pub arity-least : (k : ℕ) → k < 9 → 3 ≤ length (fieldsOf k)
+pub arity-least : (k : ℕ) → k < 10 → 3 ≤ length (fieldsOf k)
 unfolding fieldsOf kinds
-arity-least = each (λ k. 3 ≤ length (fieldsOf k)) (lit≤ tt) (lit≤ tt) (lit≤ tt) (lit≤ tt) (lit≤ tt) (lit≤ tt) (lit≤ tt) (lit≤ tt) (lit≤ tt)
+arity-least = each (λ k. 3 ≤ length (fieldsOf k)) (lit≤ tt) (lit≤ tt) (lit≤ tt) (lit≤ tt) (lit≤ tt) (lit≤ tt) (lit≤ tt) (lit≤ tt) (lit≤ tt) (lit≤ tt)
 
 -- ---- the record's table, row by row
 
@@ -137,8 +137,8 @@ pub eight : {a b c d e f g h a′ b′ c′ d′ e′ f′ g′ h′ : ℤ} → 
     → _≡_ {A = Words} (a ∷ b ∷ c ∷ d ∷ e ∷ f ∷ g ∷ h ∷ []) (a′ ∷ b′ ∷ c′ ∷ d′ ∷ e′ ∷ f′ ∷ g′ ∷ h′ ∷ [])
 eight p q r s t u v w = λ i. p i ∷ q i ∷ r i ∷ s i ∷ t i ∷ u i ∷ v i ∷ w i ∷ []
 
--- a kind from 1 to 8, by the word
-pub known-word : (w : Words) → (leZ (pos 1) (word w 0) && leZ (word w 0) (pos 8)) ≡ knownRow w
+-- a kind from 1 to 9, by the word
+pub known-word : (w : Words) → (leZ (pos 1) (word w 0) && leZ (word w 0) (pos 9)) ≡ knownRow w
 unfolding kinds
 known-word [] = refl
 known-word (pos k ∷ w) = refl

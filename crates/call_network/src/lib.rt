@@ -39,12 +39,12 @@ fn study_row(net: &[i64]) -> [i64; 8]
 fn known(row: [i64; 8]) -> bool
     ensures { λ r. ⌜ r ≡ knownRow row ⌝ }
 {
-    (1 <= row[0]) & (row[0] <= 8)
+    (1 <= row[0]) & (row[0] <= 9)
 }
 
 // "unused ones 0"
 fn spare_zero(row: [i64; 8]) -> bool
-    requires { ⌜ kind row < 9 ⌝ }
+    requires { ⌜ kind row < 10 ⌝ }
     ensures { λ r. ⌜ r ≡ spareZero row ⌝ }
 {
     let fields = text_kinds::fields(row[0] as usize);

@@ -6,16 +6,16 @@ use Rattle.whole.specs.Folds.{and-left, and-right, both}
 use Rattle.whole.specs.Members.{Among}
 use Rattle.paper.specs.Limits as Limits
 use Rattle.paper.specs.Rows as Rows
-use Rattle.paper.specs.Rows.{isBranch, isLine, isL, isC, steps}
+use Rattle.paper.specs.Rows.{isBranch, isLine, isBreaker, isL, isC, steps}
 use Rattle.paper.specs.Areas.{Net, areaCount}
-use Rattle.paper.specs.Records.{slotCount, Section, sections, sectionsEnd, endOf, ends, near, peaked, recordsFormed, storeFormed, wellFormed}
-use Rattle.paper.specs.Apart.{counts-in, voltages-in, currents-in, toCurrents-in, histories-in, peaks-in, peakSteps-in, end-of, end-past, ends-at}
+use Rattle.paper.specs.Records.{slotCount, Section, sections, sectionsEnd, endOf, ends, near, peaked, latched, recordsFormed, storeFormed, wellFormed}
+use Rattle.paper.specs.Apart.{counts-in, voltages-in, currents-in, toCurrents-in, histories-in, peaks-in, peakSteps-in, latches-in, end-of, end-past, ends-at}
 use Rattle.laws_facts.specs.Nets.{NetSound, rowAt, area-count-most}
 use Rattle.plan_rows.specs.declared.Totals.{Totals}
 use Rattle.plan_rows.specs.Planned.{Planned, rowIn}
 use Rattle.plan_net.specs.Of.{Of}
-use Rattle.call_counts.specs.Counts.{nearBy}
-use Rattle.call_counts.specs.Lines.{kind-is, near-is}
+use Rattle.call_counts.specs.Counts.{nearBy, latchedBy}
+use Rattle.call_counts.specs.Lines.{kind-is, near-is, latched-is}
 use Rattle.call_state.specs.Judged.{Long, MappedOf, partFormed, sectionFormed, ofKind, wordsFormed, countsFormed, rowFormed, plannedFormed, tailsFormed, nodesFormed, peakedBy, formedBy}
 use Rattle.call_state.specs.Sections.{every-places, within-places, every-both, every-from, held, used-part, one-end, only-section, follows, covered}
 
@@ -25,10 +25,10 @@ and-swap false true c = refl
 and-swap false false c = refl
 
 -- the same tests, as the paper and as the judge have them
-arranged : (sign counts volts i zᵢ t zₜ h zₕ peaks steps rest near peaked : Bool)
-    → (sign && ((counts && (volts && ((i && zᵢ) && ((t && zₜ) && ((h && zₕ) && (peaks && (steps && true))))))) && rest) && near && peaked)
-    ≡ (sign && counts && ((volts && (peaks && steps)) && ((i && (t && h) && near) && ((zᵢ && (zₜ && (zₕ && rest))) && peaked))))
-arranged sign counts volts i zᵢ t zₜ h zₕ peaks steps rest near peaked = simp (and-assoc, and-comm, and-swap, and-true)
+arranged : (sign counts volts i zᵢ t zₜ h zₕ peaks steps l zₗ rest near peaked latched : Bool)
+    → (sign && ((counts && (volts && ((i && zᵢ) && ((t && zₜ) && ((h && zₕ) && (peaks && (steps && ((l && zₗ) && true)))))))) && rest) && near && peaked && latched)
+    ≡ (sign && counts && ((volts && (peaks && steps)) && ((i && (t && (h && l)) && (near && latched)) && ((zᵢ && (zₜ && (zₕ && (zₗ && rest)))) && peaked))))
+arranged sign counts volts i zᵢ t zₜ h zₕ peaks steps l zₗ rest near peaked latched = simp (and-assoc, and-comm, and-swap, and-true)
 
 module _ {N : Net} {plan : List (List ℕ)} (s : NetSound N) (p : Planned N plan) (recs : Words) (long : length recs ≡ Limits.recordWords) where
   abbrev n : ℕ
@@ -100,7 +100,8 @@ module _ {N : Net} {plan : List (List ℕ)} (s : NetSound N) (p : Planned N plan
       && ((every (own 64 (isOf isBranch) Limits.currentEnd) (numbers 0 n) && partFormed recs (64 + n) 144 0)
       && ((every (own 144 (isOf isLine) Limits.currentEnd) (numbers 0 n) && partFormed recs (144 + n) 224 0)
       && ((every (own 224 (isOf stores) Limits.historyEnd) (numbers 0 n) && partFormed recs (224 + n) 304 0)
-      && (sectionFormed recs 304 (N .nodes) 336 Limits.voltageEnd && (sectionFormed recs 336 (N .nodes) 368 (steps (N .head)) && true))))))) && partFormed recs sectionsEnd Limits.recordWords 0)
+      && (sectionFormed recs 304 (N .nodes) 336 Limits.voltageEnd && (sectionFormed recs 336 (N .nodes) 368 (steps (N .head))
+      && ((every (own 368 (isOf isBreaker) (steps (N .head))) (numbers 0 n) && partFormed recs (368 + n) 448 0) && true)))))))) && partFormed recs sectionsEnd Limits.recordWords 0)
   unfolding sections every Rows.branchKind Rows.kinds
   records-are =
       sections-are
@@ -112,22 +113,28 @@ module _ {N : Net} {plan : List (List ℕ)} (s : NetSound N) (p : Planned N plan
         rows-section histories-in (isOf stores) refl refl (omega arith) (λ i. refl),
         peaks-are,
         peak-steps-are,
+        rows-section latches-in (isOf isBreaker) refl refl (omega arith) (λ i. refl),
         rest-is,
       )
 
-  rows-are : every (plannedFormed plan recs) (numbers 0 n)
+  rows-are : every (plannedFormed (steps (N .head)) plan recs) (numbers 0 n)
       ≡ ((every (own 64 (isOf isBranch) Limits.currentEnd) (numbers 0 n)
-      && (every (own 144 (isOf isLine) Limits.currentEnd) (numbers 0 n) && every (own 224 (isOf stores) Limits.historyEnd) (numbers 0 n)))
-      && every (near N recs) (N .rows))
+      && (every (own 144 (isOf isLine) Limits.currentEnd) (numbers 0 n)
+      && (every (own 224 (isOf stores) Limits.historyEnd) (numbers 0 n) && every (own 368 (isOf isBreaker) (steps (N .head))) (numbers 0 n))))
+      && (every (near N recs) (N .rows) && every (latched N recs) (numbers 0 n)))
   unfolding plannedFormed rowFormed wordsFormed own
   rows-are =
       let l = numbers 0 n in
       let c = own 64 (isOf isBranch) Limits.currentEnd in
       let t = own 144 (isOf isLine) Limits.currentEnd in
       let h = own 224 (isOf stores) Limits.historyEnd in
+      let p′ = own 368 (isOf isBreaker) (steps (N .head)) in
       let counts : ℕ → Bool = λ i. nearBy recs (rowIn plan i) in
+      let parts : ℕ → Bool = λ i. latchedBy recs (rowIn plan i) i in
       let lines = every-places [] (near N recs) counts (N .rows) 0 (λ j k. rw (zero-add j) (near-is p j k recs)) in
-      every-both (λ i. c i && (t i && h i)) counts l ∙ rw (every-both c (λ i. t i && h i) l, every-both t h l, ← lines)
+      let breakers = every-from (latched N recs) parts 0 0 n (λ j _ k. rw (zero-add j) (sym (latched-is p j (omega arith) recs))) in
+      every-both (λ i. c i && (t i && (h i && p′ i))) (λ i. counts i && parts i) l
+      ∙ rw (every-both c (λ i. t i && (h i && p′ i)) l, every-both t (λ i. h i && p′ i) l, every-both h p′ l, every-both counts parts l, ← lines, ← breakers)
 
 -- how much there may be
 pub record Few (t : Totals) : Type 0 where
@@ -151,7 +158,7 @@ counts-formed {N} recs o long e =
     let c₁ = every nonNeg (take Limits.nodeEnd recs) in
     let c₂ = within (ends N) recs in
     let c₃ = every (near N recs) (N .rows) in
-    let e₂ = and-left (c₁ && c₂) c₃ (and-left (c₁ && c₂ && c₃) _ e) in
+    let e₂ = and-left (c₁ && c₂) c₃ (and-left (c₁ && c₂ && c₃) _ (and-left (c₁ && c₂ && c₃ && every (peaked N recs) (numbers 1 (N .nodes))) _ e)) in
     rw (o .counts) (both (and-left c₁ c₂ e₂) (and-left _ _ (and-left _ _ (sym (records-are (o .sound) (o .planned) recs long) ∙ and-right c₁ c₂ e₂))))
 
 -- the peaks, by the areas that the plan has beside it

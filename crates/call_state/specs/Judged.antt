@@ -3,15 +3,15 @@ use Rattle.whole.specs.Plain.{ℕ, _+_, _-_, _≤_, _≡_, Bool, cond, _&&_, _|
 use Rattle.whole.specs.Plain.{Words, word, upTo, every, numbers}
 use Rattle.paper.specs.Limits as Limits
 use Rattle.paper.specs.Rows as Rows
-use Rattle.paper.specs.Rows.{isBranch, isLine, isL, isC}
+use Rattle.paper.specs.Rows.{isBranch, isLine, isBreaker, isL, isC}
 use Rattle.paper.specs.Areas.{Net}
-use Rattle.paper.specs.Records.{currentAt, toCurrentAt, historyAt, countOf, counts, voltages, currents, toCurrents, histories, peaks, peakSteps, sectionsEnd, peakFormed}
+use Rattle.paper.specs.Records.{currentAt, toCurrentAt, historyAt, latchAt, countOf, counts, voltages, currents, toCurrents, histories, peaks, peakSteps, latches, sectionsEnd, peakFormed}
 use Rattle.plan_record.specs.Mapped.{Mapped}
 use Rattle.plan_rows.specs.declared.Row.{Row}
 use Rattle.plan_rows.specs.declared.Totals.{Totals}
 use Rattle.plan_rows.specs.Planned.{rowIn}
 use Rattle.plan_net.specs.Of.{Of}
-use Rattle.call_counts.specs.Counts.{CountIn, nearBy}
+use Rattle.call_counts.specs.Counts.{CountIn, nearBy, latchedBy}
 
 -- what is lent has its lengths
 pub record Long (recs froms tos : Words) : Type 0 where
@@ -45,30 +45,32 @@ abbrev pub ofKind : ℕ → Rows.Row
 ofKind k = pos k ∷ []
 
 -- a row's words, and all that is judged of it
-unfoldable pub wordsFormed : ℕ → Words → ℕ → Bool
-wordsFormed k recs i =
+unfoldable pub wordsFormed : ℕ → ℕ → Words → ℕ → Bool
+wordsFormed steps k recs i =
     upTo (cond (isBranch (ofKind k)) Limits.currentEnd 0) (word recs (currentAt i))
     && (upTo (cond (isLine (ofKind k)) Limits.currentEnd 0) (word recs (toCurrentAt i))
-    && upTo (cond (isL (ofKind k) || isC (ofKind k)) Limits.historyEnd 0) (word recs (historyAt i)))
+    && (upTo (cond (isL (ofKind k) || isC (ofKind k)) Limits.historyEnd 0) (word recs (historyAt i))
+    && upTo (cond (isBreaker (ofKind k)) steps 0) (word recs (latchAt i))))
 
-unfoldable pub rowFormed : Words → Row → ℕ → Bool
-rowFormed recs r i = wordsFormed (r .kind) recs i && nearBy recs r
+unfoldable pub rowFormed : ℕ → Words → Row → ℕ → Bool
+rowFormed steps recs r i = wordsFormed steps (r .kind) recs i && (nearBy recs r && latchedBy recs r i)
 
-unfoldable pub plannedFormed : List (List ℕ) → Words → ℕ → Bool
-plannedFormed plan recs i = rowFormed recs (rowIn plan i) i
+unfoldable pub plannedFormed : ℕ → List (List ℕ) → Words → ℕ → Bool
+plannedFormed steps plan recs i = rowFormed steps recs (rowIn plan i) i
 
 -- the words past the last row's, and past the last section
 unfoldable pub tailsFormed : Words → ℕ → Bool
 tailsFormed recs rows =
     partFormed recs (currentAt rows) (toCurrents .start) 0
     && (partFormed recs (toCurrentAt rows) (histories .start) 0
-    && (partFormed recs (historyAt rows) (peaks .start) 0 && partFormed recs sectionsEnd Limits.recordWords 0))
+    && (partFormed recs (historyAt rows) (peaks .start) 0
+    && (partFormed recs (latchAt rows) sectionsEnd 0 && partFormed recs sectionsEnd Limits.recordWords 0)))
 
 -- the words of the nodes
 unfoldable pub nodesFormed : Words → ℕ → ℕ → Bool
 nodesFormed recs nodes steps =
     sectionFormed recs (voltages .start) nodes (currents .start) Limits.voltageEnd
-    && (sectionFormed recs (peaks .start) nodes (peakSteps .start) Limits.voltageEnd && sectionFormed recs (peakSteps .start) nodes sectionsEnd steps)
+    && (sectionFormed recs (peaks .start) nodes (peakSteps .start) Limits.voltageEnd && sectionFormed recs (peakSteps .start) nodes (latches .start) steps)
 
 -- a node's peak against its voltage, and the peak's step against the count of its area
 unfoldable pub peakedBy : List ℕ → Words → ℕ → Bool
@@ -85,5 +87,5 @@ unfoldable pub formedBy : List (List ℕ) → List ℕ → Totals → Words → 
 formedBy plan areas t recs =
     countsFormed recs (t .areas) (t .steps)
     && (nodesFormed recs (t .nodes) (t .steps)
-    && (every (plannedFormed plan recs) (numbers 0 (t .rows))
+    && (every (plannedFormed (t .steps) plan recs) (numbers 0 (t .rows))
     && (tailsFormed recs (t .rows) && every (peakedBy areas recs) (numbers 1 (t .nodes)))))

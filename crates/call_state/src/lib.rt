@@ -5,7 +5,7 @@ ghost use Rattle.whole.specs.Loans.{was};
 ghost use Rattle.paper.specs.Limits as Limits;
 ghost use Rattle.paper.specs.Areas.{Net};
 ghost use Rattle.paper.specs.Records.{peakFormed, recordsFormed, wellFormed};
-ghost use Rattle.call_counts.specs.Counts.{CountIn, LineIn, Counted};
+ghost use Rattle.call_counts.specs.Counts.{CountIn, LineIn, BreakerIn, Counted};
 ghost use Rattle.call_state.specs.Judged.{Long, MappedOf, MappedSome, partFormed, sectionFormed, countsFormed};
 ghost use Rattle.call_state.specs.Judged.{wordsFormed, rowFormed, plannedFormed, tailsFormed, nodesFormed};
 ghost use Rattle.call_state.specs.Judged.{peakedBy, NodesCounted};
@@ -87,10 +87,10 @@ fn held(words: &[i64], at: usize, used: bool, most: i64) -> bool
     whole::within(x, end)
 }
 
-// The words of the row in place i: a branch has a current, a line one at its to end too, an L or a C a history.
-fn words_formed(kind: usize, records: &[i64], i: usize) -> bool
-    requires { ⌜ (i < Limits.rowEnd) × (length (now records) ≡ Limits.recordWords) ⌝ }
-    ensures { λ r. ⌜ r ≡ wordsFormed kind (was records) i ⌝ }
+// The words of the row in place i: a branch has a current, a line one at its to end too, an L or a C a history, an SW a latch.
+fn words_formed(kind: usize, records: &[i64], i: usize, steps: usize) -> bool
+    requires { ⌜ (i < Limits.rowEnd) × (length (now records) ≡ Limits.recordWords) × (steps ≤ Limits.stepsEnd) ⌝ }
+    ensures { λ r. ⌜ r ≡ wordsFormed steps kind (was records) i ⌝ }
 {
     let branch = kinds::is_branch(kind);
     let line = kind == kinds::LINE;
@@ -98,29 +98,38 @@ fn words_formed(kind: usize, records: &[i64], i: usize) -> bool
     let current = held(records, sections::CURRENTS + i, branch, Current::MAX);
     let to_current = held(records, sections::TO_CURRENTS + i, line, Current::MAX);
     let history = held(records, sections::HISTORIES + i, stores, History::MAX);
-    current & (to_current & history)
+    let latch = held(
+        records,
+        sections::LATCHES + i,
+        kind == kinds::SW,
+        steps as i64,
+    );
+    current & (to_current & (history & latch))
 }
 
-// Its words, and the counts at a line's two ends.
-fn row_formed(r: Row, records: &[i64], i: usize) -> bool
-    requires { ⌜ LineIn (now records) r × (i < Limits.rowEnd) × (length (now records) ≡ Limits.recordWords) ⌝ }
-    ensures { λ b. ⌜ b ≡ rowFormed (was records) r i ⌝ }
+// Its words, the counts at a line's two ends, and an SW's latch against its area's count.
+fn row_formed(r: Row, records: &[i64], i: usize, steps: usize) -> bool
+    requires { ⌜ LineIn (now records) r × BreakerIn (now records) r ⌝ }
+    requires { ⌜ (i < Limits.rowEnd) × (length (now records) ≡ Limits.recordWords) × (steps ≤ Limits.stepsEnd) ⌝ }
+    ensures { λ b. ⌜ b ≡ rowFormed steps (was records) r i ⌝ }
 {
-    let words = words_formed(r.kind, records, i);
+    let words = words_formed(r.kind, records, i, steps);
     let counts = call_counts::near(r, records);
-    words & counts
+    let latch = call_counts::latched(r, records, i);
+    words & (counts & latch)
 }
 
 // The same of every row.
-fn rows_formed(plan: &Table, records: &[i64], rows: usize) -> bool
-    requires { ⌜ Counted (now plan) rows (now records) × (length (now records) ≡ Limits.recordWords) ⌝ }
-    ensures { λ r. ⌜ r ≡ every (plannedFormed (was plan) (was records)) (numbers 0 rows) ⌝ }
+fn rows_formed(plan: &Table, records: &[i64], rows: usize, steps: usize) -> bool
+    requires { ⌜ Counted (now plan) rows (now records) ⌝ }
+    requires { ⌜ (length (now records) ≡ Limits.recordWords) × (steps ≤ Limits.stepsEnd) ⌝ }
+    ensures { λ r. ⌜ r ≡ every (plannedFormed steps (was plan) (was records)) (numbers 0 rows) ⌝ }
 {
     let mut all = true;
     let mut i = 0;
     while i < rows {
         let r = plan_rows::row_at(plan, i);
-        let good = row_formed(r, records, i);
+        let good = row_formed(r, records, i, steps);
         all = all & good;
         i += 1;
     }
@@ -135,8 +144,9 @@ fn tails_formed(records: &[i64], rows: usize) -> bool
     let currents = unused(records, sections::CURRENTS + rows, sections::TO_CURRENTS);
     let to_currents = unused(records, sections::TO_CURRENTS + rows, sections::HISTORIES);
     let histories = unused(records, sections::HISTORIES + rows, sections::PEAKS);
+    let latches = unused(records, sections::LATCHES + rows, sections::END);
     let rest = unused(records, sections::END, Room::RECORDS);
-    currents & (to_currents & (histories & rest))
+    currents & (to_currents & (histories & (latches & rest)))
 }
 
 // The words of the nodes: voltages and peaks in range, a peak's step one of the study's.
@@ -162,7 +172,7 @@ fn nodes_formed(records: &[i64], nodes: usize, steps: usize) -> bool
         records,
         sections::PEAK_STEPS,
         nodes,
-        sections::END,
+        sections::LATCHES,
         steps as i64,
     );
     volts & (peaks & their_steps)
@@ -228,7 +238,7 @@ pub fn records_formed(
         return false;
     }
     let nodes = nodes_formed(records, totals.nodes, totals.steps);
-    let rows = rows_formed(plan, records, totals.rows);
+    let rows = rows_formed(plan, records, totals.rows, totals.steps);
     let unused = tails_formed(records, totals.rows);
     let peaks = peaks_formed(areas, records, totals.nodes);
     nodes & (rows & (unused & peaks))

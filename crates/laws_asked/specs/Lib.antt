@@ -1,4 +1,5 @@
 pub mod Asked
+pub mod Breakers
 pub mod Peaked
 pub mod Supply
 pub mod Travel

@@ -60,7 +60,7 @@ peakLendings =
     ∷ lends wired (inRecords 1 (pos 2) ∷ inRecords 337 (pos 2) ∷ []) 1 (Took 1) ∷ lends wired (inRecords 1 (pos 2) ∷ inRecords 336 (pos 2) ∷ []) 1 State
     -- a peak and a step of no node, and the words past the last section
     ∷ lends plain (inRecords 305 (pos 1) ∷ []) 1 State ∷ lends plain (inRecords 337 (pos 1) ∷ []) 1 State
-    ∷ lends plain (inRecords 368 (pos 1) ∷ []) 1 State ∷ lends plain (inRecords 1023 (pos 1) ∷ []) 1 State
+    ∷ lends plain (inRecords 448 (pos 1) ∷ []) 1 State ∷ lends plain (inRecords 1023 (pos 1) ∷ []) 1 State
     ∷ []
 
 pub peak-lendings-hold : map lentAgain peakLendings ≡ peakLendings

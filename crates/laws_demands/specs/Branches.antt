@@ -5,7 +5,7 @@ use Rattle.whole.specs.Plain.{+ℤ-idr, zero-*ℤ, negℤ-+ℤ, length, getD, e
 use Rattle.whole.specs.Plain.{Words, z, word, numbers}
 use Rattle.whole.specs.Folds.{both, getD-map, getD-numbers, length-numbers}
 use Rattle.paper.specs.Limits as Limits
-use Rattle.paper.specs.Rows.{kind, isBranch, isL, isC, isLine, from, to}
+use Rattle.paper.specs.Rows.{kind, isBranch, isL, isC, isLine, isBreaker, isSwitch, from, to}
 use Rattle.paper.specs.Conductance.{conductance}
 use Rattle.paper.specs.Areas.{Net, areaOf, rowArea, step}
 use Rattle.paper.specs.Records.{historyAt, slotCount}
@@ -13,14 +13,15 @@ use Rattle.paper.specs.Legs.{Leg, leg, End, ownEnd, otherEnd, Branch, branch, H
 use Rattle.paper.specs.Apart.{histories-in, end-of, unused-zero}
 use Rattle.paper.specs.Advance.{Memory, written}
 use Rattle.laws_facts.specs.Nets.{rowAt, row-area-from, row-area-to}
-use Rattle.paper.specs.Classes.{line-branch}
+use Rattle.paper.specs.Classes.{line-branch, by-switch}
+use Rattle.paper.specs.Latch.{newLatch}
 use Rattle.laws_local.specs.Sound.{Sound, sound}
 use Rattle.laws_local.specs.Own.{deaf}
 use Rattle.laws_local.specs.Nodes.{NodeOf}
-use Rattle.laws_local.specs.Written.{volt-put, current-put, to-put, history-put}
+use Rattle.laws_local.specs.Written.{volt-put, current-put, to-put, history-put, latch-put}
 use Rattle.laws_local.specs.Slots.{sent, sent-put}
 use Rattle.laws_local.specs.Outcome.{stepOf, legsNow, voltsOf}
-use Rattle.laws_demands.specs.Said.{voltage, fromCurrent, toCurrent, history, fromSent, toSent, gu, gv, offer, Obeys, EndObeys}
+use Rattle.laws_demands.specs.Said.{voltage, fromCurrent, toCurrent, history, latch, fromSent, toSent, gu, gv, offer, Obeys, EndObeys}
 use Rattle.laws_demands.specs.Judged.{Asked}
 use Rattle.laws_demands.specs.Volts.{ground-volt}
 
@@ -96,7 +97,7 @@ module _ (N : Net) (a : ℕ) (m : Memory) (ok : Asked N a m) where
   volt-of (suc p) (inl e) = absurd (omega arith)
   volt-of (suc p) (inr n) = volt-put N a k (m .records) ears v snd (m .records) (ok .long .records) (suc p) n
 
-  -- ---- R, L, C, SW
+  -- ---- R, L, C, SW, SWT
 
   module _ (i : ℕ) (there : i < length (N .rows)) (b : isBranch (rowAt N i) ≡ true) (l : isLine (rowAt N i) ≡ false) (mine : rowArea N (rowAt N i) ≡ a) where
     near : (p : ℕ) → (1 ≤ p → rowArea N (rowAt N i) ≡ areaOf N p) → p ≤ N .nodes → (p ≡ 0) ⊎ NodeOf N a p
@@ -156,12 +157,22 @@ module _ (N : Net) (a : ℕ) (m : Memory) (ok : Asked N a m) where
     kind-is : (j : ℕ) → eqb (kind (rowAt N i)) j ≡ true → kind (rowAt N i) ≡ j
     kind-is j e = eqb-true (kind (rowAt N i)) j e
 
-    never-open : (j : ℕ) → eqb j 5 ≡ false → kind (rowAt N i) ≡ j → isOpen N (m .records) k i ≡ false
+    never-open : (j : ℕ) → (eqb j 5 || eqb j 9) ≡ false → kind (rowAt N i) ≡ j → isOpen N (m .records) k i ≡ false
     unfolding isOpen
     never-open j e q = rw (q, e)
 
     keeps-none : (j : ℕ) → eqb j 2 ≡ false → eqb j 3 ≡ false → kind (rowAt N i) ≡ j → isL (rowAt N i) || isC (rowAt N i) ≡ false
     keeps-none j p q e = rw (e, p, q)
+
+    switch-keeps-none : isSwitch (rowAt N i) ≡ true → isL (rowAt N i) || isC (rowAt N i) ≡ false
+    switch-keeps-none e = by-switch (λ j. (eqb j 2 || eqb j 3) ≡ false) (rowAt N i) e refl refl
+
+    latch-of : isBreaker (rowAt N i) ≡ true → latch (offer N a m) i ≡ newLatch k (rowAt N i) (fromCurrent m i) (fromCurrent (offer N a m) i) (latch m i)
+    unfolding written
+    latch-of e =
+        latch-put N a k (m .records) ears v snd (m .records) (ok .long .records) i there e mine
+        ∙ ap (λ (x : ℤ). newLatch k (rowAt N i) (fromCurrent m i) x (latch m i))
+        (sym (current-put N a k (m .records) ears v snd (m .records) (ok .long .records) i there (ap (λ (e : End). e .own) own-from)))
 
     passes-L : isL (rowAt N i) ≡ true → passedOn v (rowAt N i) wire ≡ echo v wire
     unfolding passedOn
@@ -174,8 +185,9 @@ module _ (N : Net) (a : ℕ) (m : Memory) (ok : Asked N a m) where
     pub plain-obeys : Obeys N k m (offer N a m) i
     plain-obeys = record {
       resistor = λ e. resistive (never-open 1 refl (kind-is 1 e)) (keeps-none 1 refl refl (kind-is 1 e));
-      closed = λ e o. resistive o (keeps-none 5 refl refl (kind-is 5 e));
-      opened = λ e o. open-current o (keeps-none 5 refl refl (kind-is 5 e));
+      closed = λ e o. resistive o (switch-keeps-none e);
+      opened = λ e o. open-current o (switch-keeps-none e);
+      parted = λ e. latch-of e;
       inductor = λ e. closed-current (never-open 2 refl (kind-is 2 e));
       inductor-next = λ e. next-history (rw e) ∙ passes-L e ∙ echo-of (never-open 2 refl (kind-is 2 e));
       capacitor = λ e. closed-current (never-open 3 refl (kind-is 3 e));

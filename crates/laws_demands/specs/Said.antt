@@ -3,11 +3,12 @@
 use Rattle.whole.specs.Plain.{ℕ, zero, suc, _+_, _≤_, _<_, _≡_, _≢_, true, false, cond, List, eqb, ℤ, pos, negℤ}
 use Rattle.whole.specs.Plain.{natAbs, _+ℤ_, _-ℤ_, _*ℤ_, length, getD, z, word, numbers, total}
 use lib.Ieee.{Float, nan}
-use Rattle.paper.specs.Rows.{isBranch, isR, isL, isC, isLine, isSwitch, isFixing, from, to, at, limit}
+use Rattle.paper.specs.Rows.{isBranch, isR, isL, isC, isLine, isBreaker, isSwitch, isFixing, from, to, at, limit}
 use Rattle.paper.specs.Conductance.{conductance}
 use Rattle.paper.specs.Areas.{Net, areaOf, areaCount, rowArea, step, fixed, freeOf}
 use Rattle.paper.specs.Sources.{source, injected}
-use Rattle.paper.specs.Records.{countAt, voltAt, currentAt, toCurrentAt, historyAt, peakAt, peakStepAt, newPeak, newPeakStep, countOf, ownerOf}
+use Rattle.paper.specs.Records.{countAt, voltAt, currentAt, toCurrentAt, historyAt, peakAt, peakStepAt, latchAt, newPeak, newPeakStep, countOf, ownerOf}
+use Rattle.paper.specs.Latch.{newLatch}
 use Rattle.paper.specs.Legs.{Branch, bothLegs, received, heard, isOpen, legsOf}
 use Rattle.paper.specs.Doubles.{asVoltage, nearestOf}
 use Rattle.paper.specs.Elimination.{voltages}
@@ -38,7 +39,7 @@ peakIn N m p = word (m .records) (peakAt N p)
 abbrev pub peakStepIn : Net → Memory → ℕ → ℤ
 peakStepIn N m p = word (m .records) (peakStepAt N p)
 
--- of the row in place i: the current that leaves its from node, that which leaves a line's to node, and the history
+-- of the row in place i: the current that leaves its from node, that which leaves a line's to node, the history, and an SW's latch (02)
 abbrev pub fromCurrent : Memory → ℕ → ℤ
 fromCurrent m i = word (m .records) (currentAt i)
 
@@ -47,6 +48,9 @@ toCurrent m i = word (m .records) (toCurrentAt i)
 
 abbrev pub history : Memory → ℕ → ℤ
 history m i = word (m .records) (historyAt i)
+
+abbrev pub latch : Memory → ℕ → ℤ
+latch m i = word (m .records) (latchAt i)
 
 -- what the two ends of the line in place i sent at step s
 abbrev pub fromSent : Net → Memory → ℕ → ℕ → ℤ
@@ -67,12 +71,15 @@ gv N n i p = g N i *ℤ voltage N n p
 
 -- ---- "Branch equations"
 
--- an R, L, C or SW
+-- an R, L, C, SW or SWT
 pub record Obeys (N : Net) (k : ℕ) (m n : Memory) (i : ℕ) : Type 0 where
-  -- "R and closed SW: i = g·u. Open SW: i = 0 and no conductance. Closed at steps close to open - 1."
+  -- "R and closed SW: i = g·u. Open SW: i = 0 and no conductance."
   pub resistor : isR (rowAt N i) ≡ true → fromCurrent n i ≡ gu N n i
   pub closed : isSwitch (rowAt N i) ≡ true → isOpen N (m .records) k i ≡ false → fromCurrent n i ≡ gu N n i
   pub opened : isSwitch (rowAt N i) ≡ true → isOpen N (m .records) k i ≡ true → fromCurrent n i ≡ z
+  -- "A closed switch now parts after the first step k, at or after open - 1 and later than its closing step, at which its current is zero or of opposite
+  -- sign to that of step k - 1" (02)
+  pub parted : isBreaker (rowAt N i) ≡ true → latch n i ≡ newLatch k (rowAt N i) (fromCurrent m i) (fromCurrent n i) (latch m i)
   -- "L: i = g·u + h; next h is i + g·u."
   pub inductor : isL (rowAt N i) ≡ true → fromCurrent n i ≡ gu N n i +ℤ history m i
   pub inductor-next : isL (rowAt N i) ≡ true → history n i ≡ fromCurrent n i +ℤ gu N n i

@@ -39,7 +39,8 @@ arity-most (suc (suc (suc (suc (suc zero))))) = lit≤ tt
 arity-most (suc (suc (suc (suc (suc (suc zero)))))) = lit≤ tt
 arity-most (suc (suc (suc (suc (suc (suc (suc zero))))))) = lit≤ tt
 arity-most (suc (suc (suc (suc (suc (suc (suc (suc zero)))))))) = lit≤ tt
-arity-most (suc (suc (suc (suc (suc (suc (suc (suc (suc k))))))))) = lit≤ tt
+arity-most (suc (suc (suc (suc (suc (suc (suc (suc (suc zero))))))))) = lit≤ tt
+arity-most (suc (suc (suc (suc (suc (suc (suc (suc (suc (suc k)))))))))) = lit≤ tt
 
 -- no row is longer than its eight words
 pub Short : List Row → Type 0

@@ -9,11 +9,12 @@ use Rattle.whole.specs.Most.{most-at, most-least}
 use Rattle.whole.specs.Prefix.{sum-below, sum-within, total-alone}
 use Rattle.whole.specs.Written.{count-take}
 use Rattle.paper.specs.Limits as Limits
-use Rattle.paper.specs.Rows.{Row, kinds, fieldsOf, sourceKind, kind, isBranch, isSource, isLine, from, to, travel}
+use Rattle.paper.specs.Rows.{Row, kinds, fieldsOf, sourceKind, kind, isBranch, isSource, isLine, isBreaker, from, to, travel}
 use Rattle.paper.specs.Faults.{fixes, slots}
 use Rattle.paper.specs.Network.{tableOf, passes, isNetwork}
 use Rattle.paper.specs.Areas.{Net, netOf, netOn, areaOf, areaCount, rowArea, joins, branchNumber}
-use Rattle.paper.specs.Records.{offset, slotCount}
+use Rattle.paper.specs.Records.{latchAt, offset, slotCount}
+use Rattle.paper.specs.Latch.{holds}
 use Rattle.paper.specs.Sources.{source, held}
 use Rattle.paper.specs.Legs.{isOpen, conducts}
 use Rattle.laws_paths.specs.Paths.{Linked}
@@ -74,7 +75,7 @@ fourth r s rest = go (kind r) refl (s .kindLeast) (s .kindMost)
     short : (k : ℕ) → kind r ≡ k → suc (length (fieldsOf k)) ≤ 4 → word r 4 ≡ pos (travel r)
     short k e h = let q : word r 4 ≡ z = rest (rw e h) in q ∙ ap (λ (x : ℤ). pos (nat x)) (sym q)
 
-    go : (k : ℕ) → kind r ≡ k → 1 ≤ k → k ≤ 8 → word r 4 ≡ pos (travel r)
+    go : (k : ℕ) → kind r ≡ k → 1 ≤ k → k ≤ 9 → word r 4 ≡ pos (travel r)
     go zero e l h = absurd (omega arith)
     go (suc zero) e l h = short 1 e (lit≤ tt)
     go (suc (suc zero)) e l h = short 2 e (lit≤ tt)
@@ -84,7 +85,8 @@ fourth r s rest = go (kind r) refl (s .kindLeast) (s .kindMost)
     go (suc (suc (suc (suc (suc (suc zero)))))) e l h = s .source (rw e) .lastIn .isNat
     go (suc (suc (suc (suc (suc (suc (suc zero))))))) e l h = s .source (rw e) .lastIn .isNat
     go (suc (suc (suc (suc (suc (suc (suc (suc zero)))))))) e l h = s .source (rw e) .lastIn .isNat
-    go (suc (suc (suc (suc (suc (suc (suc (suc (suc k))))))))) e l h = absurd (omega arith)
+    go (suc (suc (suc (suc (suc (suc (suc (suc (suc zero))))))))) e l h = s .switch (rw e) .closesIn .isNat
+    go (suc (suc (suc (suc (suc (suc (suc (suc (suc (suc k)))))))))) e l h = absurd (omega arith)
 
 -- ---- slots: "slots stand in table order"
 
@@ -96,10 +98,13 @@ pub slots-apart : (N : Net) (i j : ℕ) → i < j → i < length (N .rows) → o
 unfolding offset
 slots-apart N i j l h = sum-below [] (slots (N .head)) (N .rows) i j l h
 
--- ---- whatever the records hold, a row conducts the same
-pub conducts-same : (N : Net) (recs recs′ : Words) (k i : ℕ) → conducts N recs k i ≡ conducts N recs′ k i
-unfolding conducts isOpen
-conducts-same N recs recs′ k i = refl
+-- ---- of the records only an SW's latch tells what its row conducts
+pub conducts-same : (N : Net) (recs recs′ : Words) (k i : ℕ) → (isBreaker (rowAt N i) ≡ true → word recs (latchAt i) ≡ word recs′ (latchAt i)) → conducts N recs k i ≡ conducts N recs′ k i
+unfolding conducts isOpen holds
+conducts-same N recs recs′ k i same = elim (isBreaker (rowAt N i)) as (λ b. isBreaker (rowAt N i) ≡ b → conducts N recs k i ≡ conducts N recs′ k i) [
+  | true ↦ λ e. rw (same e)
+  | false ↦ λ e. rw e
+] refl
 
 -- ---- a fixed node's voltage is that of its one VS or VC
 
@@ -128,7 +133,7 @@ pub area-count-most : (N : Net) → NetSound N → areaCount N ≤ N .nodes
 unfolding areaCount
 area-count-most N s = most-least (λ a. a) 0 (N .nodes) (N .areas) 0 (omega arith) (λ i h. let k : i ≤ N .nodes = omega (arith, s .areaLength) in omega (arith, s .areaMost i k))
 
--- the area of an R, L, C or SW is that of each of its ends that is not ground
+-- the area of an R, L, C, SW or SWT is that of each of its ends that is not ground
 module _ (N : Net) (s : NetSound N) (i : ℕ) (h : i < length (N .rows)) (b : isBranch (rowAt N i) ≡ true) (p : isLine (rowAt N i) ≡ false) where
   both-off : 1 ≤ from (rowAt N i) → 1 ≤ to (rowAt N i) → joins (rowAt N i) ≡ true
   unfolding joins

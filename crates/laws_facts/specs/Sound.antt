@@ -7,7 +7,7 @@ use native.Mathlib.Nat.{le-div-iff-mul-le}
 use Rattle.whole.specs.Folds.{and-left, and-right, or-left, or-right}
 use Rattle.paper.specs.Limits as Limits
 use Rattle.paper.specs.Rows.{Row, kinds, fieldsOf, branchKind, sourceKind, fixingKind, kind, noKind, isBranch, isSource, isLine, isSwitch, isFixing, isVC, from, to, size, travel, closes, opens, at, peak, rise, frequency, stepLength}
-use Rattle.paper.specs.Classes.{kind-count, by-branch, by-source}
+use Rattle.paper.specs.Classes.{kind-count, by-branch, by-source, by-switch}
 use Rattle.paper.specs.Conductance.{conductance}
 use Rattle.paper.specs.Faults.{outside, nodeFault, valueFault, travelFault, delay, depth, slots}
 use Rattle.paper.specs.Areas.{named}
@@ -22,7 +22,7 @@ pub record StudySound (h : Row) : Type 0 where
   pub stepsIn : Within 1 Limits.stepsEnd (word h 2)
   pub limitIn : Within 0 Limits.limitEnd (word h 3)
 
--- R, L, C, LINE, SW: its ends are two nodes, and its conductance is in range
+-- R, L, C, LINE, SW, SWT: its ends are two nodes, and its conductance is in range
 pub record BranchSound (step nodes : ℕ) (r : Row) : Type 0 where
   pub fromIn : Within 0 nodes (word r 1)
   pub toIn : Within 0 nodes (word r 2)
@@ -40,7 +40,7 @@ pub record LineSound (head r : Row) : Type 0 where
   pub late : 1 ≤ delay (stepLength head) r
   pub ring : slots head r ≡ 2 * delay (stepLength head) r + depth head r
 
--- SW: "1 ≤ close < open ≤ 1,000,001"
+-- SW, SWT: "1 ≤ close < open ≤ 1,000,001"
 pub record SwitchSound (r : Row) : Type 0 where
   pub closesIn : Within 1 Limits.openEnd (word r 4)
   pub opensIn : Within 1 Limits.openEnd (word r 5)
@@ -60,7 +60,7 @@ pub record SourceSound (nodes : ℕ) (r : Row) : Type 0 where
 pub record RowSound (head : Row) (nodes : ℕ) (r : Row) : Type 0 where
   pub kindIs : word r 0 ≡ pos (kind r)
   pub kindLeast : 1 ≤ kind r
-  pub kindMost : kind r ≤ 8
+  pub kindMost : kind r ≤ 9
   pub branch : isBranch r ≡ true → BranchSound (stepLength head) nodes r
   pub line : isLine r ≡ true → LineSound head r
   pub switch : isSwitch r ≡ true → SwitchSound r
@@ -125,6 +125,7 @@ words r b f =
     (λ e. branch-words 3 _ _ r e (field 3 0 r e f tt) (field 3 1 r e f tt) (field 3 2 r e f tt) (lit≤ tt) (lit≤ tt) (λ q. lit≤ tt))
     (λ e. branch-words 4 _ _ r e (field 4 0 r e f tt) (field 4 1 r e f tt) (field 4 2 r e f tt) (lit≤ tt) (lit≤ tt) (λ q. absurd (omega arith)))
     (λ e. branch-words 5 _ _ r e (field 5 0 r e f tt) (field 5 1 r e f tt) (field 5 2 r e f tt) (lit≤ tt) (lit≤ tt) (λ q. absurd (omega arith)))
+    (λ e. branch-words 9 _ _ r e (field 9 0 r e f tt) (field 9 1 r e f tt) (field 9 2 r e f tt) (lit≤ tt) (lit≤ tt) (λ q. absurd (omega arith)))
     refl
 
 branch-sound : (step : ℕ) (r : Row) → Parts step r → isBranch r ≡ true → BranchSound step Limits.nodeEnd r
@@ -165,12 +166,13 @@ line-sound head r one p l =
 switch-sound : (step : ℕ) (r : Row) → Parts step r → isSwitch r ≡ true → SwitchSound r
 unfolding fieldsOf kinds
 switch-sound step r p s =
-    let e = eqb-true (kind r) 5 s in
-    record {
-      closesIn = within _ _ _ (field 5 3 r e (p .fields) tt);
-      opensIn = within _ _ _ (field 5 4 r e (p .fields) tt);
-      before = leb-false (opens r) (closes r) (unless (isSwitch r) (leb (opens r) (closes r)) (p .order) s);
-    }
+    by-switch (λ k. kind r ≡ k → SwitchSound r) r s
+    (λ e. record { closesIn = within _ _ _ (field 5 3 r e (p .fields) tt); opensIn = within _ _ _ (field 5 4 r e (p .fields) tt); before = order })
+    (λ e. record { closesIn = within _ _ _ (field 9 3 r e (p .fields) tt); opensIn = within _ _ _ (field 9 4 r e (p .fields) tt); before = order })
+    refl
+  where
+    order : closes r < opens r
+    order = leb-false (opens r) (closes r) (unless (isSwitch r) (leb (opens r) (closes r)) (p .order) s)
 
 -- a peak's range goes both ways from 0
 peak-size : (m : ℕ) (x : ℤ) → between (negsuc m) (pos (suc m)) x ≡ true → natAbs x ≤ suc m

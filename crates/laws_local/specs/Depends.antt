@@ -7,11 +7,11 @@ use Rattle.paper.specs.declared.Advance.{Advance}
 use Rattle.paper.specs.declared.Advance.the-variants.{Wait}
 use Rattle.whole.specs.Folds.{and-left, and-right}
 use Rattle.whole.specs.Places.{place}
-use Rattle.paper.specs.Rows.{Row, isLine, from, to, isL, isC}
+use Rattle.paper.specs.Rows.{Row, isLine, isBreaker, from, to, isL, isC}
 use Rattle.paper.specs.Areas.{Net, areaOf, areaCount, branchNumber, rowArea}
-use Rattle.paper.specs.Records.{countAt, countOf, wellFormed, historyAt, ownerOf}
+use Rattle.paper.specs.Records.{countAt, countOf, wellFormed, historyAt, latchAt, ownerOf}
 use Rattle.paper.specs.Legs.{Branch, Heard, here, sentTo, heardBy, heard, legsOf}
-use Rattle.paper.specs.Apart.{histories-in, end-of, owner-of, unused-zero}
+use Rattle.paper.specs.Apart.{histories-in, latches-in, end-of, owner-of, unused-zero}
 use Rattle.paper.specs.Solve.{Step, stop, move, solve}
 use Rattle.paper.specs.Advance.{Memory, Advanced, advanced, written, finish, takeStep, ready, late, waitsFor, firstLate, onNext, onNet}
 use Rattle.laws_facts.specs.Nets.{rowAt}
@@ -76,6 +76,10 @@ module _ (N : Net) (a : ℕ) (m m′ : Memory) (f : Sound N) (l : SameLengths m 
       go true e = own (historyAt i) (owner-of N histories-in i room ∙ rw e o)
       go false e = none m good e ∙ sym (none m′ good′ e)
 
+  -- an SW of the area has its own latch
+  same-latch : (i : ℕ) → i < length (N .rows) → isBreaker (rowAt N i) ≡ true → rowArea N (rowAt N i) ≡ a → word (m .records) (latchAt i) ≡ word (m′ .records) (latchAt i)
+  same-latch i h b o = own (latchAt i) (owner-of N latches-in i (omega (arith, f .rows)) ∙ rw b o)
+
   abbrev k : ℕ
   k = stepOf N a m
 
@@ -89,7 +93,7 @@ module _ (N : Net) (a : ℕ) (m m′ : Memory) (f : Sound N) (l : SameLengths m 
       by-late zero e q r =
           rw (good, good′, q, r, ← same-count q, r, late q r, e)
           (subst (λ (bs : List Branch). SameOut m m′ (finish N a k m (solve N a k (legsNow N a m))) (finish N a k m′ (solve N a k bs)))
-          (legs-same N a k (m .records) (m′ .records) _ same-held ∙ ap (legsOf N a k (m′ .records)) (hears q r))
+          (legs-same N a k (m .records) (m′ .records) _ same-held same-latch ∙ ap (legsOf N a k (m′ .records)) (hears q r))
           (finish-both N a k m m′ (solve N a k (legsNow N a m)) (first-area q) l own))
       by-late (suc n) e q r = rw (good, good′, q, r, ← same-count q, r, late q r, e) (refused-both (Wait (branchNumber N (suc n))) m m′)
 

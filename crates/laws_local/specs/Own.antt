@@ -4,9 +4,9 @@ use Rattle.whole.specs.Plain.{_&&_, _||_, true≢false, List, [], map, eqb, ltb
 use Rattle.whole.specs.Plain.{lt-ltb, arith, Words, z, word, numbers}
 use Rattle.whole.specs.Folds.{and-right, length-numbers, getD-numbers, getD-map}
 use Rattle.paper.specs.Classes.{line-branch}
-use Rattle.paper.specs.Rows.{branchKind, kinds, Row, kind, isBranch, isLine, isL, isC, from, to}
+use Rattle.paper.specs.Rows.{branchKind, kinds, Row, kind, isBranch, isLine, isBreaker, isL, isC, from, to}
 use Rattle.paper.specs.Areas.{Net, areaOf, rowArea, areaCount}
-use Rattle.paper.specs.Records.{countAt, historyAt, ownerOf}
+use Rattle.paper.specs.Records.{countAt, historyAt, latchAt, ownerOf}
 use Rattle.paper.specs.Legs.{leg, ownEnd, otherEnd, Branch, branch, Heard, here, conducts, lineEnd, lineLegs, plainLegs, legsBy, legsOf, branchIn}
 use Rattle.laws_facts.specs.Nets.{rowAt, conducts-same}
 use Rattle.paper.specs.Apart.{counts-in, owner-of}
@@ -121,14 +121,15 @@ keeper r e = go (eqb (kind r) 2) (eqb (kind r) 3) refl refl e
 -- ---- "reads": the legs of area a's step are made of what its rows hold and what it hears
 
 module _ (N : Net) (a k : ℕ) (recs recs′ : Words) (ears : List Heard)
-    (h : (i : ℕ) → i < length (N .rows) → rowArea N (rowAt N i) ≡ a → word recs (historyAt i) ≡ word recs′ (historyAt i)) where
+    (h : (i : ℕ) → i < length (N .rows) → rowArea N (rowAt N i) ≡ a → word recs (historyAt i) ≡ word recs′ (historyAt i))
+    (p : (i : ℕ) → i < length (N .rows) → isBreaker (rowAt N i) ≡ true → rowArea N (rowAt N i) ≡ a → word recs (latchAt i) ≡ word recs′ (latchAt i)) where
   legs-same-at : (i : ℕ) → i < length (N .rows) → legsBy N a k recs ears i ≡ legsBy N a k recs′ ears i
   unfolding legsBy
   legs-same-at i u = go (isLine (rowAt N i)) (isBranch (rowAt N i)) (eqb (rowArea N (rowAt N i)) a) refl
     where
       go : (x y o : Bool) → eqb (rowArea N (rowAt N i)) a ≡ o → byKind N a k recs ears i x (y && o) ≡ byKind N a k recs′ ears i x (y && o)
       go true y o q = refl
-      go false true true q = rw (conducts-same N recs recs′ k i, h i u (eqb-true (rowArea N (rowAt N i)) a q))
+      go false true true q = let o = eqb-true (rowArea N (rowAt N i)) a q in rw (conducts-same N recs recs′ k i (λ b. p i u b o), h i u o)
       go false true false q = refl
       go false false o q = refl
 

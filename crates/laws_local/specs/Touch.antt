@@ -6,10 +6,12 @@ use Rattle.whole.specs.Members.{Among, All, all-among}
 use Rattle.whole.specs.Turns.{run, turns}
 use Rattle.paper.specs.Limits as Limits
 use Rattle.paper.specs.Areas.{Net, areaOf}
-use Rattle.paper.specs.Records.{peakAt, peakStepAt, Section, peaks, peakSteps, sections, ownerOf, nextOf}
-use Rattle.paper.specs.Apart.{peaks-in, peakSteps-in, owner-of, next-of, owned}
+use Rattle.paper.specs.Records.{currentAt, peakAt, peakStepAt, latchAt, Section, peaks, peakSteps, latches, sections, ownerOf, nextOf}
+use Rattle.paper.specs.Apart.{currents-in, peaks-in, peakSteps-in, latches-in, owner-of, next-of, owned}
+use Rattle.paper.specs.Classes.{breaker-branch, breaker-line}
 use Rattle.paper.specs.Legs.{End, Branch}
 use Rattle.paper.specs.Advance.{putIf, found, newRecords, putSent, newStore}
+use Rattle.laws_facts.specs.Nets.{rowAt}
 use Rattle.laws_local.specs.Written.{records-keep, records-own, records-past}
 
 -- word j of w and of w′, before, and of u and of u′, after
@@ -71,13 +73,19 @@ module _ (N : Net) (a k : ℕ) (bs : List Branch) (v w w′ : Words) (own : (j :
 
   next-same : {s : Section} → Among s sections → Same s
   unfolding sections All
-  next-same = all-among Same sections (λ i _ _ _. refl, (λ i _ _ _. refl, (λ i _ _ _. refl, (λ i _ _ _. refl, (λ i _ _ _. refl, (to-peak, (to-step, tt)))))))
+  next-same = all-among Same sections (λ i _ _ _. refl, (λ i _ _ _. refl, (λ i _ _ _. refl, (λ i _ _ _. refl, (λ i _ _ _. refl, (to-peak, (to-step, (to-latch, tt))))))))
     where
       to-peak : Same peaks
       to-peak i l u o = rw (peak-same i l u o)
 
       to-step : Same peakSteps
       to-step i l u o = rw (peak-same i l u o, own-same peakSteps-in i (peakStepAt N (suc i)) l u o (omega arith))
+
+      -- an SW's current is its area's own too
+      to-latch : Same latches
+      to-latch i l u o =
+          let c = own-same currents-in i (currentAt i) l (breaker-branch (rowAt N i) u) (rw (breaker-line (rowAt N i) u) o) refl in
+          rw (c, own-same latches-in i (latchAt i) l u o refl)
 
 pub records-touch : (N : Net) (a k : ℕ) (bs : List Branch) (v w w′ : Words) (j : ℕ) → 1 ≤ a → length w ≡ length w′ → ((j : ℕ) → ownerOf N j ≡ a → word w j ≡ word w′ j)
     → Touch w (newRecords N a k bs v w) w′ (newRecords N a k bs v w′) j

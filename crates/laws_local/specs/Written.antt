@@ -4,11 +4,13 @@ use Rattle.whole.specs.Plain.{_∷_, ltb, pos, length, List·getD-eq-default, e
 use Rattle.whole.specs.Folds.{and-left, and-right}
 use Rattle.whole.specs.Members.{Among}
 use Rattle.paper.specs.Limits as Limits
-use Rattle.paper.specs.Rows.{isLine, isL, isC}
-use Rattle.paper.specs.Areas.{Net, areaOf, areaCount}
-use Rattle.paper.specs.Records.{countAt, voltAt, currentAt, toCurrentAt, historyAt, peakAt, peakStepAt, Found, Section, newPeak, newPeakStep, sections}
+use Rattle.paper.specs.Rows.{isLine, isBreaker, isL, isC}
+use Rattle.paper.specs.Classes.{breaker-branch, breaker-line}
+use Rattle.paper.specs.Areas.{Net, areaOf, areaCount, rowArea}
+use Rattle.paper.specs.Records.{countAt, voltAt, currentAt, toCurrentAt, historyAt, peakAt, peakStepAt, latchAt, Found, Section, newPeak, newPeakStep, sections}
 use Rattle.paper.specs.Records.{spot, ownerIn, ownerOf, nextOf}
-use Rattle.paper.specs.Apart.{counts-in, voltages-in, currents-in, toCurrents-in, histories-in, peaks-in, peakSteps-in, owner-of, next-of}
+use Rattle.paper.specs.Latch.{newLatch}
+use Rattle.paper.specs.Apart.{counts-in, voltages-in, currents-in, toCurrents-in, histories-in, peaks-in, peakSteps-in, latches-in, owner-of, next-of}
 use Rattle.paper.specs.Legs.{Branch, Heard, legsBy, legsOf, current, passedOn}
 use Rattle.paper.specs.Advance.{renewed, found, newRecords}
 use Rattle.laws_facts.specs.Nets.{rowAt}
@@ -82,6 +84,14 @@ module _ (N : Net) (a : ℕ) (f : Sound N) where
   pub peak-step-own : (n : ℕ) → NodeOf N a n → ownerOf N (peakStepAt N n) ≡ a
   peak-step-own zero h = absurd (omega (arith, h .low))
   peak-step-own (suc j) h = own-at peakSteps-in j _ (omega (arith, h .high, f .nodes)) (omega arith) (node-own N a j h)
+
+  -- an SW's current and its latch, too
+  module _ (i : ℕ) (h : i < length (N .rows)) (b : isBreaker (rowAt N i) ≡ true) (o : rowArea N (rowAt N i) ≡ a) where
+    pub latch-own : ownerOf N (latchAt i) ≡ a
+    latch-own = own-at latches-in i _ (omega (arith, f .rows)) refl (rw b o)
+
+    pub breaker-own : ownerOf N (currentAt i) ≡ a
+    breaker-own = own-at currents-in i _ (omega (arith, f .rows)) refl (rw (breaker-branch (rowAt N i) b, breaker-line (rowAt N i) b) o)
 
 -- ---- section by section
 
@@ -160,3 +170,13 @@ module _ (N : Net) (a k : ℕ) (recs : Words) (ears : List Heard) (v : Words) wh
           let q = rw (line-no (rowAt N i) c) at (from-own N a k recs ears i (and-right (isL (rowAt N i) || isC (rowAt N i)) (by i .fromEnd .own) o)) in
           section-own N a k bs v w histories-in i (omega (arith, f .rows)) (omega (arith, f .rows)) (rw c q)
           ∙ ap (λ (b : Branch). passedOn v (b .row) (b .fromEnd .wire)) (branch-is N a k recs ears i h) ∙ rw (row-is N a k recs ears i)
+
+      -- "a closed switch now parts after the first step k" (02)
+      module _ (b : isBreaker (rowAt N i) ≡ true) where
+        pub latch-put : rowArea N (rowAt N i) ≡ a → word (new w) (latchAt i) ≡ newLatch k (rowAt N i) (word w (currentAt i)) (current v (by i .fromEnd .wire)) (word w (latchAt i))
+        latch-put o =
+            section-own N a k bs v w latches-in i (omega (arith, f .rows)) (omega (arith, f .rows)) (rw b o)
+            ∙ ap (λ (x : Branch). newLatch k (rowAt N i) (word w (currentAt i)) (current v (x .fromEnd .wire)) (word w (latchAt i))) (branch-is N a k recs ears i h)
+
+        pub latch-keep : rowArea N (rowAt N i) ≢ a → word (new w) (latchAt i) ≡ word w (latchAt i)
+        latch-keep n = section-keep N a k bs v w latches-in i (omega (arith, f .rows)) (λ e. n (rw b at e))

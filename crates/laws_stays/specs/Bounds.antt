@@ -1,17 +1,19 @@
 -- Every word that an accepted step writes is within its end. Assumes nothing.
-use Rattle.whole.specs.Plain.{ℕ, suc, _+_, _%_, _≤_, _<_, _≡_, refl, Bool, true, _&&_, List, ltb, ℤ, natAbs, length}
-use Rattle.whole.specs.Plain.{getD-replicate, ltb-true, le-trans, mod-lt, ℕ-discrete, decLt, arith, Words, word}
+use Rattle.whole.specs.Plain.{ℕ, suc, _+_, _%_, _≤_, _<_, _≡_, refl, Bool, true, not, _&&_, List, ltb, ℤ, natAbs, ltZ, length}
+use Rattle.whole.specs.Plain.{getD-replicate, ltb-true, le-trans, mod-lt, ℕ-discrete, decLt, arith, Words, z, word}
 use Rattle.whole.specs.Members.{Among, All, all-among}
 use Rattle.whole.specs.Folds.{and-left}
 use Rattle.whole.specs.TurnLaws.{turns-keeps}
-use Rattle.paper.specs.Classes.{line-branch}
+use Rattle.paper.specs.Classes.{line-branch, breaker-branch}
 use Rattle.paper.specs.Limits as Limits
 use Rattle.paper.specs.Rows.{isLine, steps}
 use Rattle.paper.specs.Areas.{Net, areaCount}
-use Rattle.paper.specs.Records.{peakAt, peakStepAt, slotCount, Found, Section, currents, toCurrents, histories, outdone, newPeak, newPeakStep, peaks, peakSteps, sections, endOf, ownerOf}
-use Rattle.paper.specs.Apart.{peaks-in, peakSteps-in, end-of, end-most, next-of, owned}
+use Rattle.paper.specs.Records.{currentAt, peakAt, peakStepAt, latchAt, slotCount, Found, Section, currents, toCurrents, histories, outdone, newPeak, newPeakStep, peaks, peakSteps, latches, sections}
+use Rattle.paper.specs.Records.{endOf, ownerOf}
+use Rattle.paper.specs.Latch.{parts, newLatch}
+use Rattle.paper.specs.Apart.{peaks-in, peakSteps-in, latches-in, end-of, end-most, next-of, owned}
 use Rattle.paper.specs.Kept.{either}
-use Rattle.paper.specs.Legs.{End, Branch, Heard, heard, legsBy, legsOf, branchIn, passedOn}
+use Rattle.paper.specs.Legs.{End, Branch, Heard, heard, legsBy, legsOf, branchIn, current, passedOn}
 use Rattle.paper.specs.Advance.{Memory, putIf, found, newRecords, putSent, newStore}
 use Rattle.laws_facts.specs.Nets.{NetSound, rowAt}
 use Rattle.laws_local.specs.Sound.{Sound, sound, row-there}
@@ -58,8 +60,8 @@ module _ (N : Net) (s : NetSound N) (m : Memory) (f : Formed N m) (a k : ℕ) (o
     branch-at = branch-is N a k (m .records) ears
 
     small : {s : Section} → Among s sections → Small s
-    unfolding sections All newPeak newPeakStep
-    small = all-among Small sections (λ i u. room, (λ i u. volts (suc i), (from-small, (to-small, (history-small, (peak-small, (step-small, tt)))))))
+    unfolding sections All newPeak newPeakStep newLatch
+    small = all-among Small sections (λ i u. room, (λ i u. volts (suc i), (from-small, (to-small, (history-small, (peak-small, (step-small, (latch-small, tt))))))))
       where
         from-small : Small currents
         from-small i u = rw (branch-at i (row-there N i u)) (current-size v (by i .fromEnd .wire) volts (ends-ranged N m f s a k i .0))
@@ -83,6 +85,12 @@ module _ (N : Net) (s : NetSound N) (m : Memory) (f : Formed N m) (a k : ℕ) (o
         step-small : Small peakSteps
         step-small i u =
             either (λ (x : ℤ). natAbs x ≤ steps (N .head)) (outdone k (word v (suc i)) (word (m .records) (peakAt N (suc i)))) _ _ room (stood peakSteps-in refl i (peakStepAt N (suc i)) u (omega arith))
+
+        latch-small : Small latches
+        latch-small i u =
+            either (λ (x : ℤ). natAbs x ≤ steps (N .head))
+            (not (ltZ z (word (m .records) (latchAt i))) && parts k (rowAt N i) (word (m .records) (currentAt i)) (current v (branchIn bs i .fromEnd .wire))) _ _ room
+            (le-trans (f .records (latchAt i)) (end-most N latches-in i (omega (arith, row-there N i (breaker-branch (rowAt N i) u), s .rowMost))))
 
     pub records-bounded : Bounded (endOf N) (newRecords N a k bs v (m .records))
     records-bounded j = go (ℕ-discrete (ownerOf N j) a) (decLt j (length (m .records)))

@@ -1,4 +1,5 @@
 pub mod Formed
+pub mod Latches
 pub mod Volts
 pub mod Sizes
 pub mod Bounds

@@ -1,25 +1,29 @@
 -- T-fresh and T-stays: what reset writes is well formed, and a call leaves a well-formed state well formed. Assumes nothing.
-use Rattle.whole.specs.Plain.{ℕ, zero, suc, _+_, _-_, _≤_, _<_, _≡_, refl, sym, ap, _∙_, _≢_, Bool, true, false, cond, _||_, List}
+use Rattle.whole.specs.Plain.{ℕ, zero, suc, _+_, _-_, _≤_, _<_, max, _≡_, refl, sym, ap, _∙_, _≢_, Bool, true, false, cond, _||_, List}
 use Rattle.whole.specs.Plain.{true≢false, eqb, ℤ, pos, negsuc, natAbs, ltZ, nonNeg, length, replicate, ltb-false, ℕ-discrete, arith, Words, z, word, nat}
 use Rattle.paper.specs.declared.Advance.{Advance}
 use Rattle.paper.specs.Limits as Limits
 use Rattle.paper.specs.Answers.{accepted}
-use Rattle.paper.specs.Rows.{from, to, steps}
-use Rattle.paper.specs.Areas.{Net, areaOf, areaCount}
-use Rattle.paper.specs.Records.{countAt, voltAt, peakAt, peakStepAt, countOf, outdone, newPeak, newPeakStep, wellFormed}
+use Rattle.paper.specs.Rows.{isBreaker, from, to, steps}
+use Rattle.paper.specs.Classes.{breaker-branch}
+use Rattle.paper.specs.Areas.{Net, areaOf, areaCount, rowArea, step}
+use Rattle.paper.specs.Records.{countAt, voltAt, peakAt, peakStepAt, latchAt, countOf, outdone, newPeak, newPeakStep, wellFormed}
+use Rattle.paper.specs.Latch.{latchFormed}
 use Rattle.paper.specs.Legs.{Branch, Heard, heard, legsBy}
 use Rattle.paper.specs.Solve.{stop, move, solve}
 use Rattle.paper.specs.Advance.{Memory, written, onNet}
 use Rattle.paper.specs.Resetting.{fresh}
+use Rattle.laws_facts.specs.Sound.{BranchSound}
 use Rattle.laws_facts.specs.Nets.{NetSound, rowAt, area-of}
 use Rattle.laws_local.specs.Sound.{Sound, sound}
 use Rattle.laws_local.specs.Own.{other-count}
 use Rattle.laws_local.specs.Nodes.{NodeOf}
-use Rattle.laws_local.specs.Written.{new, records-length, records-keep, count-put, volt-put, volt-keep, peak-put, peak-keep, peak-step-put, peak-step-keep}
+use Rattle.laws_local.specs.Written.{new, records-length, records-keep, count-put, volt-put, volt-keep, peak-put, peak-keep, peak-step-put, peak-step-keep, latch-put, latch-keep}
 use Rattle.laws_local.specs.Slots.{delayAt, sent-length}
 use Rattle.laws_local.specs.Waits.{Free, not-late}
 use Rattle.laws_local.specs.Outcome.{stepOf, legsNow, voltsOf, large, Taken, taken, refused, Solving, floats, leaves, tips, exceeds, solves, solving}
-use Rattle.laws_stays.specs.Formed.{Peaked, Formed, formed, well-formed}
+use Rattle.laws_stays.specs.Formed.{Peaked, latchIn, Latched, Formed, formed, well-formed}
+use Rattle.laws_stays.specs.Latches.{latch-later, latch-next}
 use Rattle.laws_stays.specs.Volts.{AllVolts, step-volts}
 use Rattle.laws_stays.specs.Sizes.{InRange, none-beyond}
 use Rattle.laws_stays.specs.Bounds.{records-bounded, froms-bounded, tos-bounded}
@@ -32,7 +36,7 @@ zero-word (suc n) zero = refl
 zero-word (suc n) (suc j) = zero-word n j
 
 fresh-formed : (N : Net) → Formed N fresh
-unfolding fresh
+unfolding fresh latchFormed
 fresh-formed N =
     record {
       signs = λ j _ _. rw (zero-word Limits.recordWords j);
@@ -44,6 +48,7 @@ fresh-formed N =
           let p : word (replicate Limits.recordWords z) (peakAt N n) ≡ z = zero-word Limits.recordWords (peakAt N n) in
           let s : word (replicate Limits.recordWords z) (peakStepAt N n) ≡ z = zero-word Limits.recordWords (peakStepAt N n) in
           record { peak-sign = rw p; step-sign = rw s; reached = rw (v, p) (omega arith); counted = rw s (omega arith) };
+      latches = λ i _ _. rw (zero-word Limits.recordWords (latchAt i));
       froms = λ j. rw (zero-word Limits.storeWords j) (omega arith);
       tos = λ j. rw (zero-word Limits.storeWords j) (omega arith);
     }
@@ -118,6 +123,19 @@ module _ (N : Net) (f : Sound N) (m : Memory) (long : Long m) (a k : ℕ) (one :
               counted = rw (r, h .area, counted) (omega arith);
             }
 
+  -- an SW: of the area, its latch is k or as it was; of another area, nothing of it is touched
+  module _ (i : ℕ) (h : i < length (N .rows)) (b : isBreaker (rowAt N i) ≡ true) (old : Latched N (m .records) i) where
+    own-latched : rowArea N (rowAt N i) ≡ a → k ≡ suc (countOf (m .records) a) → Latched N after i
+    own-latched o e =
+        let c = countOf (m .records) (rowArea N (rowAt N i)) in
+        let q = latch-later (rowAt N i) (latchIn (m .records) i) c k (rw o (omega arith)) old in
+        rw (latch-put N a k (m .records) ears v f (m .records) (long .records) i h b o, o, counted) (latch-next k (rowAt N i) _ _ _ (omega arith) q)
+
+    other-latched : rowArea N (rowAt N i) ≢ a → 1 ≤ rowArea N (rowAt N i) → Latched N after i
+    other-latched n one′ =
+        let u = uncounted (rowArea N (rowAt N i)) one′ (omega (arith, area-of N (max (from (rowAt N i)) (to (rowAt N i))), f .areas)) n in
+        rw (latch-keep N a k (m .records) ears v f (m .records) (long .records) i h b n, u) old
+
   -- a node of another area: nothing of it is touched
   other-peaked : (n : ℕ) → 1 ≤ n → n ≤ N .nodes → 1 ≤ areaOf N n → areaOf N n ≢ a → Peaked N (m .records) n → Peaked N after n
   other-peaked n low high one′ o old =
@@ -178,6 +196,7 @@ module _ (N : Net) (s : NetSound N) (a : ℕ) (m : Memory) (long : Long m) (good
             (snd .to-area i l) (omega (arith, area-of N (to (rowAt N i)), snd .areas)) (snd .from-area i l) (omega (arith, area-of N (from (rowAt N i)), snd .areas)) refl
             (free i h l .at-to) (f .to-near i h l);
         peaks = peaks;
+        latches = latches;
         froms = froms-bounded N s m f a k one most room v volts inside;
         tos = tos-bounded N s m f a k one most room v volts inside;
       }
@@ -194,6 +213,18 @@ module _ (N : Net) (s : NetSound N) (a : ℕ) (m : Memory) (long : Long m) (good
           go : Dec (areaOf N n ≡ a) → Peaked N (new N a k (m .records) ears v (m .records)) n
           go (yes e) = own-peaked N snd m long a k one most ears v n (record { area = e; low = l; high = h }) (f .peaks n l h) (omega arith)
           go (no e) = other-peaked N snd m long a k one most ears v n l h (s .areaLeast n l h) e (f .peaks n l h)
+
+      latches : (i : ℕ) → i < length (N .rows) → isBreaker (rowAt N i) ≡ true → Latched N (new N a k (m .records) ears v (m .records)) i
+      latches i h b = go (ℕ-discrete (rowArea N (rowAt N i)) a)
+        where
+          ends : BranchSound (step N) (N .nodes) (rowAt N i)
+          ends = s .row i h .branch (breaker-branch (rowAt N i) b)
+
+          go : Dec (rowArea N (rowAt N i) ≡ a) → Latched N (new N a k (m .records) ears v (m .records)) i
+          go (yes e) = own-latched N snd m long a k one most ears v i h b (f .latches i h b) e refl
+          go (no e) =
+              other-latched N snd m long a k one most ears v i h b (f .latches i h b) e
+              (s .areaLeast (max (from (rowAt N i)) (to (rowAt N i))) (omega (arith, ends .apart)) (omega (arith, ends .fromIn .most, ends .toIn .most)))
 
       sign : (j : ℕ) → j < 32 → nonNeg (word (new N a k (m .records) ears v (m .records)) j) ≡ true
       sign j h = go (ℕ-discrete j (countAt a))

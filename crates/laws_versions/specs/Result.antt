@@ -7,11 +7,11 @@ use Rattle.whole.specs.Members.{Among, All, all-among}
 use Rattle.whole.specs.Places.{place, Least, place-none, place-least}
 use Rattle.paper.specs.Rows.{Row, isLine, from, to}
 use Rattle.paper.specs.Areas.{Net, areaOf, rowArea}
-use Rattle.paper.specs.Records.{countAt, currentAt, Section, counts, voltages, currents, toCurrents, histories, newPeak, newPeakStep, peaks, peakSteps, sections, ownerOf}
+use Rattle.paper.specs.Records.{countAt, currentAt, Section, counts, voltages, currents, toCurrents, histories, newPeak, newPeakStep, peaks, peakSteps, latches, sections, ownerOf}
 use Rattle.paper.specs.Apart.{owned}
 use Rattle.paper.specs.Advance.{Memory, memory}
 use Rattle.laws_facts.specs.Nets.{NetSound, rowAt, netIn}
-use Rattle.paper.specs.Classes.{line-branch}
+use Rattle.paper.specs.Classes.{line-branch, breaker-branch, breaker-line}
 use Rattle.laws_local.specs.Sound.{row-there}
 use Rattle.laws_local.specs.Own.{line-no, keeper}
 use Rattle.laws_local.specs.Nodes.{NodeOf}
@@ -23,7 +23,7 @@ use Rattle.laws_demands.specs.Judged.{asked}
 use Rattle.laws_demands.specs.Passing.{AllInRange}
 use Rattle.laws_demands.specs.Says.{Ready}
 use Rattle.laws_demands.specs.Step.{offered}
-use Rattle.laws_versions.specs.Volts.{volt-one, plain-one, history-one, current-one, sends-one}
+use Rattle.laws_versions.specs.Volts.{volt-one, plain-one, history-one, latch-one, current-one, sends-one}
 
 module _ (N : Net) (s : NetSound N) (a k : ℕ) (h : IsArea N a) (m n n′ : Memory) (S : Offered N a k m n) (S′ : Offered N a k m n′) where
   from-node : (i : ℕ) → i < length (N .rows) → isLine (rowAt N i) ≡ true → areaOf N (from (rowAt N i)) ≡ a → NodeOf N a (from (rowAt N i))
@@ -84,9 +84,12 @@ module _ (N : Net) (s : NetSound N) (a k : ℕ) (h : IsArea N a) (m n n′ : Mem
       let q = node-told i u o in
       rw e at (S .peak-step (suc i) q ∙ ap (λ (x : ℤ). newPeakStep k x (peakIn N m (suc i)) (peakStepIn N m (suc i))) (volt-one N s a k m n n′ S S′ (suc i) q) ∙ sym (S′ .peak-step (suc i) q))
 
+  latch-told : Told latches
+  latch-told i b o = let c = breaker-branch (rowAt N i) b in latch-one N s a k m n n′ S S′ i (row-there N i c) c (breaker-line (rowAt N i) b) o b
+
   told : {t : Section} → Among t sections → Told t
   unfolding sections All
-  told = all-among Told sections (count-told, (volt-told, (current-told, (to-told, (history-told, (peak-told, (step-told, tt)))))))
+  told = all-among Told sections (count-told, (volt-told, (current-told, (to-told, (history-told, (peak-told, (step-told, (latch-told, tt))))))))
 
   record-word : (j : ℕ) → Same j
   record-word j = go (ℕ-discrete (ownerOf N j) a)

@@ -7,15 +7,16 @@ use Rattle.paper.specs.Doubles.{tenths-of}
 use Rattle.whole.specs.Folds.{and-left, and-right, none-if}
 use Rattle.whole.specs.Members.{Among}
 use Rattle.whole.specs.Places.{place, place-none, place-least}
-use Rattle.paper.specs.Rows.{Row, kind, isBranch, isL, isC, isLine, isSwitch, isFixing, from, to, at}
+use Rattle.paper.specs.Rows.{Row, kind, isBranch, isL, isC, isLine, isBreaker, isSwitch, isFixing, from, to, at}
 use Rattle.paper.specs.Classes.{by-branch}
 use Rattle.paper.specs.Faults.{fixes}
 use Rattle.paper.specs.Areas.{Net, rowArea, fixed, freeOf}
+use Rattle.paper.specs.Latch.{newLatch}
 use Rattle.paper.specs.Legs.{received, isOpen}
 use Rattle.paper.specs.Advance.{Memory}
 use Rattle.laws_facts.specs.Nets.{NetSound, rowAt, row-area-from, row-area-to}
 use Rattle.laws_local.specs.Nodes.{NodeOf, of-free}
-use Rattle.laws_demands.specs.Said.{voltage, fromCurrent, history, gu, gv, Obeys, EndObeys, Offered}
+use Rattle.laws_demands.specs.Said.{voltage, fromCurrent, history, latch, gu, gv, Obeys, EndObeys, Offered}
 
 -- where a number stands in a list
 among-place : (l : List ℕ) {p : ℕ} → Among p l → (q : ℕ) × (q < length l) × (getD l q 0 ≡ p)
@@ -89,7 +90,12 @@ module _ (N : Net) (s : NetSound N) (a k : ℕ) (m n n′ : Memory) (S : Offered
         (λ e. O .capacitor (rw e) ∙ ap (λ (u : ℤ). u +ℤ history m i) gu-one ∙ sym (O′ .capacitor (rw e)))
         (λ e. absurd (true≢false (sym (eq-eqb (kind r) 4 e) ∙ l)))
         (λ e. switch-one (rw e))
+        (λ e. switch-one (rw e))
         refl
+
+    -- the latch goes by two currents and by what stood there, which are one
+    pub latch-one : isBreaker r ≡ true → latch n i ≡ latch n′ i
+    latch-one e = O .parted e ∙ ap (λ (x : ℤ). newLatch k r (fromCurrent m i) x (latch m i)) plain-one ∙ sym (O′ .parted e)
 
     pub history-one : isL r || isC r ≡ true → history n i ≡ history n′ i
     history-one e = go (isL r) (isC r) refl refl e

@@ -31,7 +31,7 @@ stepOf t k = record { taken = k; areas = t .areas; limit = t .limit }
 -- the tables serve whatever the factors' table holds
 pub record Begins (net : Words) (plan : List (List ℕ)) (totals : Totals) (owns : List (List ℕ)) (legs : List Words) (nodes : List ℕ) (sources : List Words) (m : Memory) : Type 0 where
   pub of : Of (netIn net) plan totals
-  pub tables : (f : List (List Float)) → Square f → AllTables net 1 plan owns legs nodes sources f
+  pub tables : (f : List (List Float)) → Square f → AllTables net 1 (m .records) plan owns legs nodes sources f
   pub level : InStep net (stepsTaken (netIn net) (m .records)) m
 
 -- of some network
@@ -45,7 +45,7 @@ pub record Pieces (plan : List (List ℕ)) (totals : Totals) (owns : List (List 
 
 -- k steps are taken, and what is listed of them stands in the buffer
 pub record Along (net : Words) (plan : List (List ℕ)) (nodes : List ℕ) (sources : List Words) (m : Memory) (out : List ℕ) (owns : List (List ℕ)) (legs : List Words) (f : List (List Float)) (now : Memory) (at k : ℕ) (b : List ℕ) : Type 0 where
-  pub tables : AllTables net (suc k) plan owns legs nodes sources f
+  pub tables : AllTables net (suc k) (now .records) plan owns legs nodes sources f
   pub level : InStep net k now
   pub sofar : Sofar net (pieceOf net (netIn net) m (length out)) out k now at b
 

@@ -72,7 +72,7 @@ module _ {net : Words} {k a : ℕ} {m m′ : Memory} {r : Advance} (p : InPart n
 
 -- the areas before a, from memory m
 pub record Passed (net : Words) (k : ℕ) (plan : List (List ℕ)) (nodes : List ℕ) (sources : List Words) (m : Memory) (a : ℕ) (owns : List (List ℕ)) (legs : List Words) (f : List (List Float)) (now : Memory) : Type 0 where
-  pub tables : AllTables net (suc k) plan owns legs nodes sources f
+  pub tables : AllTables net (suc k) (now .records) plan owns legs nodes sources f
   pub part : InPart net k a now
   pub leads : (out : List ℕ) → turnsFrom net k a now out ≡ turnsFrom net k 1 m out
 
@@ -122,7 +122,7 @@ module _ {net : Words} {step : Step} {plan owns₀ owns : List (List ℕ)} {legs
     there : a ≤ areaCount (netIn net)
     there = omega (arith, s .areas)
 
-    pub tabled : Tables (netIn net) 1 (areaCount (netIn net)) (t .k) plan owns legs nodes sources f
+    pub tabled : Tables (netIn net) 1 (areaCount (netIn net)) (t .k) (now .records) plan owns legs nodes sources f
     tabled = rw (q, add-one (step .taken)) (p .tables)
 
     pub stepping : Stepping (netIn net) 1 (areaCount (netIn net)) t now
@@ -145,7 +145,7 @@ module _ {net : Words} {step : Step} {plan owns₀ owns : List (List ℕ)} {legs
       done : Paper.advanced r m′ ≡ Paper.ready (netIn net) a (suc (step .taken)) now
       done = rw (q, add-one (step .taken)) at (moved .step)
 
-      kept-tables : AllTables net (suc (step .taken)) plan owns′ legs′ nodes sources f′
+      kept-tables : AllTables net (suc (step .taken)) (m′ .records) plan owns′ legs′ nodes sources f′
       kept-tables = rw (q, add-one (step .taken)) at (moved .tables)
 
       pub passed-on : accepted r ≡ true → Passed net (step .taken) plan nodes sources m (a + 1) owns′ legs′ f′ m′

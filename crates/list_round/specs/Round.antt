@@ -35,8 +35,8 @@ pub record Rounds (net : Words) (k : ℕ) (m : Memory) (r : Round) (after : Memo
 
 -- ---- by the tables of all areas of the record's network
 
-abbrev pub AllTables : Words → ℕ → List (List ℕ) → List (List ℕ) → List Words → List ℕ → List Words → List (List Float) → Type 0
-AllTables net k plan owns legs nodes sources f = Tables (netIn net) 1 (areaCount (netIn net)) k plan owns legs nodes sources f
+abbrev pub AllTables : Words → ℕ → Words → List (List ℕ) → List (List ℕ) → List Words → List ℕ → List Words → List (List Float) → Type 0
+AllTables net k recs plan owns legs nodes sources f = Tables (netIn net) 1 (areaCount (netIn net)) k recs plan owns legs nodes sources f
 
 -- area a's turn in a step
 abbrev pub turnOf : Step → ℕ → Turn
@@ -44,7 +44,7 @@ turnOf step a = record { area = a; k = step .taken + 1; limit = step .limit }
 
 -- the areas are in step, and a step is left
 pub record Starts (net : Words) (step : Step) (plan owns : List (List ℕ)) (legs : List Words) (nodes : List ℕ) (sources : List Words) (f : List (List Float)) (m : Memory) : Type 0 where
-  pub tables : AllTables net (suc (step .taken)) plan owns legs nodes sources f
+  pub tables : AllTables net (suc (step .taken)) (m .records) plan owns legs nodes sources f
   pub level : InStep net (step .taken) m
   pub left : step .taken < steps (netIn net .head)
   pub areas : step .areas ≡ areaCount (netIn net)
@@ -56,7 +56,7 @@ pub record Startable (step : Step) (plan owns : List (List ℕ)) (legs : List Wo
   pub starts : Starts net step plan owns legs nodes sources f (memory recs froms tos)
 
 pub record Ran (net : Words) (k : ℕ) (plan : List (List ℕ)) (nodes : List ℕ) (sources : List Words) (m : Memory) (r : Round) (owns : List (List ℕ)) (legs : List Words) (f : List (List Float)) (after : Memory) : Type 0 where
-  pub tables : AllTables net (suc k) plan owns legs nodes sources f
+  pub tables : AllTables net (suc k) (after .records) plan owns legs nodes sources f
   pub rounds : Rounds net k m r after
 
 -- of every network

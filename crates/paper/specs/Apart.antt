@@ -1,15 +1,15 @@
 -- The sections of the records do not overlap: a word of a section is its first plus a place, and every word is one of these or unused. Assumes nothing.
 use Rattle.whole.specs.Plain.{ℕ, _+_, _-_, _≤_, _<_, _≡_, refl, sym, ap, _∙_, _⊎_, inl, inr, Bool, true, false, cond}
 use Rattle.whole.specs.Plain.{_&&_, List, [], _∷_, List·Memᴰ·not-nil, List·Memᴰ·cases-cons, leb, ltb, ℤ, pos, negsuc}
-use Rattle.whole.specs.Plain.{natAbs, nonNeg, getD, take, length-map, List·getD-eq-default, leb-true, ltb-true, le-leb}
+use Rattle.whole.specs.Plain.{natAbs, nonNeg, getD, take, length, length-map, List·getD-eq-default, leb-true, ltb-true, le-leb}
 use Rattle.whole.specs.Plain.{lt-ltb, le-ltb, decLt, arith, Words, z, word, every, within, numbers}
 use Rattle.whole.specs.Folds.{and-left, and-right, getD-map, length-numbers, getD-numbers}
 use Rattle.whole.specs.Members.{Among, top, below, All, all-among}
 use Rattle.whole.specs.Within.{within-at, at-within}
 use Rattle.paper.specs.Limits as Limits
 use Rattle.paper.specs.Areas.{Net}
-use Rattle.paper.specs.Records.{Found, Section, spot, unused, sections, sectionsEnd, spotIn, spotOf, endIn, ownerIn, nextIn, endOf, ownerOf, nextOf, ends, near, peaked, recordsFormed, storeFormed, wellFormed}
-use Rattle.paper.specs.Records.{counts, voltages, currents, toCurrents, histories, peaks, peakSteps}
+use Rattle.paper.specs.Records.{Found, Section, spot, unused, sections, sectionsEnd, spotIn, spotOf, endIn, ownerIn, nextIn, endOf, ownerOf, nextOf, ends, near, peaked, latched, recordsFormed, storeFormed, wellFormed}
+use Rattle.paper.specs.Records.{counts, voltages, currents, toCurrents, histories, peaks, peakSteps, latches}
 
 -- each starts where the last one has ended, or later
 unfoldable rising : ℕ → List Section → Bool
@@ -79,6 +79,10 @@ peaks-in = below (below (below (below (below (top refl)))))
 pub peakSteps-in : Among peakSteps sections
 unfolding sections
 peakSteps-in = below (below (below (below (below (below (top refl))))))
+
+pub latches-in : Among latches sections
+unfolding sections
+latches-in = below (below (below (below (below (below (below (top refl)))))))
 
 -- ---- so, of a word of a section
 module _ (N : Net) {s : Section} (m : Among s sections) (j : ℕ) (h : j < s .words) where
@@ -153,7 +157,7 @@ owned N a j one o = go (stands j)
 
 inside : {s : Section} → Among s sections → s .start + s .words ≤ sectionsEnd
 unfolding sections All
-inside = all-among (λ s. s .start + s .words ≤ sectionsEnd) sections (omega arith, (omega arith, (omega arith, (omega arith, (omega arith, (omega arith, (omega arith, tt)))))))
+inside = all-among (λ s. s .start + s .words ≤ sectionsEnd) sections (omega arith, (omega arith, (omega arith, (omega arith, (omega arith, (omega arith, (omega arith, (omega arith, tt))))))))
 
 pub end-past : (N : Net) (j : ℕ) → sectionsEnd ≤ j → endOf N j ≡ 0
 unfolding endOf
@@ -191,7 +195,8 @@ records-within N recs e =
     let c₁ = every nonNeg (take Limits.nodeEnd recs) in
     let c₂ = within (ends N) recs in
     let c₃ = every (near N recs) (N .rows) in
-    and-right c₁ c₂ (and-left (c₁ && c₂) c₃ (and-left (c₁ && c₂ && c₃) (every (peaked N recs) (numbers 1 (N .nodes))) e))
+    let c₄ = every (peaked N recs) (numbers 1 (N .nodes)) in
+    and-right c₁ c₂ (and-left (c₁ && c₂) c₃ (and-left (c₁ && c₂ && c₃) c₄ (and-left (c₁ && c₂ && c₃ && c₄) (every (latched N recs) (numbers 0 (length (N .rows)))) e)))
 
 pub record-end : (N : Net) (recs froms tos : Words) → wellFormed N recs froms tos ≡ true → (j : ℕ) → natAbs (word recs j) ≤ endOf N j
 record-end N recs froms tos e = words-within N recs (records-within N recs (state-records N recs froms tos e))

@@ -38,8 +38,8 @@ cases =
     (call 1 (Took 1) (volts 2 (pos 500) ∷ []) ∷ call 1 (Took 2) (volts 2 z ∷ amps 2 (negsuc (5 * 10 ^ 11 - 1)) ∷ []) ∷ [])
     -- "Each x within the voltage range goes to the nearest whole number": 20,000,000.25 is judged before it is rounded
     ∷ runs (lines ("study 1000 1 1" ∷ "IS 1 80000001 1 0" ∷ "R 1 0 250000000000" ∷ [])) Read (call 1 (Range 1) [] ∷ [])
-    -- "Closed at steps close to open - 1.": open at `open`
-    ∷ runs (lines ("study 1000 2 0" ∷ "VS 1 1000 1 0" ∷ "SW 1 2 2000 1 2" ∷ "R 2 0 2000" ∷ [])) Read
+    -- "Closed at steps close to open - 1.": open at `open`, which "remains as `SWT`" (02)
+    ∷ runs (lines ("study 1000 2 0" ∷ "VS 1 1000 1 0" ∷ "SWT 1 2 2000 1 2" ∷ "R 2 0 2000" ∷ [])) Read
     (call 1 (Took 1) (volts 2 (pos 500) ∷ []) ∷ call 1 (Took 2) (volts 2 z ∷ []) ∷ [])
     -- "in it 1 to 6 in turn": 3 before 4, and 5 before 6
     ∷ runs (lines ("study 1000 1 0" ∷ "LINE 1 2 999 999" ∷ [])) (Value 2) []

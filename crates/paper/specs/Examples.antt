@@ -13,7 +13,7 @@ use Rattle.paper.specs.Text.{LF, TAB}
 use Rattle.paper.specs.Conductance.{conductance}
 use Rattle.paper.specs.Network.{tableOf}
 use Rattle.paper.specs.Areas.{Net, netOf, branchNumber, step}
-use Rattle.paper.specs.Records.{voltAt, currentAt, peakAt, peakStepAt}
+use Rattle.paper.specs.Records.{voltAt, currentAt, peakAt, peakStepAt, latchAt}
 use Rattle.paper.specs.Reading.{readOf}
 use Rattle.paper.specs.Advance.{Memory, Advanced, advanceOf}
 use Rattle.paper.specs.Resetting.{fresh}
@@ -22,12 +22,13 @@ use Rattle.paper.specs.Computing.{computing}
 
 -- ---- the form of the table
 
--- what is looked at after a call: a node's voltage, a branch's current (its from side), a branch's conductance, a node's peak and its step
+-- what is looked at after a call: a node's voltage, a branch's current (its from side), a branch's conductance, a node's peak and its step, a branch's latch
 pub data Fact : Type 0 where
   volts : ℕ → ℤ → Fact
   amps : ℕ → ℤ → Fact
   siemens : ℕ → ℕ → Fact
   peaks : ℕ → ℤ → ℤ → Fact
+  parted : ℕ → ℤ → Fact
 
 -- an advance of an area, its answer, and what is then so
 pub record Call : Type 0 where
@@ -54,6 +55,7 @@ looked N recs (volts n x) = volts n (word recs (voltAt N n))
 looked N recs (amps b x) = amps b (word recs (currentAt (placeOf N b)))
 looked N recs (siemens b g) = siemens b (conductance (step N) (getD (N .rows) (placeOf N b) []))
 looked N recs (peaks n p s) = peaks n (word recs (peakAt N n)) (word recs (peakStepAt N n))
+looked N recs (parted b p) = parted b (word recs (latchAt (placeOf N b)))
 
 -- a call as it really goes, and then the rest
 unfoldable pub goes : Net → Call → (Memory → List Call) → Advanced → List Call

@@ -4,11 +4,12 @@
 use Rattle.whole.specs.Plain.{ℕ, _+_, _-_, _%_, Bool, true, false, cond, not, _&&_, _||_, List, [], _∷_, map, leb, ltb}
 use Rattle.whole.specs.Plain.{eqb, ℤ, pos, negℤ, _+ℤ_, _-ℤ_, _*ℤ_, getD, length, Words, z, word, numbers}
 use Rattle.whole.specs.Mixing.{mixed}
-use Rattle.paper.specs.Rows.{Row, isBranch, isLine, isSwitch, isL, isC, from, to, closes, opens, stepLength}
+use Rattle.paper.specs.Rows.{Row, isBranch, isLine, isSwitch, isL, isC, from, to, closes, stepLength}
 use Rattle.paper.specs.Conductance.{conductance}
 use Rattle.paper.specs.Faults.{delay, rest, slots}
 use Rattle.paper.specs.Areas.{Net, areaOf, rowArea, step}
-use Rattle.paper.specs.Where.{historyAt, offset}
+use Rattle.paper.specs.Where.{historyAt, latchAt, offset}
+use Rattle.paper.specs.Latch.{holds}
 
 pub record Leg : Type 0 where
   pub near : ℕ
@@ -79,9 +80,9 @@ heard N a k froms tos = map (heardBy N a k froms tos) (numbers 0 (length (N .row
 
 -- ---- the legs
 
--- whether the row in place i is open at step k: "Closed at steps close to open - 1."
+-- whether the row in place i is open at step k: an SWT is "Closed at steps close to open - 1."; an SW from its closing step on, until it has parted
 unfoldable pub isOpen : Net → Words → ℕ → ℕ → Bool
-isOpen N recs k i = let r = getD (N .rows) i [] in isSwitch r && not (leb (closes r) k && ltb k (opens r))
+isOpen N recs k i = let r = getD (N .rows) i [] in isSwitch r && not (leb (closes r) k && holds r (word recs (latchAt i)) k)
 
 -- its conductance then: "Open SW: i = 0 and no conductance."
 unfoldable pub conducts : Net → Words → ℕ → ℕ → ℕ

@@ -11,6 +11,7 @@ pub mod Spread
 pub mod Areas
 pub mod Sources
 pub mod Where
+pub mod Latch
 pub mod Legs
 pub mod Records
 pub mod Apart

@@ -1,14 +1,15 @@
 -- The records by sections, in one table: counts by area, voltages by node, then by row the from-side currents, the to-end currents and the histories,
--- and by node the peaks and their steps.
+-- by node the peaks and their steps, and by row the latches.
 -- A word is used as its section says, and of no area where it is not; no word past the last section is used. Assumes nothing.
 use Rattle.whole.specs.Plain.{ℕ, suc, _+_, _-_, Bool, false, cond, not, _&&_, _||_, List, [], _∷_, map, leb, ltb, ℤ}
-use Rattle.whole.specs.Plain.{eqb, pos, natAbs, ltZ, nonNeg, getD, replicate, take, Words, z, word, nat, upTo, every, within, numbers}
+use Rattle.whole.specs.Plain.{eqb, pos, natAbs, ltZ, nonNeg, getD, length, replicate, take, Words, z, word, nat, upTo, every, within, numbers}
 use Rattle.paper.specs.Limits as Limits
-use Rattle.paper.specs.Rows.{Row, isBranch, isLine, isL, isC, from, to, steps}
+use Rattle.paper.specs.Rows.{Row, isBranch, isLine, isBreaker, isL, isC, from, to, steps}
 use Rattle.paper.specs.Faults.{delay}
 use Rattle.paper.specs.Areas.{Net, areaOf, areaCount, rowArea, step}
 use Rattle.paper.specs.Legs.{Branch, branchIn, current, passedOn}
-unfoldable pub use Rattle.paper.specs.Where.{countAt, voltAt, currentAt, toCurrentAt, historyAt, peakAt, peakStepAt, offset, slotCount}
+use Rattle.paper.specs.Latch.{newLatch, latchFormed}
+unfoldable pub use Rattle.paper.specs.Where.{countAt, voltAt, currentAt, toCurrentAt, historyAt, peakAt, peakStepAt, latchAt, offset, slotCount}
 
 abbrev pub countOf : Words → ℕ → ℕ
 countOf recs a = nat (word recs (countAt a))
@@ -119,12 +120,23 @@ peakSteps = record {
   next = λ N f j. newPeakStep (f .step) (word (f .volts) (suc j)) (word (f .before) (peakAt N (suc j))) (word (f .before) (peakStepAt N (suc j)));
 }
 
+-- "The records hold this latch for each switch" (02): each SW's, by its current of this step and the one that stands in the records, of step k - 1
+abbrev pub latches : Section
+latches = record {
+  start = 368;
+  words = Limits.rowEnd;
+  used = λ N j. isBreaker (rowIn N j);
+  end = λ N. steps (N .head);
+  area = λ N j. rowArea N (rowIn N j);
+  next = λ N f j. newLatch (f .step) (rowIn N j) (word (f .before) (currentAt j)) (current (f .volts) (branchIn (f .legs) j .fromEnd .wire)) (word (f .before) (latchAt j));
+}
+
 unfoldable pub sections : List Section
-sections = counts ∷ voltages ∷ currents ∷ toCurrents ∷ histories ∷ peaks ∷ peakSteps ∷ []
+sections = counts ∷ voltages ∷ currents ∷ toCurrents ∷ histories ∷ peaks ∷ peakSteps ∷ latches ∷ []
 
 -- the first word past them
 abbrev pub sectionsEnd : ℕ
-sectionsEnd = 368
+sectionsEnd = 448
 
 -- ---- by words
 
@@ -187,6 +199,10 @@ unfoldable pub peaked : Net → Words → ℕ → Bool
 peaked N recs n =
     peakFormed (word recs (voltAt N n)) (word recs (peakAt N n)) (word recs (peakStepAt N n)) (countOf recs (areaOf N n))
 
+-- with latches (02); "one on another kind of branch" is a word that is not used
+unfoldable pub latched : Net → Words → ℕ → Bool
+latched N recs i = let r = rowIn N i in not (isBreaker r) || latchFormed r (word recs (latchAt i)) (countOf recs (rowArea N r))
+
 -- what is asked of the records alone
 unfoldable pub recordsFormed : Net → Words → Bool
 recordsFormed N recs =
@@ -194,6 +210,7 @@ recordsFormed N recs =
     && within (ends N) recs
     && every (near N recs) (N .rows)
     && every (peaked N recs) (numbers 1 (N .nodes))
+    && every (latched N recs) (numbers 0 (length (N .rows)))
 
 -- a line's slots "count as used before they are sent"
 unfoldable pub storeFormed : Net → Words → Bool

@@ -1,6 +1,6 @@
 -- A line of the table as a row of words, kind first and then the fields as in the text, and the table of kinds that the text, the
 -- refusals and the network record all go by. Assumes nothing.
-use Rattle.whole.specs.Plain.{ℕ, Bool, true, false, List, [], _∷_, eqb, ℤ, pos, negsuc, negℤ, ltZ, getD, length, Words}
+use Rattle.whole.specs.Plain.{ℕ, Bool, true, false, _||_, List, [], _∷_, eqb, ℤ, pos, negsuc, negℤ, ltZ, getD, length, Words}
 use Rattle.whole.specs.Plain.{z, word, nat}
 use Prim.Native.Char.{code}
 use Prim.Native.String as String
@@ -78,6 +78,7 @@ kinds =
     ∷ kindOf "VS" aFixing (node ∷ peakTo Limits.voltageEnd ∷ number Limits.startLow Limits.startEnd ∷ number Limits.riseLow Limits.riseEnd ∷ [])
     ∷ kindOf "IS" anInjecting (node ∷ peakTo Limits.injectionEnd ∷ number Limits.startLow Limits.startEnd ∷ number Limits.riseLow Limits.riseEnd ∷ [])
     ∷ kindOf "VC" aFixing (node ∷ peakTo Limits.voltageEnd ∷ number Limits.startLow Limits.startEnd ∷ number Limits.frequencyLow Limits.frequencyEnd ∷ [])
+    ∷ kindOf "SWT" aBranch (node ∷ node ∷ ohmic ∷ number Limits.closeLow Limits.openEnd ∷ number Limits.closeLow Limits.openEnd ∷ [])
     ∷ []
 
 -- the number of a word that is none of these
@@ -129,14 +130,22 @@ isC = is 3
 abbrev pub isLine : Row → Bool
 isLine = is 4
 
-abbrev pub isSwitch : Row → Bool
-isSwitch = is 5
+-- SW, which parts at a current zero (02)
+abbrev pub isBreaker : Row → Bool
+isBreaker = is 5
 
 abbrev pub isIS : Row → Bool
 isIS = is 7
 
 abbrev pub isVC : Row → Bool
 isVC = is 8
+
+-- SWT: "The old behaviour remains as `SWT`."
+abbrev pub isTimed : Row → Bool
+isTimed = is 9
+
+abbrev pub isSwitch : Row → Bool
+isSwitch r = isBreaker r || isTimed r
 
 -- "Branches are numbered from 1 in table order, sources not counted"
 abbrev pub isBranch : Row → Bool

@@ -1,6 +1,6 @@
 -- Where each word of the records stands: counts by area, voltages by node, then by row (not by branch number: a row's place needs no counting) the
--- from-side currents, the to-end currents and the histories, and by node the peaks and their steps; and where a line's slots stand in either store.
--- Assumes nothing.
+-- from-side currents, the to-end currents and the histories, by node the peaks and their steps, and by row the latches; and where a line's slots stand in
+-- either store. Assumes nothing.
 use Rattle.whole.specs.Plain.{ℕ, _+_, _-_, take, sum}
 use Rattle.paper.specs.Faults.{slots}
 use Rattle.paper.specs.Areas.{Net}
@@ -26,6 +26,9 @@ peakAt N n = 304 + n - 1
 
 abbrev pub peakStepAt : Net → ℕ → ℕ
 peakStepAt N n = 336 + n - 1
+
+abbrev pub latchAt : ℕ → ℕ
+latchAt r = 368 + r
 
 -- "slots stand in table order": where the row in place r, from 0, has its slots in either store
 unfoldable pub offset : Net → ℕ → ℕ

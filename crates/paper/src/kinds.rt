@@ -1,5 +1,5 @@
 // The kinds of a row, as the network record numbers them: word 0 of a row. What each is for, and its class, stands in specs/Rows.antt.
-ghost use Rattle.whole.specs.Plain.{_≡_};
+ghost use Rattle.whole.specs.Plain.{_≡_, _||_, eqb};
 ghost use Rattle.paper.specs.Rows.{branchKind, sourceKind, fixingKind};
 
 pub const R: usize = 1;
@@ -18,15 +18,23 @@ pub const IS: usize = 7;
 
 pub const VC: usize = 8;
 
+pub const SWT: usize = 9;
+
 // how many there are, the study's among them
-pub const COUNT: usize = 9;
+pub const COUNT: usize = 10;
 
 // ---- their classes
 
 pub fn is_branch(kind: usize) -> bool
     ensures { λ r. ⌜ r ≡ branchKind kind ⌝ }
 {
-    (kind == R) | (kind == L) | (kind == C) | (kind == LINE) | (kind == SW)
+    (kind == R) | (kind == L) | (kind == C) | (kind == LINE) | (kind == SW) | (kind == SWT)
+}
+
+pub fn is_switch(kind: usize) -> bool
+    ensures { λ r. ⌜ r ≡ (eqb kind 5 || eqb kind 9) ⌝ }
+{
+    (kind == SW) | (kind == SWT)
 }
 
 pub fn is_source(kind: usize) -> bool

@@ -1,4 +1,4 @@
-// "Areas.": which nodes R, L, C and SW join, by rounds over the rows, and the areas numbered from 1 by their lowest node.
+// "Areas.": which nodes R, L, C, SW and SWT join, by rounds over the rows, and the areas numbered from 1 by their lowest node.
 ghost use Rattle.whole.specs.Plain.{suc, _≤_, _<_, _+_, _≡_, true, cond, leb, length, getD, filled, numbers};
 ghost use Rattle.paper.specs.Limits as Limits;
 ghost use Rattle.paper.specs.Spread.{joined};

@@ -122,7 +122,7 @@ module _ (net : Words) (e : isNetwork net ≡ true) where
       short : (k : ℕ) → kind (rowAt (netIn net) i) ≡ k → suc (length (fieldsOf k)) ≤ 5 → word (rowAt (netIn net) i) 5 ≡ pos (Rows.opens (rowAt (netIn net) i))
       short k q l = let o : word (rowAt (netIn net) i) 5 ≡ z = row-beyond net e i 5 h (rw q l) in o ∙ ap (λ (x : ℤ). pos (nat x)) (sym o)
 
-      go : (k : ℕ) → kind (rowAt (netIn net) i) ≡ k → 1 ≤ k → k ≤ 8 → word (rowAt (netIn net) i) 5 ≡ pos (Rows.opens (rowAt (netIn net) i))
+      go : (k : ℕ) → kind (rowAt (netIn net) i) ≡ k → 1 ≤ k → k ≤ 9 → word (rowAt (netIn net) i) 5 ≡ pos (Rows.opens (rowAt (netIn net) i))
       go zero q l m = absurd (omega arith)
       go (suc zero) q l m = short 1 q (lit≤ tt)
       go (suc (suc zero)) q l m = short 2 q (lit≤ tt)
@@ -132,4 +132,5 @@ module _ (net : Words) (e : isNetwork net ≡ true) where
       go (suc (suc (suc (suc (suc (suc zero)))))) q l m = short 6 q (lit≤ tt)
       go (suc (suc (suc (suc (suc (suc (suc zero))))))) q l m = short 7 q (lit≤ tt)
       go (suc (suc (suc (suc (suc (suc (suc (suc zero)))))))) q l m = short 8 q (lit≤ tt)
-      go (suc (suc (suc (suc (suc (suc (suc (suc (suc k))))))))) q l m = absurd (omega arith)
+      go (suc (suc (suc (suc (suc (suc (suc (suc (suc zero))))))))) q l m = net-sound net e .row i h .switch (rw q) .opensIn .isNat
+      go (suc (suc (suc (suc (suc (suc (suc (suc (suc (suc k)))))))))) q l m = absurd (omega arith)

@@ -2,3 +2,4 @@ pub mod ByKind
 pub mod Planned
 pub mod Decoded
 pub mod Laws
+pub mod Switching

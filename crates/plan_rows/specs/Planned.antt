@@ -79,9 +79,9 @@ pub record PlannedTo (N : Net) (n : ℕ) (plan : List (List ℕ)) : Type 0 where
 abbrev pub Planned : Net → List (List ℕ) → Type 0
 Planned N plan = PlannedTo N (length (N .rows)) plan
 
--- a row names nodes, and its kind is one of the eight
+-- a row names nodes, and its kind is one of the table
 pub record Noded (r : Row) : Type 0 where
-  pub kind-end : r .kind ≤ 8
+  pub kind-end : r .kind ≤ 9
   pub from-end : r .from ≤ Limits.nodeEnd
   pub to-end : r .to ≤ Limits.nodeEnd
 

@@ -12,6 +12,7 @@ ghost use Rattle.plan_record.specs.Mapped.{Mapped};
 ghost use Rattle.plan_rows.specs.Planned.{Planned, totalsOf, rowIn, rowOf, wordsOf, ownerIn, nodeIn};
 ghost use Rattle.plan_rows.specs.Planned.{conductanceAt, toAt};
 ghost use Rattle.plan_rows.specs.ByKind.{slotsBy, ownerBy};
+ghost use Rattle.plan_rows.specs.Switching.{mayPartBy};
 use paper::Node;
 use paper::Room;
 use paper::kinds;
@@ -100,6 +101,14 @@ pub fn node(r: Row, end: usize) -> usize
     ensures { λ n. ⌜ n ≡ nodeIn r end ⌝ }
 {
     if end == 1 { r.from } else { r.to }
+}
+
+// When a breaker may part: "at or after open - 1 and later than its closing step".
+pub fn may_part(r: Row, k: usize) -> bool
+    requires { ⌜ k ≤ Limits.stepsEnd ⌝ }
+    ensures { λ p. ⌜ p ≡ mayPartBy k r ⌝ }
+{
+    (r.opens <= k + 1) & (r.closes < k)
 }
 
 // ---- counts

@@ -1,6 +1,6 @@
 -- An area's step from the tables is the paper's. Assumes nothing.
-use Rattle.whole.specs.Plain.{ℕ, zero, suc, _≤_, _≡_, refl, sym, ap, subst, _∙_, Bool, true, false, true≢false, List}
-use Rattle.whole.specs.Plain.{[], _∷_, map, pos, arith, Words, z}
+use Rattle.whole.specs.Plain.{ℕ, zero, suc, _≤_, _<_, _≡_, refl, sym, ap, subst, _∙_, _≢_, Bool, true, false, true≢false, List}
+use Rattle.whole.specs.Plain.{[], _∷_, map, pos, ℕ-discrete, arith, Words, z, word}
 use lib.Ieee.{Float}
 use Rattle.paper.specs.declared.Advance.{Advance}
 use Rattle.paper.specs.declared.Advance.the-variants.{Took, Floating, Range, Unbalanced, History}
@@ -8,33 +8,37 @@ use Rattle.paper.specs.Limits as Limits
 use Rattle.paper.specs.Rows as Rows
 use Rattle.paper.specs.Answers.{accepted}
 use Rattle.paper.specs.Areas.{Net, fixed, freeOf}
-use Rattle.paper.specs.Legs.{Leg, leg, Branch, bothLegs}
+use Rattle.paper.specs.Records.{latchAt}
+use Rattle.paper.specs.Legs.{Leg, leg, Branch, bothLegs, heard}
 use Rattle.paper.specs.Floating as Paper
 use Rattle.paper.specs.Solve.{Step, stop, move, passing, solve, settling, solvedStep, stillOf, andFloating}
-use Rattle.paper.specs.Advance.{Memory, memory, advanced, written, finish, takeStep, ready}
+use Rattle.paper.specs.Advance.{Memory, memory, advanced, newRecords, written, finish, takeStep, ready}
+use Rattle.laws_local.specs.Sound.{sound}
+use Rattle.laws_local.specs.Written.{latch-keep}
 use Rattle.laws_local.specs.Outcome.{Solving, floats, leaves, tips, exceeds, solves, solving, voltsOf}
 use Rattle.plan_ends.specs.Own.{ownEnds, Framed, ownNodes}
 use Rattle.plan_own.specs.declared.Own.{Own}
 use Rattle.plan_lay.specs.Grown.{part}
-use Rattle.plan_own.specs.Owns.{ownIn, Ours}
-use Rattle.plan_own.specs.Kept.{legsPut}
+use Rattle.plan_own.specs.Owns.{ownIn, prepared, untilPut, Ours}
+use Rattle.plan_own.specs.Kept.{legsPut, own-put}
 use Rattle.step_factors.specs.Blocks.{renewed-none}
 use Rattle.step_floating.specs.Local.{floating-joins, joins-bare}
 use Rattle.step_legs.specs.Written.{SameBut}
 use Rattle.step_own.specs.Ends.{legOfEnd, bareOfEnd, Kept}
-use Rattle.step_own.specs.Laid.{conducting-same}
+use Rattle.step_own.specs.Laid.{conducting-same, SameLatches}
 use Rattle.step_own.specs.Paper.{own-floating}
 use Rattle.step_prepare.specs.Serving as Serving
 use Rattle.step_prepare.specs.Serving.{Serving}
 use Rattle.step_try.specs.declared.At.{At}
 use Rattle.step_try.specs.Outcomes.{Tried, answered}
 use Rattle.step_try.specs.Trying.{Trying, branches, Flowing, Tries}
-use Rattle.step_records.specs.Records.{Recordable, recordsPut}
+use Rattle.step_records.specs.Records.{Recordable, recordsPut, Unparted}
 use Rattle.step_commit.specs.Stores.{Sendable, sentBy, fromEnd, toEnd}
 use Rattle.step_commit.specs.Asked.{recordable, sendable}
-use Rattle.step_commit.specs.Paper.{written-is}
+use Rattle.step_commit.specs.Paper.{records-are, written-is}
 use Rattle.step_area.specs.declared.Turn.{Turn}
-use Rattle.step_area.specs.Tabled.{ownLegs, Tables, standing, tables-put, put-own}
+use Rattle.step_area.specs.declared.Outcome.{Outcome}
+use Rattle.step_area.specs.Tabled.{ownLegs, Tables, area-few, standing, tables-put, put-own, tables-until, tables-latched}
 
 -- the area is one of those in the tables, the step one of the study's, and the state well formed
 pub record Stepping (N : Net) (low high : ℕ) (turn : Turn) (m : Memory) : Type 0 where
@@ -47,10 +51,10 @@ pub record Stepping (N : Net) (low high : ℕ) (turn : Turn) (m : Memory) : Type
 -- ---- from what is kept for it
 
 pub record Ready (N : Net) (low high : ℕ) (plan owns : List (List ℕ)) (legs : List Words) (nodes : List ℕ) (sources : List Words) (f : List (List Float)) (m : Memory) (o : Own) (turn : Turn) : Type 0 where
-  pub tables : Tables N low high (turn .k) plan owns legs nodes sources f
+  pub tables : Tables N low high (turn .k) (m .records) plan owns legs nodes sources f
   pub stepping : Stepping N low high turn m
   pub own : o ≡ ownIn owns (turn .area)
-  pub serving : Serving N (turn .area) (turn .k) (ownIn owns (turn .area) .base) (ownLegs owns (turn .area) legs) f
+  pub serving : Serving N (turn .area) (turn .k) (m .records) (ownIn owns (turn .area) .base) (ownLegs owns (turn .area) legs) f
 
 pub record Movable (plan : List (List ℕ)) (legs : List Words) (nodes : List ℕ) (sources : List Words) (f : List (List Float)) (recs froms tos : Words) (o : Own) (turn : Turn) : Type 0 where
   pub net : Net
@@ -59,12 +63,18 @@ pub record Movable (plan : List (List ℕ)) (legs : List Words) (nodes : List �
   pub owns : List (List ℕ)
   pub ready : Ready net low high plan owns legs nodes sources f (memory recs froms tos) o turn
 
+-- the tables and the state that a step leaves
 pub record Moved (N : Net) (low high : ℕ) (plan owns : List (List ℕ)) (nodes : List ℕ) (sources : List Words) (f : List (List Float)) (turn : Turn) (m : Memory) (r : Advance) (legs : List Words) (m′ : Memory) : Type 0 where
-  pub tables : Tables N low high (turn .k) plan owns legs nodes sources f
+  pub tables : Tables N low high (turn .k) (m′ .records) plan owns legs nodes sources f
   pub step : advanced r m′ ≡ ready N (turn .area) (turn .k) m
 
-pub record Moves (plan : List (List ℕ)) (nodes : List ℕ) (sources : List Words) (f : List (List Float)) (o : Own) (turn : Turn) (legs : List Words) (m : Memory) (r : Advance) (legs′ : List Words) (m′ : Memory) : Type 0 where
-  pub of : (N : Net) (low high : ℕ) (owns : List (List ℕ)) → Ready N low high plan owns legs nodes sources f m o turn → Moved N low high plan owns nodes sources f turn m r legs′ m′
+-- the same, of a step in which a breaker of the area may have parted: then what was kept for the area serves no more
+pub record Came (N : Net) (low high : ℕ) (plan owns : List (List ℕ)) (nodes : List ℕ) (sources : List Words) (f : List (List Float)) (turn : Turn) (m : Memory) (r : Outcome) (legs : List Words) (m′ : Memory) : Type 0 where
+  pub whole : r .parted ≡ false → Moved N low high plan owns nodes sources f turn m (r .answer) legs m′
+  pub parted : Moved N low high plan (untilPut owns (turn .area) 0) nodes sources f turn m (r .answer) legs m′
+
+pub record Moves (plan : List (List ℕ)) (nodes : List ℕ) (sources : List Words) (f : List (List Float)) (o : Own) (turn : Turn) (legs : List Words) (m : Memory) (r : Outcome) (legs′ : List Words) (m′ : Memory) : Type 0 where
+  pub of : (N : Net) (low high : ℕ) (owns : List (List ℕ)) → Ready N low high plan owns legs nodes sources f m o turn → Came N low high plan owns nodes sources f turn m r legs′ m′
 
 -- ---- with what is kept renewed
 
@@ -72,24 +82,24 @@ pub record Going (plan owns : List (List ℕ)) (legs : List Words) (nodes : List
   pub net : Net
   pub low : ℕ
   pub high : ℕ
-  pub tables : Tables net low high (turn .k) plan owns legs nodes sources f
+  pub tables : Tables net low high (turn .k) recs plan owns legs nodes sources f
   pub stepping : Stepping net low high turn (memory recs froms tos)
 
 pub record Steps (plan : List (List ℕ)) (nodes : List ℕ) (sources : List Words) (turn : Turn) (owns : List (List ℕ)) (legs : List Words) (f : List (List Float)) (m : Memory) (r : Advance) (owns′ : List (List ℕ)) (legs′ : List Words) (f′ : List (List Float)) (m′ : Memory) : Type 0 where
-  pub of : (N : Net) (low high : ℕ) → Tables N low high (turn .k) plan owns legs nodes sources f → Stepping N low high turn m → Moved N low high plan owns′ nodes sources f′ turn m r legs′ m′
+  pub of : (N : Net) (low high : ℕ) → Tables N low high (turn .k) (m .records) plan owns legs nodes sources f → Stepping N low high turn m → Moved N low high plan owns′ nodes sources f′ turn m r legs′ m′
 
 -- ---- 14
-bares-of : (N : Net) (k : ℕ) (recs froms tos : Words) (l : List ℕ) → map (λ x. leg (x .near) (x .far) (x .g) z) (map (legOfEnd N k recs froms tos) l) ≡ map (bareOfEnd N k) l
+bares-of : (N : Net) (k : ℕ) (recs froms tos : Words) (l : List ℕ) → map (λ x. leg (x .near) (x .far) (x .g) z) (map (legOfEnd N k recs froms tos) l) ≡ map (bareOfEnd N k recs) l
 bares-of N k recs froms tos [] = refl
-bares-of N k recs froms tos (e ∷ l) = ap (λ (t : List Leg). bareOfEnd N k e ∷ t) (bares-of N k recs froms tos l)
+bares-of N k recs froms tos (e ∷ l) = ap (λ (t : List Leg). bareOfEnd N k recs e ∷ t) (bares-of N k recs froms tos l)
 
-floats-paper : (N : Net) (a k : ℕ) (recs froms tos : Words) → 1 ≤ a → Paper.floating (fixed N) (N .nodes) (freeOf N a) (bothLegs (branches N a k recs froms tos)) ≡ Serving.floats N a k
+floats-paper : (N : Net) (a k : ℕ) (recs froms tos : Words) → 1 ≤ a → Paper.floating (fixed N) (N .nodes) (freeOf N a) (bothLegs (branches N a k recs froms tos)) ≡ Serving.floats N a k recs
 floats-paper N a k recs froms tos one =
     sym (own-floating N a k recs froms tos one (fixed N) (N .nodes) (freeOf N a))
     ∙ sym (floating-joins (fixed N) (N .nodes) (freeOf N a) _ (map (legOfEnd N k recs froms tos) (ownEnds N a)) (joins-bare (map (legOfEnd N k recs froms tos) (ownEnds N a))))
     ∙ ap (Paper.floating (fixed N) (N .nodes) (freeOf N a)) (bares-of N k recs froms tos (ownEnds N a))
 
-pub floating-step : (N : Net) (a k : ℕ) (m : Memory) (node : ℕ) → 1 ≤ a → node ≡ Serving.floats N a k → (node ≡ 0 → ⊥) → advanced (Floating node) m ≡ ready N a k m
+pub floating-step : (N : Net) (a k : ℕ) (m : Memory) (node : ℕ) → 1 ≤ a → node ≡ Serving.floats N a k (m .records) → (node ≡ 0 → ⊥) → advanced (Floating node) m ≡ ready N a k m
 unfolding ready takeStep solve settling
 floating-step N a k m node one e n = by node (e ∙ sym (floats-paper N a k (m .records) (m .froms) (m .tos) one)) n
   where
@@ -188,7 +198,7 @@ module _ {N : Net} {low high : ℕ} {plan owns : List (List ℕ)} {legs : List W
     framed : Framed N (turn .area) new
     framed = conducting-same same-own (R .serving .conducts) .framed
 
-    pub tables-after : Tables N low high (turn .k) plan owns (legsPut o legs new) nodes sources f
+    pub tables-after : Tables N low high (turn .k) (m .records) plan owns (legsPut o legs new) nodes sources f
     tables-after =
         rw (R .own)
         (tables-put (R .tables) a (R .stepping .least) (R .stepping .most) new framed (renewed-none _ _ (R .tables .square))
@@ -196,6 +206,20 @@ module _ {N : Net} {low high : ℕ} {plan owns : List (List ℕ)} {legs : List W
 
     pub legs-after : legsOf′ o (legsPut o legs new) ≡ new
     legs-after = rw (R .own) (put-own (R .tables) a (R .stepping .least) (R .stepping .most) new framed)
+
+  -- with nothing kept for the area
+  tables-void : {recs : Words} {legs : List Words} → Tables N low high (turn .k) recs plan owns legs nodes sources f → Tables N low high (turn .k) recs plan (untilPut owns (turn .area) 0) legs nodes sources f
+  tables-void t = tables-until t (turn .area) (R .stepping .least) (R .stepping .most) 0 (λ j x y. absurd (omega arith))
+
+  unkept : (b : ℕ) → b ≡ turn .area → 0 < ownIn (untilPut owns (turn .area) 0) b .until → ⊥
+  unkept b q z =
+      let h = own-put owns (turn .area) (prepared (ownIn owns (turn .area)) 0) (omega (arith, R .tables .long, area-few (R .tables) (turn .area) (R .stepping .least) (R .stepping .most))) in
+      omega (arith, ap (λ (x : Own). x .until) h, subst (λ (n : ℕ). 0 < ownIn (untilPut owns (turn .area) 0) n .until) q z)
+
+  -- a step that is not taken
+  pub stayed : {new : List Words} {answer : Advance} → SameBut (legsOf′ o legs) new → advanced answer m ≡ ready N (turn .area) (turn .k) m
+      → Came N low high plan owns nodes sources f turn m (record { answer = answer; parted = false }) (legsPut o legs new) m
+  stayed same e = record { whole = λ _. record { tables = tables-after same; step = e }; parted = record { tables = tables-void (tables-after same); step = e } }
 
   -- the lines that a step is written from
   module _ {lines : List Words} {answer : Advance} {volts : Words} (t : Tries N (turn .area) (turn .k) (m .records) (m .froms) (m .tos) lines answer volts) (e : accepted answer ≡ true) where
@@ -219,8 +243,19 @@ module _ {N : Net} {low high : ℕ} {plan owns : List (List ℕ)} {legs : List W
     pub stores-asked : Sendable plan lines (m .froms) (m .tos)
     stores-asked = rw (flows .flows) (sendable (R .tables .sound) one (R .stepping .kept) (flows .laid) volts (R .tables .planned))
 
+    records-new : {recs : Words} → recs ≡ recordsPut plan lines (part (o .base) (o .«nodes_end») nodes) volts (turn .area) (turn .k) (m .records) → recs ≡ newRecords N (turn .area) (turn .k) bs volts (m .records)
+    records-new q = q ∙ rw (flows .flows, nodes-are) (records-are one (flows .laid) (R .tables .planned) volts (R .tables .sound) (omega (arith, R .tables .most, R .stepping .most)) (R .stepping .kept .records-long))
+
+    -- no other area's switch parts
+    pub others-latched : {recs : Words} → recs ≡ recordsPut plan lines (part (o .base) (o .«nodes_end») nodes) volts (turn .area) (turn .k) (m .records) → (b : ℕ) → b ≢ turn .area → SameLatches N b (m .records) recs
+    others-latched q b n = record {
+      latch = λ i h x y.
+          sym (ap (λ (w : Words). word w (latchAt i)) (records-new q)
+          ∙ latch-keep N (turn .area) (turn .k) (m .records) (heard N (turn .area) (turn .k) (m .froms) (m .tos)) volts (sound N (R .tables .sound)) (m .records) (R .stepping .kept .records-long) i h x (λ e. n (sym y ∙ e)));
+    }
+
     pub taken-written : {m′ : Memory}
-        → m′ ≡ memory (recordsPut lines (part (o .base) (o .«nodes_end») nodes) volts (turn .area) (turn .k) (m .records)) (sentBy plan (turn .k) fromEnd lines (m .froms)) (sentBy plan (turn .k) toEnd lines (m .tos))
+        → m′ ≡ memory (recordsPut plan lines (part (o .base) (o .«nodes_end») nodes) volts (turn .area) (turn .k) (m .records)) (sentBy plan (turn .k) fromEnd lines (m .froms)) (sentBy plan (turn .k) toEnd lines (m .tos))
         → advanced answer m′ ≡ ready N (turn .area) (turn .k) m
     taken-written {m′} q =
         taken-step N a (turn .k) m m′ answer volts took-it (q ∙ rw (flows .flows, nodes-are) (written-is one (flows .laid) (R .tables .planned) volts (R .tables .sound) (omega (arith, R .tables .most, R .stepping .most)) (R .stepping .kept .records-long)))
@@ -230,7 +265,24 @@ module _ {N : Net} {low high : ℕ} {plan owns : List (List ℕ)} {legs : List W
     pub asked : Recordable (legsOf′ o (legsPut o legs lines)) (part (o .base) (o .«nodes_end») nodes) volts (m .records) (turn .area) (turn .k) × Sendable plan (legsOf′ o (legsPut o legs lines)) (m .froms) (m .tos)
     asked = rw (legs-after same) (records-asked t e, stores-asked t e)
 
-    pub moved : {recs froms tos : Words} → recs ≡ recordsPut (legsOf′ o (legsPut o legs lines)) (part (o .base) (o .«nodes_end») nodes) volts (turn .area) (turn .k) (m .records)
+    pub moved : {recs froms tos : Words} → recs ≡ recordsPut plan (legsOf′ o (legsPut o legs lines)) (part (o .base) (o .«nodes_end») nodes) volts (turn .area) (turn .k) (m .records)
         → froms ≡ sentBy plan (turn .k) fromEnd (legsOf′ o (legsPut o legs lines)) (m .froms) → tos ≡ sentBy plan (turn .k) toEnd (legsOf′ o (legsPut o legs lines)) (m .tos)
         → advanced answer (memory recs froms tos) ≡ ready N (turn .area) (turn .k) m
     moved x y w = taken-written t e (rw (x, y, w, legs-after same))
+
+    -- ---- the tables after it
+
+    module _ {recs froms tos : Words} (x : recs ≡ recordsPut plan (legsOf′ o (legsPut o legs lines)) (part (o .base) (o .«nodes_end») nodes) volts (turn .area) (turn .k) (m .records))
+        (y : froms ≡ sentBy plan (turn .k) fromEnd (legsOf′ o (legsPut o legs lines)) (m .froms)) (w : tos ≡ sentBy plan (turn .k) toEnd (legsOf′ o (legsPut o legs lines)) (m .tos))
+        {parted : Bool} (u : Unparted parted (m .records) recs) where
+      others : (b : ℕ) → b ≢ turn .area → SameLatches N b (m .records) recs
+      others = others-latched t e (rw (legs-after same) at x)
+
+      by-area : (b : ℕ) → (b ≡ turn .area → SameLatches N b (m .records) recs) → SameLatches N b (m .records) recs
+      by-area b own = elim (ℕ-discrete b (turn .area)) [ yes q ↦ own q | no q ↦ others b q ]
+
+      pub came : Came N low high plan owns nodes sources f turn m (record { answer = answer; parted = parted }) (legsPut o legs lines) (memory recs froms tos)
+      came = record {
+        whole = λ q. record { tables = tables-latched (λ b _ _ _. by-area b (λ _. record { latch = λ i _ _ _. sym (u .latch q i) })) (tables-after same); step = moved x y w };
+        parted = record { tables = tables-latched (λ b _ _ z. by-area b (λ q. absurd (unkept b q z))) (tables-void (tables-after same)); step = moved x y w };
+      }

@@ -1,5 +1,5 @@
 // One step of one area, from the tables: 14 to 17 in turn, or the step is taken and written. What is kept for the positions of the area's switches is
-// renewed where one has changed.
+// renewed where one has changed or parted.
 ghost use Rattle.whole.specs.Plain.{ℕ, _≤_, _≡_};
 ghost use Rattle.whole.specs.Loans.{was, is};
 ghost use Rattle.paper.specs.Limits as Limits;
@@ -53,12 +53,13 @@ fn renew(
     legs: &mut [Line],
     nodes: &[usize],
     factors: &mut Matrix,
+    records: &[i64],
     area: usize,
     k: usize,
 ) -> usize
-    requires { ⌜ Known k (now plan) (now owns) (now legs) (now nodes) (now factors) area ⌝ }
-    ensures { λ r. ⌜ Renews k area (was plan) (was nodes) (was owns) (was legs) (was factors) r (is owns) (is legs)
-        (is factors) ⌝ }
+    requires { ⌜ Known k (now records) (now plan) (now owns) (now legs) (now nodes) (now factors) area ⌝ }
+    ensures { λ r. ⌜ Renews k area (was records) (was plan) (was nodes) (was owns) (was legs) (was factors) r (is owns)
+        (is legs) (is factors) ⌝ }
 {
     let o = plan_own::own_at(owns, area);
     if k < o.until {
@@ -74,6 +75,7 @@ fn renew(
         &nodes[free_from..free_to],
         o.base,
         factors,
+        records,
         k,
     );
     if p.node != 0 {
@@ -94,6 +96,12 @@ fn at_of(o: Own, turn: Turn) -> At
     }
 }
 
+// What a step came to, and whether a breaker of the area parted in it.
+pub struct Outcome {
+    pub answer: Advance,
+    pub parted: bool,
+}
+
 // The step, from what is kept for it: where the area's own stands is `o`. "Every refusal leaves all lent memory unchanged."
 fn stepped(
     plan: &Table,
@@ -106,7 +114,7 @@ fn stepped(
     tos: &mut [i64],
     o: Own,
     turn: Turn,
-) -> Advance
+) -> Outcome
     requires { ⌜ Movable (now plan) (now legs) (now nodes) (now sources) (now factors) (now records) (now froms)
         (now tos) o turn ⌝ }
     ensures { λ r. ⌜ Moves (was plan) (was nodes) (was sources) (was factors) o turn (was legs)
@@ -134,9 +142,12 @@ fn stepped(
         &mut volts,
     );
     if !took(answer) {
-        return answer;
+        return Outcome {
+            answer: answer,
+            parted: false,
+        };
     }
-    step_commit::commit(
+    let parted = step_commit::commit(
         plan,
         &legs[legs_from..legs_to],
         &nodes[free_from..nodes_to],
@@ -147,10 +158,13 @@ fn stepped(
         turn.area,
         turn.k,
     );
-    answer
+    Outcome {
+        answer: answer,
+        parted: parted,
+    }
 }
 
-// The area's step, once no far area is waited for.
+// The area's step, once no far area is waited for. Where a breaker has parted, what was kept for the area serves no more.
 pub fn ready(
     plan: &Table,
     owns: &mut Owns,
@@ -168,12 +182,12 @@ pub fn ready(
     ensures { λ r. ⌜ Steps (was plan) (was nodes) (was sources) turn (was owns) (was legs) (was factors)
         (before records froms tos) r (is owns) (is legs) (is factors) (after records froms tos) ⌝ }
 {
-    let node = renew(plan, owns, legs, nodes, factors, turn.area, turn.k);
+    let node = renew(plan, owns, legs, nodes, factors, records, turn.area, turn.k);
     if node != 0 {
         return Advance::Floating(node as u64);
     }
     let o = plan_own::own_at(owns, turn.area);
-    stepped(
+    let came = stepped(
         plan,
         legs,
         nodes,
@@ -184,5 +198,11 @@ pub fn ready(
         tos,
         o,
         turn,
-    )
+    );
+    let answer = came.answer;
+    if !came.parted {
+        return answer;
+    }
+    plan_own::put_until(owns, turn.area, 0);
+    answer
 }

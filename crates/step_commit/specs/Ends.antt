@@ -1,14 +1,15 @@
 -- What an end of a row puts, from what is found of it; what the two put into the stores in turn is what the paper puts for the row. Assumes nothing.
 use Rattle.whole.specs.Plain.{ℕ, suc, _+_, _%_, _≡_, refl, sym, ap, _∙_, Bool, true, false, cond, _&&_, _||_, and-false}
-use Rattle.whole.specs.Plain.{List, [], _∷_, map, ℤ, set, arith, Words, fold}
-use Rattle.paper.specs.Rows.{Row, kind, isLine, isL, isC}
-use Rattle.paper.specs.Records.{currentAt, toCurrentAt, historyAt}
+use Rattle.whole.specs.Plain.{List, [], _∷_, map, ℤ, pos, set, arith, Words, word, fold}
+use Rattle.paper.specs.Rows.{Row, kind, isLine, isBreaker, isL, isC}
+use Rattle.paper.specs.Records.{currentAt, toCurrentAt, historyAt, latchAt}
 use Rattle.paper.specs.Legs.{Leg, idle, current, echo, passedOn}
 use Rattle.paper.specs.Advance.{putIf}
 use Rattle.plan_rows.specs.Planned.{rowIn}
 use Rattle.step_legs.specs.declared.Wire.{Wire}
 use Rattle.step_legs.specs.Wires.{legOf, wireIn, currentIn, passedIn, wiresIn}
 use Rattle.step_flow.specs.Flown.{passedBy, flown, flown-wire, flown-current, flown-passed, Long}
+use Rattle.step_latch.specs.Parting.{partsBy, legParts, latchPut}
 use Rattle.step_records.specs.Records.{legPut}
 use Rattle.step_commit.specs.Stores.{fromEnd, toEnd, sentPut}
 
@@ -34,13 +35,18 @@ pub record EndOf (r : Row) (i e : ℕ) (w : Wire) : Type 0 where
   pub side : w .end ≡ e
   pub kind-is : w .kind ≡ kind r
 
--- what it puts into the records
-module _ (v : Words) {r : Row} {i : ℕ} {w : Wire} (x : Words) where
-  pub from-puts : EndOf r i 1 w → found legPut v w x ≡ putIf (isL r || isC r) (set x (currentAt i) (current v (legOf w))) (historyAt i) (passedOn v r (legOf w))
-  unfolding legPut passedBy passedOn
+-- what it puts into the records: at a from end, where the row is an SW's that parts, its latch first
+abbrev partsAt : List (List ℕ) → ℕ → Row → ℕ → Words → ℤ → Bool
+partsAt plan k r i x now = isBreaker r && partsBy k (rowIn plan i) (word x (currentAt i)) now (word x (latchAt i))
+
+module _ (plan : List (List ℕ)) (k : ℕ) (v : Words) {r : Row} {i : ℕ} {w : Wire} (x : Words) where
+  pub from-puts : EndOf r i 1 w
+      → found (legPut plan k) v w x
+      ≡ putIf (isL r || isC r) (set (putIf (partsAt plan k r i x (current v (legOf w))) x (latchAt i) (pos k)) (currentAt i) (current v (legOf w))) (historyAt i) (passedOn v r (legOf w))
+  unfolding legPut latchPut legParts passedBy passedOn
   from-puts f = rw (f .row, f .side, f .kind-is)
 
-  pub to-puts : EndOf r i 2 w → found legPut v w x ≡ putIf (isLine r) x (toCurrentAt i) (current v (legOf w))
+  pub to-puts : EndOf r i 2 w → found (legPut plan k) v w x ≡ putIf (isLine r) x (toCurrentAt i) (current v (legOf w))
   unfolding legPut
   to-puts t = rw (t .row, t .side, t .kind-is)
 

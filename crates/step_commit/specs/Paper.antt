@@ -1,18 +1,20 @@
 -- What the legs of an area's step write is what the paper has an accepted step write. Assumes nothing.
-use Rattle.whole.specs.Plain.{ℕ, suc, _+_, _-_, _*_, _/_, _%_, _≤_, _<_, _≡_, refl, sym, ap, _∙_, subst, _≢_, ⊎-elim, Bool}
-use Rattle.whole.specs.Plain.{true, false, cond, _||_, List, map, List·Memᴰ·append-cases, Memᴰ·append-left}
-use Rattle.whole.specs.Plain.{Memᴰ·append-right, eqb, ltb, ℤ, pos, natAbs, length, set, length-set, getD-set-same, getD-set-other, ext-getD}
-use Rattle.whole.specs.Plain.{eq-eqb, ltb-true, ℕ-discrete, arith, Words, z, word, numbers, fold}
-use Rattle.whole.specs.Folds.{both, fold-keeps, fold-map}
-use Rattle.whole.specs.Members.{Among, Kept, All, all-among, among-keep, keep-among, among-numbers, numbers-among}
+use Rattle.whole.specs.Plain.{ℕ, suc, _+_, _-_, _*_, _/_, _%_, _≤_, _<_, _≡_, refl, sym, ap, _∙_, subst, _≢_, _⊎_, inl, inr, ⊎-elim, Bool}
+use Rattle.whole.specs.Plain.{true, false, cond, not, _&&_, _||_, true≢false, List, map, List·Memᴰ·append-cases, Memᴰ·append-left}
+use Rattle.whole.specs.Plain.{Memᴰ·append-right, eqb, ltb, ℤ, pos, natAbs, ltZ, length, set, length-set, getD-set-same, getD-set-other, ext-getD}
+use Rattle.whole.specs.Plain.{eq-eqb, eqb-true, ltb-true, ℕ-discrete, arith, Words, z, word, numbers, fold}
+use Rattle.whole.specs.Folds.{and-left, both, fold-keeps, fold-map}
+use Rattle.whole.specs.Members.{Among, Kept, All, all-among, among-at, among-keep, keep-among, among-numbers, numbers-among}
 use Rattle.whole.specs.Turns.{turns}
-use Rattle.paper.specs.Classes.{line-branch}
+use Rattle.paper.specs.Classes.{line-branch, breaker-branch, breaker-line}
 use Rattle.paper.specs.Limits as Limits
-use Rattle.paper.specs.Rows.{Row, kind, isBranch, isLine, isL, isC, from, to}
+use Rattle.paper.specs.Rows.{Row, kind, isBranch, isLine, isBreaker, isL, isC, from, to}
 use Rattle.paper.specs.Areas.{Net, areaOf, areaCount, rowArea, fixed, nodesOf, freeOf}
 use Rattle.paper.specs.Records as Records
-use Rattle.paper.specs.Records.{voltAt, currentAt, toCurrentAt, historyAt, peakAt, peakStepAt, Section, counts, voltages, currents, toCurrents, histories, outdone, newPeak, newPeakStep}
-use Rattle.paper.specs.Records.{peaks, peakSteps, sections}
+use Rattle.paper.specs.Records.{voltAt, currentAt, toCurrentAt, historyAt, peakAt, peakStepAt, latchAt, Section, counts, voltages, currents, toCurrents, histories, outdone, newPeak, newPeakStep}
+use Rattle.paper.specs.Records.{peaks, peakSteps, latches, sections}
+use Rattle.paper.specs.Latch as Latch
+use Rattle.paper.specs.Latch.{newLatch}
 use Rattle.paper.specs.Apart.{owned}
 use Rattle.paper.specs.Legs.{Leg, End, Branch, branch, Heard, legsBy, legsOf, branchIn, heard, current, echo, passedOn}
 use Rattle.paper.specs.Advance.{memory, putIf, newRecords, putSent, newStore, written}
@@ -21,7 +23,7 @@ use Rattle.laws_local.specs.Sound.{Sound, sound, row-there}
 use Rattle.laws_local.specs.Own.{legs-length, branch-is as branch-at, row-is, line-no, keeper}
 use Rattle.laws_local.specs.Nodes.{NodeOf, node-of, of-node, free-of, of-free}
 use Rattle.laws_local.specs.Puts.{put-length, put-other, put-same, put-with}
-use Rattle.laws_local.specs.Written.{records-length, records-keep, count-put, volt-put, peak-own, peak-put, peak-step-own, peak-step-put, current-put, to-put, history-put}
+use Rattle.laws_local.specs.Written.{records-length, records-keep, count-put, volt-put, peak-own, peak-put, peak-step-own, peak-step-put, current-put, to-put, history-put, latch-own, latch-put}
 use Rattle.plan_ends.specs.Own.{ownerOf, rowOfEnd, sideOfEnd, ownEnd, ownEnds, fixedOf, ownNodes}
 use Rattle.plan_rows.specs.Planned.{Planned}
 use Rattle.step_legs.specs.declared.Wire.{Wire}
@@ -32,7 +34,8 @@ use Rattle.step_own.specs.Branches.{from-own, to-own}
 use Rattle.step_own.specs.Laid.{Laid, wires-are}
 use Rattle.step_own.specs.Pass.{turn, pass}
 use Rattle.step_flow.specs.Flown.{passedBy, flown}
-use Rattle.step_records.specs.Records.{legPut, recordsPut, nodePut, nodesPut}
+use Rattle.step_latch.specs.Parting.{legParts, latchPut, parts-paper, latch-again}
+use Rattle.step_records.specs.Records.{legPut, recordsPut, nodePut, nodesPut, nodes-else}
 use Rattle.step_commit.specs.Stores.{fromEnd, toEnd, sentPut, sentBy}
 use Rattle.step_commit.specs.Reached.{fold-keep, fold-reach, fold-first}
 use Rattle.step_commit.specs.Asked.{place-is, slots-is}
@@ -120,10 +123,25 @@ module _ {N : Net} {a k : ℕ} {recs froms tos : Words} {legs : List Words} {pla
     snd = sound N s
 
     abbrev put : ℕ → Words → Words
-    put e x = found legPut v (wireOf N k recs froms tos e) x
+    put e x = found (legPut plan k) v (wireOf N k recs froms tos e) x
 
     abbrev by : ℕ → Branch
     by = legsBy N a k recs ears
+
+    -- what a row's from end puts: the latch of an SW that parts, the current, a history
+
+    abbrev nowAt : ℕ → ℤ
+    nowAt i = current v (legOf (wireOf N k recs froms tos (2 * i)))
+
+    abbrev parting : ℕ → Words → Bool
+    parting i x = isBreaker (rowAt N i) && (not (ltZ z (word x (latchAt i))) && Latch.parts k (rowAt N i) (word x (currentAt i)) (nowAt i))
+
+    abbrev latched : ℕ → Words → Words
+    latched i x = putIf (parting i x) x (latchAt i) (pos k)
+
+    from-is : (i : ℕ) → i < length (N .rows) → (x : Words)
+        → put (2 * i) x ≡ putIf (isL (rowAt N i) || isC (rowAt N i)) (set (latched i x) (currentAt i) (nowAt i)) (historyAt i) (passedOn v (rowAt N i) (legOf (wireOf N k recs froms tos (2 * i))))
+    from-is i h x = from-puts plan k v x (from-end i h) ∙ rw (p .row i h, parts-paper N i k (word x (currentAt i)) (nowAt i) (word x (latchAt i)))
 
     module _ (i : ℕ) (h : i < length (N .rows)) (j : ℕ) (x : Words) where
       module _ (o : ownEnd N a (2 * i) ≡ true) where
@@ -144,24 +162,25 @@ module _ {N : Net} {a k : ℕ} {recs froms tos : Words} {legs : List Words} {pla
         history-right : isL (rowAt N i) || isC (rowAt N i) ≡ true → passedOn v (rowAt N i) (legOf (wireOf N k recs froms tos (2 * i))) ≡ word after (historyAt i)
         history-right c = ap (passedOn v (rowAt N i)) from-wire ∙ sym (history-put N a k recs ears v snd recs long i h (both c from-owned))
 
-        from-keeps : Right j x → Right j (put (2 * i) x)
+        from-keeps : (isBreaker (rowAt N i) ≡ true → latchAt i ≢ j) → Right j x → Right j (put (2 * i) x)
         unfolding putIf
-        from-keeps p =
-            rw (from-puts v x (from-end i h))
+        from-keeps d p =
+            rw (from-is i h x)
             (put-with (λ (y : ℤ). y ≡ word after j) (isL (rowAt N i) || isC (rowAt N i)) _ (historyAt i) j _
-            (put-with (λ (y : ℤ). y ≡ word after j) true x (currentAt i) j _ p (λ _ q. current-right ∙ ap (word after) q))
+            (put-with (λ (y : ℤ). y ≡ word after j) true (latched i x) (currentAt i) j _
+            (put-other (parting i x) x (latchAt i) j (pos k) (λ b e. d (and-left (isBreaker (rowAt N i)) _ b) (sym e)) ∙ p) (λ _ q. current-right ∙ ap (word after) q))
             (λ c q. history-right c ∙ ap (word after) q))
 
         current-reached : Long x → Right (currentAt i) (put (2 * i) x)
         current-reached n =
-            rw (from-puts v x (from-end i h))
+            rw (from-is i h x)
             (put-other (isL (rowAt N i) || isC (rowAt N i)) _ (historyAt i) (currentAt i) _ (λ _ e. omega (arith, snd .rows))
-            ∙ getD-set-same x (currentAt i) _ z (omega (arith, snd .rows)) ∙ current-right)
+            ∙ getD-set-same (latched i x) (currentAt i) _ z (omega (arith, put-length (parting i x) x (latchAt i) (pos k), snd .rows)) ∙ current-right)
 
         history-reached : isL (rowAt N i) || isC (rowAt N i) ≡ true → Long x → Right (historyAt i) (put (2 * i) x)
         history-reached c n =
-            rw (from-puts v x (from-end i h))
-            (put-same (isL (rowAt N i) || isC (rowAt N i)) _ (historyAt i) _ c (omega (arith, length-set x (currentAt i) (current v (legOf (wireOf N k recs froms tos (2 * i)))), snd .rows)) ∙ history-right c)
+            rw (from-is i h x)
+            (put-same (isL (rowAt N i) || isC (rowAt N i)) _ (historyAt i) _ c (omega (arith, length-set (latched i x) (currentAt i) (nowAt i), put-length (parting i x) x (latchAt i) (pos k), snd .rows)) ∙ history-right c)
 
       module _ (o : ownEnd N a (2 * i + 1) ≡ true) where
         to-right : isLine (rowAt N i) ≡ true → current v (legOf (wireOf N k recs froms tos (2 * i + 1))) ≡ word after (toCurrentAt i)
@@ -173,16 +192,20 @@ module _ {N : Net} {a k : ℕ} {recs froms tos : Words} {legs : List Words} {pla
             ap (current v) (rw o at (to-leg N a k recs froms tos i h one)) ∙ sym (to-put N a k recs ears v snd recs long i h (both c q))
 
         to-keeps : Right j x → Right j (put (2 * i + 1) x)
-        to-keeps p = rw (to-puts v x (to-end i h)) (put-with (λ (y : ℤ). y ≡ word after j) (isLine (rowAt N i)) x (toCurrentAt i) j _ p (λ c q. to-right c ∙ ap (word after) q))
+        to-keeps p = rw (to-puts plan k v x (to-end i h)) (put-with (λ (y : ℤ). y ≡ word after j) (isLine (rowAt N i)) x (toCurrentAt i) j _ p (λ c q. to-right c ∙ ap (word after) q))
 
         to-reached : isLine (rowAt N i) ≡ true → Long x → Right (toCurrentAt i) (put (2 * i + 1) x)
-        to-reached c n = rw (to-puts v x (to-end i h)) (put-same (isLine (rowAt N i)) x (toCurrentAt i) _ c (omega (arith, snd .rows)) ∙ to-right c)
+        to-reached c n = rw (to-puts plan k v x (to-end i h)) (put-same (isLine (rowAt N i)) x (toCurrentAt i) _ c (omega (arith, snd .rows)) ∙ to-right c)
 
     -- the turns of an area's ends and nodes
 
-    end-keeps : (j : ℕ) (x : Words) (e : ℕ) → Among e (ownEnds N a) → Right j x → Right j (put e x)
+    -- a word that is no latch of the area's
+    abbrev Unlatched : ℕ → Type 0
+    Unlatched j = (i : ℕ) → i < length (N .rows) → isBreaker (rowAt N i) ≡ true → ownEnd N a (2 * i) ≡ true → latchAt i ≢ j
+
+    end-keeps : (j : ℕ) → Unlatched j → (x : Words) (e : ℕ) → Among e (ownEnds N a) → Right j x → Right j (put e x)
     unfolding ownEnds
-    end-keeps j x e m p = go (ℕ-discrete (e % 2) 0)
+    end-keeps j d x e m p = go (ℕ-discrete (e % 2) 0)
       where
         c : Kept (ownEnd N a) (numbers 0 (2 * length (N .rows))) e
         c = keep-among (ownEnd N a) (numbers 0 (2 * length (N .rows))) m
@@ -191,19 +214,25 @@ module _ {N : Net} {a k : ℕ} {recs froms tos : Words} {legs : List Words} {pla
         inside = omega (arith, numbers-among 0 (2 * length (N .rows)) (c .among) .1)
 
         go : Dec (e % 2 ≡ 0) → Right j (put e x)
-        go (yes q) = let d : e ≡ 2 * (e / 2) = omega arith in subst (λ (n : ℕ). ownEnd N a n ≡ true → Right j (put n x)) (sym d) (λ o. from-keeps (e / 2) inside j x o p) (c .passes)
-        go (no q) = let d : e ≡ 2 * (e / 2) + 1 = omega arith in subst (λ (n : ℕ). ownEnd N a n ≡ true → Right j (put n x)) (sym d) (λ o. to-keeps (e / 2) inside j x o p) (c .passes)
+        go (yes q) = let f : e ≡ 2 * (e / 2) = omega arith in subst (λ (n : ℕ). ownEnd N a n ≡ true → Right j (put n x)) (sym f) (λ o. from-keeps (e / 2) inside j x o (λ b. d (e / 2) inside b o) p) (c .passes)
+        go (no q) = let f : e ≡ 2 * (e / 2) + 1 = omega arith in subst (λ (n : ℕ). ownEnd N a n ≡ true → Right j (put n x)) (sym f) (λ o. to-keeps (e / 2) inside j x o p) (c .passes)
 
     end-among : (e : ℕ) → e < 2 * length (N .rows) → ownEnd N a e ≡ true → Among e (ownEnds N a)
     unfolding ownEnds
     end-among e h o = among-keep (ownEnd N a) (numbers 0 (2 * length (N .rows))) (among-numbers 0 (2 * length (N .rows)) (omega arith) (omega arith)) o
 
     put-long : (x : Words) (e : ℕ) → Long x → Long (put e x)
-    unfolding legPut
+    unfolding legPut latchPut
     put-long x e n = go (eqb (sideOfEnd e) 1)
       where
-        go : (b : Bool) → Long (cond b (putIf (eqb (kind (rowOfEnd N e)) 2 || eqb (kind (rowOfEnd N e)) 3) (set x (currentAt (e / 2)) (current v (legOf (wireOf N k recs froms tos e)))) (historyAt (e / 2)) (passedBy (kind (rowOfEnd N e)) (echo v (legOf (wireOf N k recs froms tos e)))))
-            (putIf (eqb (kind (rowOfEnd N e)) 4) x (toCurrentAt (e / 2)) (current v (legOf (wireOf N k recs froms tos e)))))
+        w : Wire
+        w = wireOf N k recs froms tos e
+
+        now : ℤ
+        now = current v (legOf w)
+
+        go : (b : Bool) → Long (cond b (putIf (eqb (kind (rowOfEnd N e)) 2 || eqb (kind (rowOfEnd N e)) 3) (set (putIf (legParts plan k w now x) x (latchAt (e / 2)) (pos k)) (currentAt (e / 2)) now) (historyAt (e / 2)) (passedBy (kind (rowOfEnd N e)) (echo v (legOf w))))
+            (putIf (eqb (kind (rowOfEnd N e)) 4) x (toCurrentAt (e / 2)) now))
         go true = simp (put-length, length-set) n
         go false = simp put-length n
 
@@ -231,11 +260,11 @@ module _ {N : Net} {a k : ℕ} {recs froms tos : Words} {legs : List Words} {pla
     abbrev all : Words
     all = fold (λ x e. put e x) nodes (ownEnds N a)
 
-    records-fold : recordsPut lines (ownNodes N a) v a k recs ≡ all
+    records-fold : recordsPut plan lines (ownNodes N a) v a k recs ≡ all
     unfolding recordsPut
     records-fold =
-        by-wires legPut v legs (record { nine = λ j h. l .conducting .framed .line j h .long }) _
-        ∙ rw (wires-are l) (fold-map (λ x w. found legPut v w x) (wireOf N k recs froms tos) nodes (ownEnds N a))
+        by-wires (legPut plan k) v legs (record { nine = λ j h. l .conducting .framed .line j h .long }) _
+        ∙ rw (wires-are l) (fold-map (λ x w. found (legPut plan k) v w x) (wireOf N k recs froms tos) nodes (ownEnds N a))
 
     -- a node's turn: its voltage, and its peak where the paper's step renews it
 
@@ -384,8 +413,8 @@ module _ {N : Net} {a k : ℕ} {recs froms tos : Words} {legs : List Words} {pla
           step = getD-set-other recs (0 + (a - 1)) (peakStepAt N n) (pos k) z (λ e. omega (arith, node-low n m, most, snd .areas));
         })
 
-    ends-keep : (j : ℕ) → Right j nodes → Right j all
-    ends-keep j p = fold-keep (λ x e. put e x) (Right j) (ownEnds N a) (λ x e m q. end-keeps j x e m q) nodes p
+    ends-keep : (j : ℕ) → Unlatched j → Right j nodes → Right j all
+    ends-keep j d p = fold-keep (λ x e. put e x) (Right j) (ownEnds N a) (λ x e m q. end-keeps j d x e m q) nodes p
 
     count-is : word after (0 + (a - 1)) ≡ pos k
     count-is = let e : 0 + (a - 1) ≡ a - 1 = omega arith in rw e (count-put N a k recs ears v snd recs long one most)
@@ -405,8 +434,109 @@ module _ {N : Net} {a k : ℕ} {recs froms tos : Words} {legs : List Words} {pla
     abbrev Reached : Section → Type 0
     Reached t = (i : ℕ) → i < t .words → t .used N i ≡ true → t .area N i ≡ a → Right (t .start + i) all
 
-    by-end : (e j : ℕ) → e < 2 * length (N .rows) → ownEnd N a e ≡ true → ((x : Words) → Long x → Right j (put e x)) → Right j all
-    by-end e j h o r = fold-reach (λ x e. put e x) (Right j) Long put-long (ownEnds N a) (end-among e h o) (λ x d m q. end-keeps j x d m q) r nodes nodes-long
+    by-end : (e j : ℕ) → e < 2 * length (N .rows) → Unlatched j → ownEnd N a e ≡ true → ((x : Words) → Long x → Right j (put e x)) → Right j all
+    by-end e j h d o r = fold-reach (λ x e. put e x) (Right j) Long put-long (ownEnds N a) (end-among e h o) (λ x n m q. end-keeps j d x n m q) r nodes nodes-long
+
+    -- ---- an SW's latch goes by the current and the latch that stood in the records, which no other turn has touched
+
+    module _ (i : ℕ) (h : i < length (N .rows)) (b : isBreaker (rowAt N i) ≡ true) (o : ownEnd N a (2 * i) ≡ true) where
+      mine : rowArea N (rowAt N i) ≡ a
+      unfolding ownEnd ownerOf
+      mine =
+          let e : 2 * i / 2 ≡ i = omega arith in
+          let f : 1 + 2 * i % 2 ≡ 1 = omega arith in
+          eqb-true _ a (rw (e, f, breaker-line (rowAt N i) b, breaker-branch (rowAt N i) b) at o)
+
+      latch-right : newLatch k (rowAt N i) (word recs (currentAt i)) (nowAt i) (word recs (latchAt i)) ≡ word after (latchAt i)
+      latch-right =
+          ap (λ (y : Leg). newLatch k (rowAt N i) (word recs (currentAt i)) (current v y) (word recs (latchAt i))) (from-wire i h 0 recs o)
+          ∙ sym (latch-put N a k recs ears v snd recs long i h b mine)
+
+      record Finds (u : Words) : Type 0 where
+        size : Long u
+        current : word u (currentAt i) ≡ word recs (currentAt i)
+        latch : word u (latchAt i) ≡ word recs (latchAt i)
+
+      record Latched (u : Words) : Type 0 where
+        size : Long u
+        current : Right (currentAt i) u
+        latch : Right (latchAt i) u
+
+      abbrev Left : Words → Words → Type 0
+      Left u w = (word w (currentAt i) ≡ word u (currentAt i)) × (word w (latchAt i) ≡ word u (latchAt i))
+
+      from-else : (n : ℕ) → n < length (N .rows) → n ≢ i → (u : Words) → Left u (put (2 * n) u)
+      from-else n l d u =
+          rw (from-is n l u) (
+            put-other _ _ (historyAt n) (currentAt i) _ (λ _ q. omega (arith, snd .rows)) ∙ getD-set-other (latched n u) (currentAt n) (currentAt i) _ z (λ q. d (omega arith)) ∙ put-other (parting n u) u (latchAt n) (currentAt i) _ (λ _ q. omega (arith, snd .rows)),
+            put-other _ _ (historyAt n) (latchAt i) _ (λ _ q. omega (arith, snd .rows)) ∙ getD-set-other (latched n u) (currentAt n) (latchAt i) _ z (λ q. omega (arith, snd .rows)) ∙ put-other (parting n u) u (latchAt n) (latchAt i) _ (λ _ q. d (omega arith)),
+          )
+
+      to-else : (n : ℕ) → n < length (N .rows) → (u : Words) → Left u (put (2 * n + 1) u)
+      to-else n l u =
+          rw (to-puts plan k v u (to-end n l))
+          (put-other _ u (toCurrentAt n) (currentAt i) _ (λ _ q. omega (arith, snd .rows)), put-other _ u (toCurrentAt n) (latchAt i) _ (λ _ q. omega (arith, snd .rows)))
+
+      end-else : (u : Words) (e : ℕ) → Among e (ownEnds N a) → e ≢ 2 * i → Left u (put e u)
+      unfolding ownEnds
+      end-else u e m d = go (ℕ-discrete (e % 2) 0)
+        where
+          inside : e / 2 < length (N .rows)
+          inside = omega (arith, numbers-among 0 (2 * length (N .rows)) (keep-among (ownEnd N a) (numbers 0 (2 * length (N .rows))) m .among) .1)
+
+          go : Dec (e % 2 ≡ 0) → Left u (put e u)
+          go (yes q) = let f : e ≡ 2 * (e / 2) = omega arith in subst (λ (n : ℕ). Left u (put n u)) (sym f) (from-else (e / 2) inside (λ g. d (omega arith)) u)
+          go (no q) = let f : e ≡ 2 * (e / 2) + 1 = omega arith in subst (λ (n : ℕ). Left u (put n u)) (sym f) (to-else (e / 2) inside u)
+
+      -- its own turn
+      own-turn : (u : Words) → Long u → (word (put (2 * i) u) (currentAt i) ≡ nowAt i) × (word (put (2 * i) u) (latchAt i) ≡ newLatch k (rowAt N i) (word u (currentAt i)) (nowAt i) (word u (latchAt i)))
+      unfolding newLatch
+      own-turn u n =
+          rw (from-is i h u) (
+            put-other _ _ (historyAt i) (currentAt i) _ (λ _ q. omega (arith, snd .rows)) ∙ getD-set-same (latched i u) (currentAt i) _ z (omega (arith, put-length (parting i u) u (latchAt i) (pos k), snd .rows)),
+            put-other _ _ (historyAt i) (latchAt i) _ (λ _ q. omega (arith, snd .rows)) ∙ getD-set-other (latched i u) (currentAt i) (latchAt i) _ z (λ q. omega (arith, snd .rows)) ∙ rw b (go (not (ltZ z (word u (latchAt i))) && Latch.parts k (rowAt N i) (word u (currentAt i)) (nowAt i))),
+          )
+        where
+          go : (t : Bool) → word (putIf t u (latchAt i) (pos k)) (latchAt i) ≡ cond t (pos k) (word u (latchAt i))
+          go true = put-same true u (latchAt i) (pos k) refl (omega (arith, snd .rows))
+          go false = put-other false u (latchAt i) (latchAt i) (pos k) (λ e. absurd (true≢false (sym e)))
+
+      stay : (u : Words) (e : ℕ) → Among e (ownEnds N a) → e ≢ 2 * i → Finds u → Finds (put e u)
+      stay u e m d f = let x = end-else u e m d in record { size = put-long u e (f .size); current = x .0 ∙ f .current; latch = x .1 ∙ f .latch }
+
+      reach : (u : Words) → Finds u → Latched (put (2 * i) u)
+      reach u f =
+          let x = own-turn u (f .size) in
+          record { size = put-long u (2 * i) (f .size); current = x .0 ∙ current-right i h 0 recs o; latch = x .1 ∙ rw (f .current, f .latch) latch-right }
+
+      keep : (u : Words) (e : ℕ) → Among e (ownEnds N a) → Latched u → Latched (put e u)
+      keep u e m p = go (ℕ-discrete e (2 * i))
+        where
+          again : Latched (put (2 * i) u)
+          again =
+              let x = own-turn u (p .size) in
+              let flows : word u (currentAt i) ≡ nowAt i = p .current ∙ sym (current-right i h 0 recs o) in
+              record {
+                size = put-long u (2 * i) (p .size);
+                current = x .0 ∙ current-right i h 0 recs o;
+                latch = x .1 ∙ ap (λ (y : ℤ). newLatch k (rowAt N i) y (nowAt i) (word u (latchAt i))) flows
+                    ∙ ap (newLatch k (rowAt N i) (nowAt i) (nowAt i)) (p .latch ∙ sym latch-right)
+                    ∙ latch-again k (rowAt N i) (word recs (currentAt i)) (nowAt i) (word recs (latchAt i)) ∙ latch-right;
+              }
+
+          go : Dec (e ≡ 2 * i) → Latched (put e u)
+          go (yes q) = subst (λ (n : ℕ). Latched (put n u)) (sym q) again
+          go (no q) = let x = end-else u e m q in record { size = put-long u e (p .size); current = x .0 ∙ p .current; latch = x .1 ∙ p .latch }
+
+      nodes-left : (j : ℕ) → 64 ≤ j → (j < 224) ⊎ (368 ≤ j) → word nodes j ≡ word recs j
+      nodes-left j l m =
+          nodes-else k v (ownNodes N a) start (record { end = λ n q. node-most _ (among-at (ownNodes N a) n 0 q) }) j l m
+          ∙ getD-set-other recs (0 + (a - 1)) j (pos k) z (λ e. omega (arith, most, snd .areas))
+
+      latch-at : Right (latchAt i) all
+      latch-at =
+          fold-first (λ u e. put e u) Latched Finds (2 * i) (ownEnds N a) (end-among (2 * i) (omega arith) o) stay keep reach nodes
+          (record { size = nodes-long; current = nodes-left (currentAt i) (omega arith) (inl (omega (arith, snd .rows))); latch = nodes-left (latchAt i) (omega arith) (inr (omega arith)) }) .latch
 
     own-from : (i : ℕ) → isBranch (rowAt N i) ≡ true → cond (isLine (rowAt N i)) (areaOf N (from (rowAt N i))) (rowArea N (rowAt N i)) ≡ a → ownEnd N a (2 * i) ≡ true
     unfolding ownEnd ownerOf
@@ -424,12 +554,12 @@ module _ {N : Net} {a k : ℕ} {recs froms tos : Words} {legs : List Words} {pla
 
     reached : {t : Section} → Among t sections → Reached t
     unfolding sections All
-    reached = all-among Reached sections (count-reached, (volt-reached, (from-reached, (to-reached-all, (held-reached, (peak-reached, (step-reached, tt)))))))
+    reached = all-among Reached sections (count-reached, (volt-reached, (from-reached, (to-reached-all, (held-reached, (peak-reached, (step-reached, (latch-reached, tt))))))))
       where
         count-reached : Reached counts
         count-reached i h u o =
             let e : i ≡ a - 1 = omega arith in
-            rw e (ends-keep (0 + (a - 1)) (nodes-keep (0 + (a - 1)) (λ n m. (λ q. omega (arith, node-low n m, most, snd .areas), λ q. omega (arith, node-low n m, most, snd .areas))) (getD-set-same recs (0 + (a - 1)) (pos k) z (omega (arith, snd .areas)) ∙ sym count-is)))
+            rw e (ends-keep (0 + (a - 1)) (λ n _ _ _ q. omega (arith, most, snd .areas)) (nodes-keep (0 + (a - 1)) (λ n m. (λ q. omega (arith, node-low n m, most, snd .areas), λ q. omega (arith, node-low n m, most, snd .areas))) (getD-set-same recs (0 + (a - 1)) (pos k) z (omega (arith, snd .areas)) ∙ sym count-is)))
 
         own-node : (i : ℕ) → ltb i (N .nodes) ≡ true → areaOf N (suc i) ≡ a → Among (suc i) (ownNodes N a)
         own-node i u o = own-of-node (suc i) (record { area = o; low = omega arith; high = omega (arith, ltb-true i (N .nodes) u) })
@@ -437,41 +567,46 @@ module _ {N : Net} {a k : ℕ} {recs froms tos : Words} {legs : List Words} {pla
         volt-reached : Reached voltages
         volt-reached i h u o =
             let e : 32 + suc i - 1 ≡ 32 + i = omega arith in
-            ends-keep (32 + i) (rw e at (volt-at (suc i) (own-node i u o)))
+            ends-keep (32 + i) (λ n _ _ _ q. omega arith) (rw e at (volt-at (suc i) (own-node i u o)))
 
         peak-reached : Reached peaks
         peak-reached i h u o =
             let e : 304 + suc i - 1 ≡ 304 + i = omega arith in
-            ends-keep (304 + i) (rw e at (stood-at (suc i) (own-node i u o) .0))
+            ends-keep (304 + i) (λ n _ _ _ q. omega arith) (rw e at (stood-at (suc i) (own-node i u o) .0))
 
         step-reached : Reached peakSteps
         step-reached i h u o =
             let e : 336 + suc i - 1 ≡ 336 + i = omega arith in
-            ends-keep (336 + i) (rw e at (stood-at (suc i) (own-node i u o) .1))
+            ends-keep (336 + i) (λ n _ _ _ q. omega arith) (rw e at (stood-at (suc i) (own-node i u o) .1))
 
         from-reached : Reached currents
-        from-reached i h u o = let t = row-there N i u in by-end (2 * i) (currentAt i) (omega arith) (own-from i u o) (λ x n. current-reached i t (currentAt i) x (own-from i u o) n)
+        from-reached i h u o = let t = row-there N i u in by-end (2 * i) (currentAt i) (omega arith) (λ n _ _ _ q. omega arith) (own-from i u o) (λ x n. current-reached i t (currentAt i) x (own-from i u o) n)
 
         to-reached-all : Reached toCurrents
-        to-reached-all i h u o = let t = row-there N i (line-branch (rowAt N i) u) in by-end (2 * i + 1) (toCurrentAt i) (omega arith) (own-to i u o) (λ x n. to-reached i t (toCurrentAt i) x (own-to i u o) u n)
+        to-reached-all i h u o = let t = row-there N i (line-branch (rowAt N i) u) in by-end (2 * i + 1) (toCurrentAt i) (omega arith) (λ n _ _ _ q. omega arith) (own-to i u o) (λ x n. to-reached i t (toCurrentAt i) x (own-to i u o) u n)
 
         held-reached : Reached histories
         held-reached i h u o =
             let b = keeper (rowAt N i) u in
             let t = row-there N i b in
             let f = own-from i b (rw (line-no (rowAt N i) u) o) in
-            by-end (2 * i) (historyAt i) (omega arith) f (λ x n. history-reached i t (historyAt i) x f u n)
+            by-end (2 * i) (historyAt i) (omega arith) (λ n _ _ _ q. omega arith) f (λ x n. history-reached i t (historyAt i) x f u n)
+
+        latch-reached : Reached latches
+        latch-reached i h u o =
+            let c = breaker-branch (rowAt N i) u in
+            latch-at i (row-there N i c) u (own-from i c (rw (breaker-line (rowAt N i) u) o))
 
     right : (j : ℕ) → Right j all
     right j = go (ℕ-discrete (Records.ownerOf N j) a)
       where
         go : Dec (Records.ownerOf N j ≡ a) → Right j all
-        go (no n) = ends-keep j (nodes-keep j (λ i m. let h = node-of-own i m in (λ e. n (ap (Records.ownerOf N) (sym e) ∙ peak-own N a snd i h), λ e. n (ap (Records.ownerOf N) (sym e) ∙ peak-step-own N a snd i h))) (start-keeps j (sym (records-keep N a k bs v recs j n))))
+        go (no n) = ends-keep j (λ i h b o e. n (ap (Records.ownerOf N) (sym e) ∙ latch-own N a snd i h b (mine i h b o))) (nodes-keep j (λ i m. let h = node-of-own i m in (λ e. n (ap (Records.ownerOf N) (sym e) ∙ peak-own N a snd i h), λ e. n (ap (Records.ownerOf N) (sym e) ∙ peak-step-own N a snd i h))) (start-keeps j (sym (records-keep N a k bs v recs j n))))
         go (yes o) = let w = owned N a j one o in let p = w .at in rw (p .is) (reached (p .among) (p .place) (p .inside) (w .used) (w .area))
 
-    pub records-are : recordsPut lines (ownNodes N a) v a k recs ≡ newRecords N a k bs v recs
+    pub records-are : recordsPut plan lines (ownNodes N a) v a k recs ≡ newRecords N a k bs v recs
     records-are = records-fold ∙ ext-getD z all after (all-long ∙ sym (records-length N a k bs v recs)) (λ j _. right j)
 
-    pub written-is : memory (recordsPut lines (ownNodes N a) v a k recs) (sentBy plan k fromEnd lines froms) (sentBy plan k toEnd lines tos) ≡ written N a k bs v (memory recs froms tos)
+    pub written-is : memory (recordsPut plan lines (ownNodes N a) v a k recs) (sentBy plan k fromEnd lines froms) (sentBy plan k toEnd lines tos) ≡ written N a k bs v (memory recs froms tos)
     unfolding written
     written-is = rw (records-are, froms-are, tos-are)

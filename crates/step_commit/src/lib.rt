@@ -1,9 +1,9 @@
-// What an accepted step of one area writes: its count, its voltages and peaks, the words of its rows, and what its line ends send. A leg's line has its current and
+// What an accepted step of one area writes: its count, its voltages and peaks, the words of its rows and latches, and what its line ends send. A leg's line has its current and
 // what it passes on; nothing is worked out again.
 ghost use Rattle.whole.specs.Plain.{_+_, _≤_, _<_, _%_, _≡_, length, set};
 ghost use Rattle.whole.specs.Loans.{was, is};
 ghost use Rattle.paper.specs.Limits as Limits;
-ghost use Rattle.step_records.specs.Records.{recordsPut, Recordable};
+ghost use Rattle.step_records.specs.Records.{recordsPut, Unparted, Recordable};
 ghost use Rattle.step_commit.specs.Stores.{fromEnd, toEnd, sentPut, sentBy, Slotted, Sendable};
 use paper::Node;
 use paper::kinds;
@@ -64,7 +64,7 @@ fn send(plan: &Table, legs: &[Line], froms: &mut [i64], tos: &mut [i64], k: usiz
     }
 }
 
-// All that an accepted step writes.
+// All that an accepted step writes. Whether a breaker of the area parted: where none did, every latch is as it was.
 pub fn commit(
     plan: &Table,
     legs: &[Line],
@@ -75,13 +75,15 @@ pub fn commit(
     tos: &mut [i64],
     area: usize,
     k: usize,
-)
+) -> bool
     requires { ⌜ Recordable (now legs) (now nodes) (now v) (now records) area k ⌝ }
     requires { ⌜ Sendable (now plan) (now legs) (now froms) (now tos) ⌝ }
-    ensures { λ _. ⌜ is records ≡ recordsPut (was legs) (was nodes) (was v) area k (was records) ⌝ }
+    ensures { λ _. ⌜ is records ≡ recordsPut (was plan) (was legs) (was nodes) (was v) area k (was records) ⌝ }
+    ensures { λ r. ⌜ Unparted r (was records) (is records) ⌝ }
     ensures { λ _. ⌜ is froms ≡ sentBy (was plan) k fromEnd (was legs) (was froms) ⌝ }
     ensures { λ _. ⌜ is tos ≡ sentBy (was plan) k toEnd (was legs) (was tos) ⌝ }
 {
-    step_records::put_records(legs, nodes, v, records, area, k);
+    let parted = step_records::put_records(plan, legs, nodes, v, records, area, k);
     send(plan, legs, froms, tos, k);
+    parted
 }

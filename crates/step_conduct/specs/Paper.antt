@@ -1,25 +1,40 @@
--- What is conducted by the plan is the paper's conductances, at each step before the next change. Assumes nothing.
-use Rattle.whole.specs.Plain.{ℕ, _/_, _*_, _≤_, _<_, _≡_, refl, ap, _∙_, Bool, true, false, List, [], ℤ, pos, length}
-use Rattle.whole.specs.Plain.{getD, set, length-set, getD-set-same, getD-set-other, eqb-true, arith, Words, z, word}
-use Rattle.whole.specs.Plain.{nat}
+-- What is conducted by the plan and the latches is the paper's conductances, at each step before the next change. Assumes nothing.
+use Rattle.whole.specs.Plain.{ℕ, _+_, _/_, _*_, _≤_, _<_, _≡_, refl, sym, ap, _∙_, Bool, true, false, cond, not, _||_, List, [], leb, ltb, ℤ}
+use Rattle.whole.specs.Plain.{pos, negsuc, ltZ, leZ, length, getD, set, length-set, getD-set-same, getD-set-other, leb-true}
+use Rattle.whole.specs.Plain.{leb-false, lt-ltb, le-ltb, arith, Words, z, word, nat}
 use Rattle.paper.specs.Rows as Rows
-use Rattle.paper.specs.Rows.{isBranch, isSwitch}
+use Rattle.paper.specs.Rows.{isBranch, isBreaker}
 use Rattle.paper.specs.Conductance.{conductance}
 use Rattle.paper.specs.Areas.{Net, step}
+use Rattle.paper.specs.Records.{latchAt}
+use Rattle.paper.specs.Latch.{holds}
 use Rattle.paper.specs.Legs.{isOpen, conducts}
-use Rattle.laws_facts.specs.Nets.{NetSound, rowAt}
+use Rattle.laws_facts.specs.Nets.{NetSound}
 use Rattle.plan_ends.specs.Own.{rowOfEnd, ownEnd, endAt, FrameOf, Framed}
 use Rattle.plan_rows.specs.declared.Row.{Row}
 use Rattle.plan_rows.specs.Planned.{rowIn, rowOf, conductanceAt, Planned}
-use Rattle.step_factors.specs.Positions.{stays}
 use Rattle.step_own.specs.Ends.{gAt}
 use Rattle.step_own.specs.EndSizes as Sizes
 use Rattle.step_own.specs.Laid.{Conducting, frame-kept, end-own}
-use Rattle.step_conduct.specs.Conducted.{openOf, conductsOf, rowOfLine, conducted, Stays, Rated, Conducted}
+use Rattle.step_conduct.specs.Conducted.{never, openingOf, openOf, conductsOf, rowOfLine, openingAt, conducted, Rated, Conducted, conducts-stays}
 
-pub never-open : (N : Net) (recs : Words) (k i : ℕ) → isSwitch (rowAt N i) ≡ false → isOpen N recs k i ≡ false
-unfolding isOpen
-never-open N recs k i e = rw e
+-- a switch that has closed is so before the step from which it is open again
+holds-is : (r : Rows.Row) (p : ℤ) (k : ℕ) → k < never → holds r p k ≡ ltb k (cond (isBreaker r) (cond (ltZ z p) (nat p + 1) never) (Rows.opens r))
+unfolding holds
+holds-is r p k l = by (isBreaker r) p
+  where
+    within : (n : ℕ) (t : Bool) → leb k n ≡ t → t ≡ ltb k (n + 1)
+    within n true e = sym (lt-ltb k (n + 1) (omega (arith, leb-true k n e)))
+    within n false e = sym (le-ltb k (n + 1) (omega (arith, leb-false k n e)))
+
+    set : (n : ℕ) (t : Bool) → ltb 0 n ≡ t → (not t || leb k n) ≡ ltb k (cond t (n + 1) never)
+    set n true e = within n (leb k n) refl
+    set n false e = sym (lt-ltb k never l)
+
+    by : (b : Bool) (p : ℤ) → cond b (not (ltZ z p) || leZ (pos k) p) (ltb k (Rows.opens r)) ≡ ltb k (cond b (cond (ltZ z p) (nat p + 1) never) (Rows.opens r))
+    by true (pos n) = set n (ltb 0 n) refl
+    by true (negsuc n) = sym (lt-ltb k never l)
+    by false p = refl
 
 -- a line's frame does not hold its conductance
 frame-stays : {N : Net} {e : ℕ} {l : Words} (x : ℤ) → FrameOf N e l → FrameOf N e (set l 5 x)
@@ -44,20 +59,19 @@ module _ {N : Net} {a : ℕ} {plan : List (List ℕ)} {legs : List Words} (s : N
     unfolding rowOf conductanceAt
     g-is = rw branch
 
-    conducts-is : (k : ℕ) → conductsOf k (rowOf N (endAt N a j / 2)) ≡ gAt N k (endAt N a j)
-    unfolding conductsOf conducts openOf isOpen rowOf conductanceAt
-    conducts-is k = rw branch
+    abbrev latch : Words → ℤ
+    latch recs = word recs (latchAt (endAt N a j / 2))
 
-    -- up to its next change
-    conducts-stays : (k i u : ℕ) → Stays k (rowOf N (endAt N a j / 2)) u u → k ≤ i → i < u → gAt N k (endAt N a j) ≡ gAt N i (endAt N a j)
-    unfolding conducts rowOf
-    conducts-stays k i u t l m = by (isSwitch (rowOfEnd N (endAt N a j))) refl
-      where
-        by : (b : Bool) → isSwitch (rowOfEnd N (endAt N a j)) ≡ b → gAt N k (endAt N a j) ≡ gAt N i (endAt N a j)
-        by true q =
-            let w = eqb-true (Rows.kind (rowOfEnd N (endAt N a j))) 5 q in
-            rw (stays N [] k i (endAt N a j / 2) l (λ c. omega (arith, t .closes w c)) (λ o. omega (arith, t .opens w o)))
-        by false q = rw (never-open N [] k (endAt N a j / 2) q, never-open N [] i (endAt N a j / 2) q)
+    conducts-is : (recs : Words) (k : ℕ) → k < never → conductsOf k (openingOf (rowOf N (endAt N a j / 2)) (latch recs)) (rowOf N (endAt N a j / 2)) ≡ gAt N k recs (endAt N a j)
+    unfolding conductsOf conducts openOf openingOf isOpen rowOf conductanceAt
+    conducts-is recs k l = rw (branch, holds-is (rowOfEnd N (endAt N a j)) (latch recs) k l)
+
+    -- the line's conductance, at each step before the next change
+    line-is : {recs : Words} {k until : ℕ} {after : List Words} → Conducted plan recs k (length legs) legs after until → (i : ℕ) → k ≤ i → i < until
+        → conductsOf k (openingAt plan recs (getD legs j [])) (rowOfLine plan (getD legs j [])) ≡ gAt N i recs (endAt N a j)
+    line-is {recs} {k} {until} c i l m =
+        conducts-stays k (openingAt plan recs (getD legs j [])) (rowOfLine plan (getD legs j [])) i until (c .stays j h) l m
+        ∙ rw (row-is, line-row) (conducts-is recs i (omega (arith, c .most)))
 
   pub rated : Rated plan legs
   rated = record {
@@ -69,13 +83,11 @@ module _ {N : Net} {a : ℕ} {plan : List (List ℕ)} {legs : List Words} (s : N
   }
 
   -- what is conducted serves each step before the next change
-  pub conducting : {k until : ℕ} {after : List Words} → Conducted plan k (length legs) legs after until → (i : ℕ) → k ≤ i → i < until → Conducting N a i after
+  pub conducting : {recs : Words} {k until : ℕ} {after : List Words} → Conducted plan recs k (length legs) legs after until → (i : ℕ) → k ≤ i → i < until → Conducting N a i recs after
   unfolding conducted
-  conducting {k} {until} {after} c i l m = record {
+  conducting {recs} {k} {until} {after} c i l m = record {
     framed = record { long = c .long ∙ f .long; line = λ j h. let q : j < length legs = rw (c .long) at h in rw (c .done j q) (frame-stays _ (f .line j q)) };
     g = λ j h.
         let q : j < length legs = rw (c .long) at h in
-        rw (c .done j q)
-        (getD-set-same (getD legs j []) 5 _ z (omega (arith, f .line j q .long))
-        ∙ ap pos (ap (conductsOf k) (row-is j q) ∙ conducts-is j q k ∙ conducts-stays j q k i until (rw (row-is j q) at (c .stays j q)) l m));
+        rw (c .done j q) (getD-set-same (getD legs j []) 5 _ z (omega (arith, f .line j q .long)) ∙ ap pos (line-is j q c i l m));
   }

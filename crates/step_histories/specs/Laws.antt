@@ -58,11 +58,11 @@ module _ {N : Net} {plan : List (List ℕ)} (p : Planned N plan) (i : ℕ) (h : 
   received-is side froms tos k = simp (place-is, slots-are, delay-is, rest-is, step-is) (heard-is N k i (rowAt N i) (farStore side froms tos))
 
 -- ---- the area's legs
-module _ {N : Net} {a k : ℕ} {plan : List (List ℕ)} {legs : List Words} (s : NetSound N) (p : Planned N plan) (c : Conducting N a k legs) where
+module _ {N : Net} {a k : ℕ} {plan : List (List ℕ)} {recs : Words} {legs : List Words} (s : NetSound N) (p : Planned N plan) (c : Conducting N a k recs legs) where
   row-in : (j : ℕ) → j < length legs → endAt N a j / 2 < length (N .rows)
   row-in j h = omega (arith, end-own N a j (omega (arith, c .framed .long)) .0)
 
-  pub hears : {recs froms tos : Words} → 1 ≤ a → Kept recs froms tos → Hears plan legs recs froms tos
+  pub hears : {froms tos : Words} → 1 ≤ a → Kept recs froms tos → Hears plan legs recs froms tos
   hears one kept = record { wires = conducting-wires s one c; ring = ring; kept = kept }
     where
       ring : (j : ℕ) → j < length legs → wireAt legs j .kind ≡ 4 → Ring (rowIn plan (wireAt legs j .row))
@@ -70,7 +70,7 @@ module _ {N : Net} {a k : ℕ} {plan : List (List ℕ)} {legs : List Words} (s :
           let f = c .framed .line j h in
           rw (f .row) (ring-of p (endAt N a j / 2) (row-in j h) s (eq-eqb _ 4 (sym (ap nat (f .kind)) ∙ e)))
 
-  module _ (recs froms tos : Words) where
+  module _ (froms tos : Words) where
     history-is : (j : ℕ) → j < length legs → historyOf plan recs froms tos k (wireAt legs j) ≡ hAt N k recs froms tos (endAt N a j)
     unfolding historyOf hAt
     history-is j h =

@@ -41,7 +41,7 @@ pub record Wired (w : Wire) : Type 0 where
   pub far-end : w .far ≤ Limits.nodeEnd
   pub row-end : w .row < Limits.rowEnd
   pub end-end : w .end ≤ 2
-  pub kind-end : w .kind ≤ 5
+  pub kind-end : w .kind ≤ 9
   pub g-sign : T (nonNeg (w .g))
   pub g-end : ∣ w .g ∣≤ 1000000000
 

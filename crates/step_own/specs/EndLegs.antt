@@ -1,13 +1,13 @@
 -- The two ends of a row are the paper's two legs. Assumes nothing.
 use Rattle.whole.specs.Plain.{ℕ, _+_, _-_, _*_, _/_, _%_, _≤_, _<_, _≡_, refl, sym, ap, _∙_, Bool, true, false, cond}
-use Rattle.whole.specs.Plain.{_&&_, List, [], eqb, ℤ, length, getD, ne-eqb, arith, Words, z, word, nat, numbers}
+use Rattle.whole.specs.Plain.{_&&_, List, eqb, ℤ, length, getD, ne-eqb, arith, Words, z, word, nat, numbers}
 use Rattle.whole.specs.Folds.{getD-map, getD-numbers, length-numbers}
 use Rattle.paper.specs.Rows.{Row, isBranch, isLine, from, to}
 use Rattle.paper.specs.Conductance.{conductance}
 use Rattle.paper.specs.Areas.{Net, rowArea, step}
 use Rattle.paper.specs.Records as Records
 use Rattle.paper.specs.Legs.{Leg, leg, idle, End, otherEnd, Branch, branch, Heard, lineEnd, lineLegs, plainLegs, legsBy, heard, heardBy, here, sentTo, conducts}
-use Rattle.laws_facts.specs.Nets.{rowAt, conducts-same}
+use Rattle.laws_facts.specs.Nets.{rowAt}
 use Rattle.plan_ends.specs.Own.{ownerOf, ownEnd, nearOf, farOf}
 use Rattle.step_own.specs.Ends.{facing, farStore, hAt, endLeg, line-conducts}
 
@@ -47,15 +47,15 @@ module _ (N : Net) (a k : ℕ) (recs froms tos : Words) (i : ℕ) (l : i < lengt
   abbrev atSide : ℕ → Leg
   atSide side =
       cond (eqb (ownerOf N r side) a)
-      (leg (nat (word r side)) (cond (isLine r) 0 (nat (word r (3 - side)))) (conducts N [] k i) (cond (isLine r) (sentTo N k i r (farStore side froms tos)) (facing side (word recs (Records.historyAt i)))))
+      (leg (nat (word r side)) (cond (isLine r) 0 (nat (word r (3 - side)))) (conducts N recs k i) (cond (isLine r) (sentTo N k i r (farStore side froms tos)) (facing side (word recs (Records.historyAt i)))))
       idle
 
   -- an end of an R, L, C or SW, or of a source
   module _ (end : Branch → End) (side : ℕ)
-      (p : leg (nat (word r side)) (nat (word r (3 - side))) (conducts N [] k i) (facing side (word recs (Records.historyAt i))) ≡ end (plainLegs r (conducts N recs k i) (word recs (Records.historyAt i))) .wire)
+      (p : leg (nat (word r side)) (nat (word r (3 - side))) (conducts N recs k i) (facing side (word recs (Records.historyAt i))) ≡ end (plainLegs r (conducts N recs k i) (word recs (Records.historyAt i))) .wire)
       (q : idle ≡ end (branch r otherEnd otherEnd) .wire) where
     abbrev plain : Leg
-    plain = leg (nat (word r side)) (nat (word r (3 - side))) (conducts N [] k i) (facing side (word recs (Records.historyAt i)))
+    plain = leg (nat (word r side)) (nat (word r (3 - side))) (conducts N recs k i) (facing side (word recs (Records.historyAt i)))
 
     by-own : (b : Bool) → cond b plain idle ≡ end (cond b (plainLegs r (conducts N recs k i) (word recs (Records.historyAt i))) (branch r otherEnd otherEnd)) .wire
     by-own true = p
@@ -73,15 +73,15 @@ module _ (N : Net) (a k : ℕ) (recs froms tos : Words) (i : ℕ) (l : i < lengt
   from-side : atSide 1 ≡ legsBy N a k recs ears i .fromEnd .wire
   unfolding ownerOf legsBy lineLegs plainLegs facing farStore
   from-side = elim (isLine r) as (λ b. isLine r ≡ b → atSide 1 ≡ legsBy N a k recs ears i .fromEnd .wire) [
-    | true ↦ λ e. rw e (line-end (here N a (from r)) (from r) _ (conductance (step N) r) (sentTo N k i r tos) (getD ears i deaf .atFrom) (line-conducts N [] k i e) (from-heard e))
-    | false ↦ λ e. plain-end (λ b. b .fromEnd) 1 (rw (conducts-same N recs [] k i)) refl e
+    | true ↦ λ e. rw e (line-end (here N a (from r)) (from r) _ (conductance (step N) r) (sentTo N k i r tos) (getD ears i deaf .atFrom) (line-conducts N recs k i e) (from-heard e))
+    | false ↦ λ e. plain-end (λ b. b .fromEnd) 1 refl refl e
   ] refl
 
   to-side : atSide 2 ≡ legsBy N a k recs ears i .toEnd .wire
   unfolding ownerOf legsBy lineLegs plainLegs facing farStore
   to-side = elim (isLine r) as (λ b. isLine r ≡ b → atSide 2 ≡ legsBy N a k recs ears i .toEnd .wire) [
-    | true ↦ λ e. rw e (line-end (here N a (to r)) (to r) _ (conductance (step N) r) (sentTo N k i r froms) (getD ears i deaf .atTo) (line-conducts N [] k i e) (to-heard e))
-    | false ↦ λ e. plain-end (λ b. b .toEnd) 2 (rw (conducts-same N recs [] k i)) refl e
+    | true ↦ λ e. rw e (line-end (here N a (to r)) (to r) _ (conductance (step N) r) (sentTo N k i r froms) (getD ears i deaf .atTo) (line-conducts N recs k i e) (to-heard e))
+    | false ↦ λ e. plain-end (λ b. b .toEnd) 2 refl refl e
   ] refl
 
   pub from-leg : endLeg N a k recs froms tos (2 * i) ≡ legsBy N a k recs ears i .fromEnd .wire

@@ -1,11 +1,12 @@
 -- What an area's own end is worth at most: its nodes, which are the area's or ground, its conductance, its history; and that one row's two ends leave
 -- two nodes. Assumes nothing.
 use Rattle.whole.specs.Plain.{ℕ, _+_, _-_, _*_, _/_, _%_, _≤_, _<_, _≡_, refl, sym, _∙_, _⊎_, inl, inr, Bool, true}
-use Rattle.whole.specs.Plain.{false, cond, [], eqb, negℤ, natAbs, length, eqb-true, decLt, arith, Words, word}
+use Rattle.whole.specs.Plain.{false, cond, eqb, negℤ, natAbs, length, eqb-true, decLt, arith, Words, word}
 use Rattle.whole.specs.Plain.{nat}
 use Rattle.whole.specs.Int.{abs-neg}
 use Rattle.paper.specs.Limits as Limits
-use Rattle.paper.specs.Rows.{Row, isBranch, isLine}
+use Rattle.paper.specs.Rows.{Row, isBranch, isLine, isBreaker}
+use Rattle.paper.specs.Classes.{breaker-branch, breaker-line}
 use Rattle.paper.specs.Conductance.{conductance}
 use Rattle.paper.specs.Faults.{slots}
 use Rattle.paper.specs.Areas.{Net, areaOf, rowArea, step}
@@ -42,6 +43,11 @@ module _ (N : Net) (s : NetSound N) (a : ℕ) (one : 1 ≤ a) (e : ℕ) (l : e <
   pub own-branch : isBranch r ≡ true
   own-branch = Own.own-branch N r (sideOfEnd e) a one owner
 
+  -- an SW's latch is the area's own
+  pub own-breaker : isBreaker r ≡ true → rowArea N r ≡ a
+  unfolding ownerOf
+  own-breaker b = rw (breaker-line r b, breaker-branch r b) at owner
+
   pub own-sound : BranchSound (step N) (N .nodes) r
   own-sound = s .row (e / 2) row-in .branch own-branch
 
@@ -53,9 +59,9 @@ module _ (N : Net) (s : NetSound N) (a : ℕ) (one : 1 ≤ a) (e : ℕ) (l : e <
   unfolding farOf
   far-most = elim (isLine r) as (λ b. cond b 0 (nat (word r (3 - sideOfEnd e))) ≤ N .nodes) [ true ↦ omega arith | false ↦ side-within own-sound (3 - sideOfEnd e) (omega arith) (omega arith) .most ]
 
-  pub g-most : (k : ℕ) → gAt N k e ≤ Limits.conductanceEnd
+  pub g-most : (k : ℕ) (recs : Words) → gAt N k recs e ≤ Limits.conductanceEnd
   unfolding conducts
-  g-most k = elim (isOpen N [] k (e / 2)) as (λ b. cond b 0 (conductance (step N) r) ≤ Limits.conductanceEnd) [ true ↦ omega arith | false ↦ own-sound .gMost ]
+  g-most k recs = elim (isOpen N recs k (e / 2)) as (λ b. cond b 0 (conductance (step N) r) ≤ Limits.conductanceEnd) [ true ↦ omega arith | false ↦ own-sound .gMost ]
 
   pub h-most : {recs froms tos : Words} → Kept recs froms tos → (k : ℕ) → natAbs (hAt N k recs froms tos e) ≤ Limits.historyEnd
   unfolding hAt sentTo facing farStore

@@ -1,5 +1,5 @@
 -- One end of a row at a step, as a leg: what the network settles, the conductance at the switches' positions, and the history. Assumes nothing.
-use Rattle.whole.specs.Plain.{ℕ, _/_, _≤_, _<_, _≡_, true, cond, [], eqb, ℤ, pos, negℤ, natAbs, length, eqb-true, Words}
+use Rattle.whole.specs.Plain.{ℕ, _/_, _≤_, _<_, _≡_, true, cond, eqb, ℤ, pos, negℤ, natAbs, length, eqb-true, Words}
 use Rattle.whole.specs.Plain.{z, word}
 use Rattle.paper.specs.Limits as Limits
 use Rattle.paper.specs.Rows.{kind, isLine}
@@ -19,9 +19,9 @@ facing side h = cond (eqb side 1) h (negℤ h)
 unfoldable pub farStore : ℕ → Words → Words → Words
 farStore side froms tos = cond (eqb side 1) tos froms
 
--- whatever the records hold (`conducts-same`)
-abbrev pub gAt : Net → ℕ → ℕ → ℕ
-gAt N k e = conducts N [] k (e / 2)
+-- by the records' latches
+abbrev pub gAt : Net → ℕ → Words → ℕ → ℕ
+gAt N k recs e = conducts N recs k (e / 2)
 
 unfoldable pub hAt : Net → ℕ → Words → Words → Words → ℕ → ℤ
 hAt N k recs froms tos e =
@@ -30,15 +30,15 @@ hAt N k recs froms tos e =
 
 -- the end's leg, as the paper has it and as the code has it
 abbrev pub legOfEnd : Net → ℕ → Words → Words → Words → ℕ → Leg
-legOfEnd N k recs froms tos e = leg (nearOf N e) (farOf N e) (gAt N k e) (hAt N k recs froms tos e)
+legOfEnd N k recs froms tos e = leg (nearOf N e) (farOf N e) (gAt N k recs e) (hAt N k recs froms tos e)
 
 abbrev pub wireOf : Net → ℕ → Words → Words → Words → ℕ → Wire
 wireOf N k recs froms tos e =
-    record { near = nearOf N e; far = farOf N e; row = e / 2; end = sideOfEnd e; kind = kind (rowOfEnd N e); g = pos (gAt N k e); h = hAt N k recs froms tos e }
+    record { near = nearOf N e; far = farOf N e; row = e / 2; end = sideOfEnd e; kind = kind (rowOfEnd N e); g = pos (gAt N k recs e); h = hAt N k recs froms tos e }
 
 -- its leg without a history
-abbrev pub bareOfEnd : Net → ℕ → ℕ → Leg
-bareOfEnd N k e = leg (nearOf N e) (farOf N e) (gAt N k e) z
+abbrev pub bareOfEnd : Net → ℕ → Words → ℕ → Leg
+bareOfEnd N k recs e = leg (nearOf N e) (farOf N e) (gAt N k recs e) z
 
 -- an end that is not the area's is idle
 unfoldable pub endLeg : Net → ℕ → ℕ → Words → Words → Words → ℕ → Leg

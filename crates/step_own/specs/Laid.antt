@@ -8,12 +8,13 @@ use Rattle.whole.specs.Folds.{getD-map, count-append, count-map, count-next, ke
 use Rattle.whole.specs.Members.{among-at, keep-among, numbers-among}
 use Rattle.whole.specs.Written.{count-take}
 use Rattle.paper.specs.Limits as Limits
-use Rattle.paper.specs.Rows.{kind, isBranch}
+use Rattle.paper.specs.Rows.{kind, isBranch, isBreaker}
 use Rattle.paper.specs.Classes.{by-branch}
-use Rattle.paper.specs.Areas.{Net}
+use Rattle.paper.specs.Areas.{Net, rowArea}
+use Rattle.paper.specs.Records.{latchAt}
 use Rattle.paper.specs.Legs.{Leg, leg, idle}
 use Rattle.paper.specs.Solve.{leaves}
-use Rattle.laws_facts.specs.Nets.{NetSound, rowAt}
+use Rattle.laws_facts.specs.Nets.{NetSound, rowAt, conducts-same}
 use Rattle.plan_ends.specs.Own.{rowOfEnd, ownEnd, ownEnds, endAt, nearOf, FrameOf, Framed}
 use Rattle.step_legs.specs.declared.Wire.{Wire}
 use Rattle.step_legs.specs.Wires.{legFrom, wireIn, wireAt, wiresIn, legsIn, Wired, Wires, Sized}
@@ -21,13 +22,13 @@ use Rattle.step_legs.specs.Written.{SameBut}
 use Rattle.step_own.specs.Ends.{gAt, hAt, legOfEnd, wireOf, bareOfEnd, Kept}
 use Rattle.step_own.specs.EndSizes as Sizes
 
--- with the conductances that the switches have at step k
-pub record Conducting (N : Net) (a k : ℕ) (legs : List Words) : Type 0 where
+-- with the conductances that the switches have at step k, by the latches in the records
+pub record Conducting (N : Net) (a k : ℕ) (recs : Words) (legs : List Words) : Type 0 where
   pub framed : Framed N a legs
-  pub g : (j : ℕ) → j < length legs → word (getD legs j []) 5 ≡ pos (gAt N k (endAt N a j))
+  pub g : (j : ℕ) → j < length legs → word (getD legs j []) 5 ≡ pos (gAt N k recs (endAt N a j))
 
 pub record Laid (N : Net) (a k : ℕ) (recs froms tos : Words) (legs : List Words) : Type 0 where
-  pub conducting : Conducting N a k legs
+  pub conducting : Conducting N a k recs legs
   pub h : (j : ℕ) → j < length legs → word (getD legs j []) 6 ≡ hAt N k recs froms tos (endAt N a j)
 
 -- a line that keeps its first five words keeps its frame
@@ -41,7 +42,7 @@ frame-kept n w f = record {
   kind = w 4 (omega arith) ∙ f .kind;
 }
 
-pub conducting-same : {N : Net} {a k : ℕ} {before after : List Words} → SameBut before after → Conducting N a k before → Conducting N a k after
+pub conducting-same : {N : Net} {a k : ℕ} {recs : Words} {before after : List Words} → SameBut before after → Conducting N a k recs before → Conducting N a k recs after
 conducting-same s c = record {
   framed = record { long = s .long ∙ c .framed .long; line = λ j h. let l : j < _ = rw (s .long) at h in frame-kept (s .nine j l) (λ i q. s .word j i l (omega arith)) (c .framed .line j l) };
   g = λ j h. let l : j < _ = rw (s .long) at h in s .word j 5 l (omega arith) ∙ c .g j l;
@@ -53,6 +54,19 @@ unfolding ownEnds
 end-own N a j h =
     let c = keep-among (ownEnd N a) (numbers 0 (2 * length (N .rows))) (among-at (ownEnds N a) j 0 h) in
     (omega (arith, numbers-among 0 (2 * length (N .rows)) (c .among) .1), c .passes)
+
+-- ---- records in which no switch of the area has parted since
+pub record SameLatches (N : Net) (a : ℕ) (recs recs′ : Words) : Type 0 where
+  pub latch : (i : ℕ) → i < length (N .rows) → isBreaker (rowAt N i) ≡ true → rowArea N (rowAt N i) ≡ a → word recs (latchAt i) ≡ word recs′ (latchAt i)
+
+pub conducting-latched : {N : Net} {a k : ℕ} {recs recs′ : Words} {legs : List Words} → NetSound N → 1 ≤ a → SameLatches N a recs recs′ → Conducting N a k recs legs → Conducting N a k recs′ legs
+conducting-latched {N} {a} {k} {recs} {recs′} s one same c = record {
+  framed = c .framed;
+  g = λ j h.
+      let e = endAt N a j in
+      let o = end-own N a j (omega (arith, c .framed .long)) in
+      c .g j h ∙ ap pos (conducts-same N recs recs′ k (e / 2) (λ b. same .latch (e / 2) (omega (arith, o .0)) b (Sizes.own-breaker N s a one e (o .0) (o .1) b)));
+}
 
 -- ---- line by line
 lines-are : {N : Net} {a : ℕ} {legs : List Words} {B : Type 0} → Framed N a legs → (f : Words → B) (g : ℕ → B) (d : B) → ((j : ℕ) → j < length legs → f (getD legs j []) ≡ g (endAt N a j))
@@ -78,11 +92,11 @@ module _ {N : Net} {a k : ℕ} {recs froms tos : Words} {legs : List Words} (l :
   legs-are = lines-are (l .conducting .framed) legFrom (legOfEnd N k recs froms tos) idle (λ j h. ap (λ (w : Wire). leg (w .near) (w .far) (nat (w .g)) (w .h)) (wire-at j h))
 
 -- without their histories
-pub bares-are : {N : Net} {a k : ℕ} {legs : List Words} → Conducting N a k legs → map (λ x. leg (x .near) (x .far) (x .g) z) (legsIn legs) ≡ map (bareOfEnd N k) (ownEnds N a)
+pub bares-are : {N : Net} {a k : ℕ} {recs : Words} {legs : List Words} → Conducting N a k recs legs → map (λ x. leg (x .near) (x .far) (x .g) z) (legsIn legs) ≡ map (bareOfEnd N k recs) (ownEnds N a)
 unfolding legsIn
-bares-are {N} {a} {k} {legs} c =
+bares-are {N} {a} {k} {recs} {legs} c =
     map-map (λ (x : Leg). leg (x .near) (x .far) (x .g) z) legFrom legs
-    ∙ lines-are (c .framed) (λ l. leg (legFrom l .near) (legFrom l .far) (legFrom l .g) z) (bareOfEnd N k) idle (λ j h. let f = c .framed .line j h in rw (f .near, f .far, c .g j h))
+    ∙ lines-are (c .framed) (λ l. leg (legFrom l .near) (legFrom l .far) (legFrom l .g) z) (bareOfEnd N k recs) idle (λ j h. let f = c .framed .line j h in rw (f .near, f .far, c .g j h))
 
 -- ---- at most one of a row's two ends leaves a node
 small : (b : Bool) → cond b 1 0 ≤ 1
@@ -146,16 +160,16 @@ module _ (N : Net) (s : NetSound N) (a : ℕ) (one : 1 ≤ a) (p : ℕ) where
       let e : 2 * suc i ≡ 2 * i + 1 + 1 = omega arith in
       rw e (omega (arith, some-more (2 * i + 1), some-more (2 * i), some-few i (omega arith), row-ends i (omega arith), rw add-one at (count-next isBranch (N .rows) i [] (omega arith))))
 
-  pub few : {k : ℕ} {legs : List Words} → Conducting N a k legs → count (leaves p) (legsIn legs) ≤ Limits.branchEnd
+  pub few : {k : ℕ} {recs : Words} {legs : List Words} → Conducting N a k recs legs → count (leaves p) (legsIn legs) ≤ Limits.branchEnd
   unfolding leaves ownEnds
-  few {k} {legs} c =
-      let e = sym (count-map (leaves p) (λ x. leg (x .near) (x .far) (x .g) z) (legsIn legs)) ∙ ap (count (leaves p)) (bares-are c) ∙ count-map (leaves p) (bareOfEnd N k) (ownEnds N a) in
+  few {k} {recs} {legs} c =
+      let e = sym (count-map (leaves p) (λ x. leg (x .near) (x .far) (x .g) z) (legsIn legs)) ∙ ap (count (leaves p)) (bares-are c) ∙ count-map (leaves p) (bareOfEnd N k recs) (ownEnds N a) in
       rw e (omega (arith, some-few (length (N .rows)) (omega arith), count-take isBranch (N .rows) (length (N .rows)), s .branchMost))
 
 -- ---- what makes sums over them fit
 module _ {N : Net} {a k : ℕ} {legs : List Words} (s : NetSound N) (one : 1 ≤ a) where
-  pub conducting-wires : Conducting N a k legs → Wires legs
-  conducting-wires c = record { number = number; wired = wired; few = λ p. few N s a one p c }
+  pub conducting-wires : {recs : Words} → Conducting N a k recs legs → Wires legs
+  conducting-wires {recs} c = record { number = number; wired = wired; few = λ p. few N s a one p c }
     where
       number : (j i : ℕ) → j < length legs → i < 5 → word (getD legs j []) i ≡ pos (nat (word (getD legs j []) i))
       number j zero h b = let q = c .framed .line j h .near in rw q
@@ -175,9 +189,9 @@ module _ {N : Net} {a k : ℕ} {legs : List Words} (s : NetSound N) (one : 1 ≤
             far-end = rw (f .far) (le-trans (Sizes.far-most N s a one e (o .0) (o .1)) (s .nodeMost));
             row-end = rw (f .row) (omega (arith, s .rowMost, o .0));
             end-end = rw (f .end) (omega arith);
-            kind-end = rw (f .kind) (by-branch (λ k. k ≤ 5) (kind (rowOfEnd N e)) (Sizes.own-branch N s a one e (o .0) (o .1)) (omega arith) (omega arith) (omega arith) (omega arith) (omega arith));
+            kind-end = rw (f .kind) (by-branch (λ k. k ≤ 9) (kind (rowOfEnd N e)) (Sizes.own-branch N s a one e (o .0) (o .1)) (omega arith) (omega arith) (omega arith) (omega arith) (omega arith) (omega arith));
             g-sign = rw (c .g j h) tt;
-            g-end = rw (c .g j h) (record { size = Sizes.g-most N s a one e (o .0) (o .1) k });
+            g-end = rw (c .g j h) (record { size = Sizes.g-most N s a one e (o .0) (o .1) k recs });
           }
 
   pub laid-sized : {recs froms tos : Words} → Kept recs froms tos → Laid N a k recs froms tos legs → Sized legs

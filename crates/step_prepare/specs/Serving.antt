@@ -17,7 +17,7 @@ use Rattle.step_factors.specs.Proposed.{matrixOf}
 use Rattle.step_own.specs.Ends.{bareOfEnd}
 use Rattle.step_own.specs.EndSizes as Sizes
 use Rattle.step_own.specs.EndSizes.{Ours}
-use Rattle.step_own.specs.Laid.{Conducting, end-own, bares-are, conducting-wires}
+use Rattle.step_own.specs.Laid.{Conducting, SameLatches, end-own, bares-are, conducting-wires, conducting-latched}
 use Rattle.step_floating.specs.Search.{loose}
 use Rattle.step_floating.specs.Free.{free-nodes}
 use Rattle.step_floating.specs.Local.{Local, ground, inside, Locals, floating-local, floating-joins, joins-bare}
@@ -26,12 +26,12 @@ use Rattle.step_conduct.specs.Paper.{conducting}
 use Rattle.step_prepare.specs.declared.Prepared.{Prepared}
 
 -- its legs without their histories
-abbrev pub bares : Net → ℕ → ℕ → List Leg
-bares N a k = map (bareOfEnd N k) (ownEnds N a)
+abbrev pub bares : Net → ℕ → ℕ → Words → List Leg
+bares N a k recs = map (bareOfEnd N k recs) (ownEnds N a)
 
 -- 14 FLOATING: "a free node has no path": the lowest, or 0
-abbrev pub floats : Net → ℕ → ℕ → ℕ
-floats N a k = floating (fixed N) (N .nodes) (freeOf N a) (bares N a k)
+abbrev pub floats : Net → ℕ → ℕ → Words → ℕ
+floats N a k recs = floating (fixed N) (N .nodes) (freeOf N a) (bares N a k recs)
 
 -- an area's own lines, free nodes and plan
 pub record Standing (N : Net) (a : ℕ) (plan : List (List ℕ)) (legs : List Words) (free : List ℕ) (base : ℕ) : Type 0 where
@@ -47,16 +47,24 @@ pub record Known (plan : List (List ℕ)) (legs : List Words) (free : List ℕ) 
   pub area : ℕ
   pub stands : Standing net area plan legs free base
 
--- the lines conduct as at step k, the table has the factors of the matrix, and no node floats
-pub record Serving (N : Net) (a k base : ℕ) (legs : List Words) (f : List (List Float)) : Type 0 where
-  pub conducts : Conducting N a k legs
-  pub serves : Serves base (length (freeOf N a)) (matrixOf (bares N a k) (freeOf N a)) f
-  pub grounded : floats N a k ≡ 0
+-- the lines conduct as at step k by the records' latches, the table has the factors of the matrix, and no node floats
+pub record Serving (N : Net) (a k : ℕ) (recs : Words) (base : ℕ) (legs : List Words) (f : List (List Float)) : Type 0 where
+  pub conducts : Conducting N a k recs legs
+  pub serves : Serves base (length (freeOf N a)) (matrixOf (bares N a k recs) (freeOf N a)) f
+  pub grounded : floats N a k recs ≡ 0
 
-pub record Prepares (N : Net) (a k base : ℕ) (r : Prepared) (legs : List Words) (f : List (List Float)) : Type 0 where
-  pub node : r .node ≡ floats N a k
+-- it goes on serving where none of the area's switches has parted
+pub serving-latched : {N : Net} {a k base : ℕ} {recs recs′ : Words} {legs : List Words} {f : List (List Float)} → NetSound N → 1 ≤ a → SameLatches N a recs recs′
+    → Serving N a k recs base legs f → Serving N a k recs′ base legs f
+serving-latched {N} {a} {k} {base} {recs} {recs′} {legs} {f} s one same v =
+    let c = conducting-latched s one same (v .conducts) in
+    let e : bares N a k recs ≡ bares N a k recs′ = sym (bares-are (v .conducts)) ∙ bares-are c in
+    record { conducts = c; serves = rw e at (v .serves); grounded = rw e at (v .grounded) }
+
+pub record Prepares (N : Net) (a k : ℕ) (recs : Words) (base : ℕ) (r : Prepared) (legs : List Words) (f : List (List Float)) : Type 0 where
+  pub node : r .node ≡ floats N a k recs
   pub framed : Framed N a legs
-  pub serving : r .node ≡ 0 → (i : ℕ) → k ≤ i → i < r .until → Serving N a i base legs f
+  pub serving : r .node ≡ 0 → (i : ℕ) → k ≤ i → i < r .until → Serving N a i recs base legs f
   pub on : r .node ≡ 0 → k < r .until
 
 module _ {N : Net} {a base : ℕ} {plan : List (List ℕ)} {legs : List Words} {free : List ℕ} (s : Standing N a plan legs free base) where
@@ -64,11 +72,11 @@ module _ {N : Net} {a base : ℕ} {plan : List (List ℕ)} {legs : List Words} {
   all-free = free-nodes N (s .sound) a (s .free-is)
 
   -- ---- with the conductances of a step
-  module _ {k until : ℕ} {after : List Words} (c : Conducted plan k (length legs) legs after until) where
-    pub at-step : (i : ℕ) → k ≤ i → i < until → Conducting N a i after
+  module _ {recs : Words} {k until : ℕ} {after : List Words} (c : Conducted plan recs k (length legs) legs after until) where
+    pub at-step : (i : ℕ) → k ≤ i → i < until → Conducting N a i recs after
     at-step = conducting (s .sound) (s .one) (s .planned) (s .framed) c
 
-    here : Conducting N a k after
+    here : Conducting N a k recs after
     here = at-step k (omega arith) (c .on)
 
     pub all-wires : Wires after
@@ -87,7 +95,7 @@ module _ {N : Net} {a base : ℕ} {plan : List (List ℕ)} {legs : List Words} {
     }
 
     -- the search over the lines is the paper's, at each step that they serve
-    pub floats-is : (i : ℕ) → k ≤ i → i < until → floating (loose free) Limits.nodeEnd free (legsIn after) ≡ floats N a i
+    pub floats-is : (i : ℕ) → k ≤ i → i < until → floating (loose free) Limits.nodeEnd free (legsIn after) ≡ floats N a i recs
     floats-is i l m =
         rw (s .free-is)
         (floating-local N (s .sound) a (s .one) locals
@@ -95,11 +103,11 @@ module _ {N : Net} {a base : ℕ} {plan : List (List ℕ)} {legs : List Words} {
         ∙ ap (floating (fixed N) (N .nodes) (freeOf N a)) (bares-are (at-step i l m)))
 
     -- ---- what there is then
-    pub stops : {f : List (List Float)} (r : Prepared) → r .node ≡ floating (loose free) Limits.nodeEnd free (legsIn after) → (r .node ≡ 0 → ⊥) → Prepares N a k base r after f
+    pub stops : {f : List (List Float)} (r : Prepared) → r .node ≡ floating (loose free) Limits.nodeEnd free (legsIn after) → (r .node ≡ 0 → ⊥) → Prepares N a k recs base r after f
     stops r e n = record { node = e ∙ floats-is k (omega arith) (c .on); framed = here .framed; serving = λ z. absurd (n z); on = λ z. absurd (n z) }
 
     pub goes : {f : List (List Float)} {r : ℕ} → r ≡ floating (loose free) Limits.nodeEnd free (legsIn after) → r ≡ 0 → Serves base (length free) (matrixOf (map bare (legsIn after)) free) f
-        → Prepares N a k base (record { node = 0; until = until }) after f
+        → Prepares N a k recs base (record { node = 0; until = until }) after f
     goes {f} {r} e z v = record {
       node = sym z ∙ e ∙ floats-is k (omega arith) (c .on);
       framed = here .framed;

@@ -1,14 +1,17 @@
-// What an accepted step of one area writes into the records: its count, its nodes' voltages and peaks, the words of its rows. A leg's line has its current and what
-// it passes on; nothing is worked out again.
-ghost use Rattle.whole.specs.Plain.{_≤_, _<_, _≡_, pos, natAbs, length, fold};
+// What an accepted step of one area writes into the records: its count, its nodes' voltages and peaks, the words of its rows, the latches of breakers that part. A leg's
+// line has its current and what it passes on; nothing is worked out again.
+ghost use Rattle.whole.specs.Plain.{_≤_, _<_, _≡_, _&&_, eqb, pos, natAbs, length, fold};
 ghost use Rattle.whole.specs.Loans.{was, is};
 ghost use Rattle.paper.specs.Limits as Limits;
 ghost use Rattle.step_legs.specs.Wires.{Wires};
 ghost use Rattle.step_legs.specs.Shares.{Volts};
-ghost use Rattle.step_records.specs.Records.{nodePut, nodesPut, legPut, linePut, recordsPut, Nodes, Recordable};
+ghost use Rattle.step_latch.specs.Parting.{legParts};
+ghost use Rattle.step_records.specs.Records.{nodePut, nodesPut, legPut, linePut, recordsPut, Unparted, Nodes};
+ghost use Rattle.step_records.specs.Records.{Recordable};
 use paper::Node;
 use paper::kinds;
 use paper::sections;
+use plan_rows::Table;
 use step_legs::Line;
 use step_legs::Wire;
 
@@ -54,49 +57,62 @@ fn put_nodes(nodes: &[usize], v: &[i64; Node::PLACES], records: &mut [i64], k: u
     }
 }
 
-// A leg's part of its row's words: at the from end the current, and the history of an L or a C; a line's current at its to end.
-fn put_leg(l: Wire, current: i64, passed: i64, records: &mut [i64])
-    requires { ⌜ (l .row < Limits.rowEnd) × (length (now records) ≡ Limits.recordWords) ⌝ }
-    ensures { λ _. ⌜ is records ≡ legPut l current passed (was records) ⌝ }
+// A leg's part of its row's words: at the from end the current, the history of an L or a C, and the latch of an SW that parts; a line's current at its to
+// end. Whether a breaker parted.
+fn put_leg(plan: &Table, l: Wire, current: i64, passed: i64, records: &mut [i64], k: usize) -> bool
+    requires { ⌜ (l .row < Limits.rowEnd) × (length (now records) ≡ Limits.recordWords) × (k ≤ Limits.stepsEnd) ⌝ }
+    ensures { λ _. ⌜ is records ≡ legPut (was plan) k l current passed (was records) ⌝ }
+    ensures { λ r. ⌜ r ≡ (eqb (l .end) 1 && legParts (was plan) k l current (was records)) ⌝ }
 {
     let row = l.row;
-    if l.end == 1 {
-        records[sections::CURRENTS + row] = current;
-        if (l.kind == kinds::L) | (l.kind == kinds::C) {
-            records[sections::HISTORIES + row] = passed;
+    if l.end != 1 {
+        if l.kind != kinds::LINE {
+            return false;
         }
-    } else if l.kind == kinds::LINE {
         records[sections::TO_CURRENTS + row] = current;
+        return false;
     }
+    let parted = step_latch::part(plan, l, current, records, k);
+    records[sections::CURRENTS + row] = current;
+    if (l.kind == kinds::L) | (l.kind == kinds::C) {
+        records[sections::HISTORIES + row] = passed;
+        return parted;
+    }
+    parted
 }
 
 // Every leg's part.
-fn put_legs(legs: &[Line], records: &mut [i64])
-    requires { ⌜ Wires (now legs) × (length (now records) ≡ Limits.recordWords) ⌝ }
-    ensures { λ _. ⌜ is records ≡ fold linePut (was records) (was legs) ⌝ }
+fn put_legs(plan: &Table, legs: &[Line], records: &mut [i64], k: usize) -> bool
+    requires { ⌜ Wires (now legs) × (length (now records) ≡ Limits.recordWords) × (k ≤ Limits.stepsEnd) ⌝ }
+    ensures { λ _. ⌜ is records ≡ fold (linePut (was plan) k) (was records) (was legs) ⌝ }
+    ensures { λ r. ⌜ Unparted r (was records) (is records) ⌝ }
 {
+    let mut parted = false;
     let mut j = 0;
     while j < legs.len() {
         let l = step_legs::leg_at(legs, j);
         let w = legs[j];
-        put_leg(l, w[CURRENT], w[PASSED], records);
+        parted = put_leg(plan, l, w[CURRENT], w[PASSED], records, k) | parted;
         j += 1;
     }
+    parted
 }
 
-// The count, the voltages and peaks, and the words of the area's rows.
+// The count, the voltages and peaks, and the words of the area's rows. Whether a breaker of the area parted: where none did, every latch is as it was.
 pub fn put_records(
+    plan: &Table,
     legs: &[Line],
     nodes: &[usize],
     v: &[i64; Node::PLACES],
     records: &mut [i64],
     area: usize,
     k: usize,
-)
+) -> bool
     requires { ⌜ Recordable (now legs) (now nodes) (now v) (now records) area k ⌝ }
-    ensures { λ _. ⌜ is records ≡ recordsPut (was legs) (was nodes) (was v) area k (was records) ⌝ }
+    ensures { λ _. ⌜ is records ≡ recordsPut (was plan) (was legs) (was nodes) (was v) area k (was records) ⌝ }
+    ensures { λ r. ⌜ Unparted r (was records) (is records) ⌝ }
 {
     records[sections::COUNTS + (area - 1)] = k as i64;
     put_nodes(nodes, v, records, k);
-    put_legs(legs, records);
+    put_legs(plan, legs, records, k)
 }

@@ -50,7 +50,7 @@ pub record Trying (N : Net) (a : ℕ) (plan : List (List ℕ)) (sources : List W
   pub sources-are : sources ≡ sourceLines N a
   pub free-are : free ≡ freeOf N a
   pub room : at .base + length free ≤ 32
-  pub serving : Serving N a (at .k) (at .base) legs f
+  pub serving : Serving N a (at .k) recs (at .base) legs f
   pub kept : Kept recs froms tos
   pub limit : at .limit ≡ pos (Rows.limit (N .head))
   pub few : at .k ≤ Limits.stepsEnd
@@ -165,12 +165,10 @@ module _ {N : Net} {a : ℕ} {plan : List (List ℕ)} {sources : List Words} {fr
       volts-are z = s .volts z ∙ rw (proposed-is still, t .free-are, e)
 
       -- 16, 17, or the voltages
-      pub tries-flow : {r : Advance} → node ≡ 0
-          → r ≡ inFlow k (unbalanced (nat (at .limit)) (legsIn lines) (λ p. word inject p) v free) (firstBy v (wiresIn lines)) (rowIn plan (firstBy v (wiresIn lines) - 1) .number)
-          → Tried k (solve N a k bs) v r
+      pub tries-flow : {r : Advance} {b h : ℕ} → node ≡ 0 → b ≡ unbalanced (nat (at .limit)) (legsIn lines) (λ p. word inject p) v free → h ≡ firstBy v (wiresIn lines)
+          → r ≡ inFlow k b h (rowIn plan (h - 1) .number) → Tried k (solve N a k bs) v r
       unfolding rowOf
-      tries-flow {r} z q =
-          go (unbalanced (nat (at .limit)) (legsIn lines) (λ p. word inject p) v free) (firstBy v (wiresIn lines)) (unbalanced-is v ∙ rw (volts-are z)) (beyond-is v ∙ rw (volts-are z)) q
+      tries-flow {r} {b} {h} z x y q = go b h (x ∙ unbalanced-is v ∙ rw (volts-are z)) (y ∙ beyond-is v ∙ rw (volts-are z)) q
         where
           none : range ≡ 0
           none = sym range-is ∙ z
@@ -195,7 +193,7 @@ module _ {N : Net} {a : ℕ} {plan : List (List ℕ)} {sources : List Words} {fr
 module _ {N : Net} {a : ℕ} {plan : List (List ℕ)} {sources : List Words} {free : List ℕ} {legs : List Words} {f : List (List Float)} {recs froms tos : Words} {at : At}
     (t : Trying N a plan sources free legs f recs froms tos at) where
   pub heard-from : {after : List Words} → after ≡ map (heardLine plan recs froms tos (at .k)) legs → Laid N a (at .k) recs froms tos after
-  heard-from e = rw e (heard-laid (t .sound) (t .planned) (t .serving .conducts) recs froms tos)
+  heard-from e = rw e (heard-laid (t .sound) (t .planned) (t .serving .conducts) froms tos)
 
   pub still-from : {v : Words} → v ≡ given isFixing (at .k) sources → v ≡ stillOf N a (at .k)
   still-from e = e ∙ ap (given isFixing (at .k)) (t .sources-are) ∙ own-still N (t .sound) a (at .k) (t .one)

@@ -21,7 +21,7 @@ study-range : (w : Words) → outsideFrom 0 (namesOf 0) (length (fieldsOf 0)) w 
 unfolding namesOf fieldsOf kinds bytes count low high
 study-range w o = field-in 0 0 3 w o 0 (omega arith) (omega arith)
 
-pub study-step : (w : Words) → 6 ≤ length w → kind w < 9 → (head : Row) → valueFault head w ≡ false → kind w ≡ 0 → (1 ≤ stepLength w) × (stepLength w ≤ 1000000)
+pub study-step : (w : Words) → 6 ≤ length w → kind w < 10 → (head : Row) → valueFault head w ≡ false → kind w ≡ 0 → (1 ≤ stepLength w) × (stepLength w ≤ 1000000)
 unfolding valueFault
 study-step w few known head f = of-study (kind w) (outside-values w few (kind w) known ∙ or-left _ _ (or-left _ _ f))
   where
@@ -72,7 +72,7 @@ fixes-not : (w : Words) (n : ℕ) → kind w ≡ 0 → fixes n w ≡ false
 unfolding fixes fixingKind kinds
 fixes-not w n e = rw e
 
-module _ (s : Seen) (w : Words) (few : 6 ≤ length w) (known : kind w < 9) (ok : Faultless s w) where
+module _ (s : Seen) (w : Words) (few : 6 ≤ length w) (known : kind w < 10) (ok : Faultless s w) where
   further : (r : Row) (before : List Row) → Stands s (r ∷ before) → isStudy w ≡ false → Stands (seenAfter s w) (r ∷ (before ++ (rowOfWords w ∷ [])))
   unfolding seenAfter seenFull
   further r before h e =
@@ -119,6 +119,6 @@ module _ (s : Seen) (w : Words) (few : 6 ≤ length w) (known : kind w < 9) (ok 
         fixed = λ n l. fixed-one (s .fixed) w n (h .wide) l ∙ rw (h .fixed n l, fixes-not w n e);
       }
 
-pub stands-after : (s : Seen) (w : Words) → 6 ≤ length w → kind w < 9 → (t : Table) → Stands s t → empty t ≡ isStudy w → seenFault s w ≡ 0 → Stands (seenAfter s w) (t ++ (rowOfWords w ∷ []))
+pub stands-after : (s : Seen) (w : Words) → 6 ≤ length w → kind w < 10 → (t : Table) → Stands s t → empty t ≡ isStudy w → seenFault s w ≡ 0 → Stands (seenAfter s w) (t ++ (rowOfWords w ∷ []))
 stands-after s w few known [] h e f = first s w few known (faultless s w f) h (eqb-true (kind w) 0 (sym e))
 stands-after s w few known (r ∷ before) h e f = further s w few known (faultless s w f) r before h (sym e)

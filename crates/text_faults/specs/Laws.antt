@@ -20,23 +20,23 @@ use Rattle.text_faults.specs.Seen.{headOf, Sized, conductanceOf, seenDou
 
 -- ---- the kind as an index
 
-pub kind-sign : (x : ℤ) → kind (x ∷ []) < 9 → T (nonNeg x)
+pub kind-sign : (x : ℤ) → kind (x ∷ []) < 10 → T (nonNeg x)
 kind-sign (pos k) h = tt
 kind-sign (negsuc n) h = absurd (omega (arith, kind-count))
 
-pub kind-size : (x : ℤ) → kind (x ∷ []) < 9 → natAbs x ≡ kind (x ∷ [])
+pub kind-size : (x : ℤ) → kind (x ∷ []) < 10 → natAbs x ≡ kind (x ∷ [])
 kind-size (pos k) h = refl
 kind-size (negsuc n) h = absurd (omega (arith, kind-count))
 
 -- ---- a branch's size
 
-branch-names : (k : ℕ) → k < 9 → namesOf k ≤ 2
+branch-names : (k : ℕ) → k < 10 → namesOf k ≤ 2
 unfolding namesOf fieldsOf kinds bytes count
-branch-names = each (λ k. namesOf k ≤ 2) (omega arith) (omega arith) (omega arith) (omega arith) (omega arith) (omega arith) (omega arith) (omega arith) (omega arith)
+branch-names = each (λ k. namesOf k ≤ 2) (omega arith) (omega arith) (omega arith) (omega arith) (omega arith) (omega arith) (omega arith) (omega arith) (omega arith) (omega arith)
 
-branch-fields : (k : ℕ) → k < 9 → 2 < length (fieldsOf k)
+branch-fields : (k : ℕ) → k < 10 → 2 < length (fieldsOf k)
 unfolding fieldsOf kinds bytes
-branch-fields = each (λ k. 2 < length (fieldsOf k)) (omega arith) (omega arith) (omega arith) (omega arith) (omega arith) (omega arith) (omega arith) (omega arith) (omega arith)
+branch-fields = each (λ k. 2 < length (fieldsOf k)) (omega arith) (omega arith) (omega arith) (omega arith) (omega arith) (omega arith) (omega arith) (omega arith) (omega arith) (omega arith)
 
 module _ (step : ℕ) (l : 1 ≤ step) (h : step ≤ 1000000) where
   -- whose range is from low to end, and which is no C, or C's
@@ -45,7 +45,7 @@ module _ (step : ℕ) (l : 1 ≤ step) (h : step ≤ 1000000) where
       let t = in-range low end x b in
       record { long = l; short = h; some = omega arith; most = omega arith; farads = λ (e : k ≡ 3). let m = r e in omega arith }
 
-  branch-size : (k : ℕ) → k < 9 → (x : ℤ) → branchKind k ≡ true → between (low k 2) (high k 2) x ≡ true → Sized step k (nat x)
+  branch-size : (k : ℕ) → k < 10 → (x : ℤ) → branchKind k ≡ true → between (low k 2) (high k 2) x ≡ true → Sized step k (nat x)
   unfolding low high fieldsOf branchKind kinds bytes
   branch-size k known x = each (λ k. branchKind k ≡ true → between (low k 2) (high k 2) x ≡ true → Sized step k (nat x))
       (λ f b. absurd (false≢true f))
@@ -57,11 +57,12 @@ module _ (step : ℕ) (l : 1 ≤ step) (h : step ≤ 1000000) where
       (λ f b. absurd (false≢true f))
       (λ f b. absurd (false≢true f))
       (λ f b. absurd (false≢true f))
+      (λ f b. of-range 9 1000 1000000000000 x (omega arith) (omega arith) (λ e. absurd (omega arith)) b)
       k known
 
 -- ---- the faults of one row, of what code has read of it
 
-module _ (w : Words) (few : 6 ≤ length w) (known : kind w < 9) {k : ℕ} (e : k ≡ kind w) where
+module _ (w : Words) (few : 6 ≤ length w) (known : kind w < 10) {k : ℕ} (e : k ≡ kind w) where
   pub names-fit : {n : ℕ} → n ≡ namesOf k → n ≤ 5
   names-fit p = rw (p, e) (le-trans (names-few (kind w) known) (fields-few (kind w) known))
 
@@ -85,13 +86,13 @@ module _ (w : Words) (few : 6 ≤ length w) (known : kind w < 9) {k : ℕ} (e : 
   unfolding valueFault branchKind kinds
   value-none step {br} o p q =
       let n : isBranch w ≡ false = rw (← e) (sym p ∙ q) in
-      rw (o, n, ne-eqb (kind w) 5 (λ (f : kind w ≡ 5). true≢false (sym (ap branchKind f) ∙ n)))
+      rw (o, n, ne-eqb (kind w) 5 (λ (f : kind w ≡ 5). true≢false (sym (ap branchKind f) ∙ n)), ne-eqb (kind w) 9 (λ (f : kind w ≡ 9). true≢false (sym (ap branchKind f) ∙ n)))
 
   -- of a branch whose fields are in range, by what the constructor of its conductance answers
   module _ (step : ℕ) {br : Bool} {g size : ℕ} {made : CheckedConductance} (o : outside false (fieldsOf (kind w)) (tail w) ≡ false) (p : br ≡ branchKind k) (q : br ≡ true)
       (r : size ≡ nat (word w 3)) (s : g ≡ conductanceOf step k size)
       (m : made ≡ cond (leb Limits.conductanceLow g && leb g Limits.conductanceEnd) (Good (record { nanos = g })) Refused) where
-    value-by : (t : Bool) → (leb Limits.conductanceLow g && leb g Limits.conductanceEnd) ≡ t → ((eqb k 5 && leb (opens w) (closes w)) || not t) ≡ valueFault (headOf step) w
+    value-by : (t : Bool) → (leb Limits.conductanceLow g && leb g Limits.conductanceEnd) ≡ t → (((eqb k 5 || eqb k 9) && leb (opens w) (closes w)) || not t) ≡ valueFault (headOf step) w
     unfolding valueFault conductance ofOhms ofHenries ofFarads conductanceOf
     value-by t f = let b : isBranch w ≡ true = rw (← e) (sym p ∙ q) in rw (o, b, ← f, s, r, e)
 
@@ -100,13 +101,13 @@ module _ (w : Words) (few : 6 ≤ length w) (known : kind w < 9) {k : ℕ} (e : 
       where
         by-test : (t : Bool) → (leb Limits.conductanceLow g && leb g Limits.conductanceEnd) ≡ t → true ≡ valueFault (headOf step) w
         by-test true h = let d : made ≡ Good (record { nanos = g }) = rw h at m in let n : _≡_ {A = ℕ} 0 1 = cc in absurd (omega arith)
-        by-test false h = sym (or-true (eqb k 5 && leb (opens w) (closes w))) ∙ value-by false h
+        by-test false h = sym (or-true ((eqb k 5 || eqb k 9) && leb (opens w) (closes w))) ∙ value-by false h
 
-    pub value-taken : {shut opened : ℕ} {c : Conductance} → made ≡ Good c → shut ≡ closes w → opened ≡ opens w → (eqb k 5 && leb opened shut) ≡ valueFault (headOf step) w
-    value-taken {shut} {opened} f u v = by-test (leb Limits.conductanceLow g && leb g Limits.conductanceEnd) refl
+    pub value-taken : {shut opened : ℕ} {sw : Bool} {c : Conductance} → made ≡ Good c → shut ≡ closes w → opened ≡ opens w → sw ≡ (eqb k 5 || eqb k 9) → (sw && leb opened shut) ≡ valueFault (headOf step) w
+    value-taken {shut} {opened} {sw} f u v x = by-test (leb Limits.conductanceLow g && leb g Limits.conductanceEnd) refl
       where
-        by-test : (t : Bool) → (leb Limits.conductanceLow g && leb g Limits.conductanceEnd) ≡ t → (eqb k 5 && leb opened shut) ≡ valueFault (headOf step) w
-        by-test true h = rw (u, v) (sym (or-false (eqb k 5 && leb (opens w) (closes w))) ∙ value-by true h)
+        by-test : (t : Bool) → (leb Limits.conductanceLow g && leb g Limits.conductanceEnd) ≡ t → (sw && leb opened shut) ≡ valueFault (headOf step) w
+        by-test true h = rw (u, v, x) (sym (or-false ((eqb k 5 || eqb k 9) && leb (opens w) (closes w))) ∙ value-by true h)
         by-test false h = let d : made ≡ Refused = rw h at m in let n : _≡_ {A = ℕ} 0 1 = cc in absurd (omega arith)
 
   -- the size of a branch, for its conductance
@@ -119,7 +120,7 @@ module _ (w : Words) (few : 6 ≤ length w) (known : kind w < 9) {k : ℕ} (e : 
 pub line-travel : (w : Words) → 6 ≤ length w → (step : ℕ) → kind w ≡ 4 → valueFault (headOf step) w ≡ false → travel w ≤ 1000000000
 unfolding valueFault fieldsOf kinds bytes low high namesOf count
 line-travel w few step e f =
-    let known : kind w < 9 = rw e (omega arith) in
+    let known : kind w < 10 = rw e (omega arith) in
     of-line (kind w) e (outside-values w few (kind w) known ∙ or-left _ _ (or-left _ _ f))
   where
     of-line : (k : ℕ) → k ≡ 4 → outsideFrom k (namesOf k) (length (fieldsOf k)) w ≡ false → nat (word w 4) ≤ 1000000000

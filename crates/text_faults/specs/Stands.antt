@@ -39,7 +39,7 @@ stands-none =
 
 -- ---- a row of the paper has the words of its kind only; its faults ask no other
 
-kind-word : (x : ℤ) → kind (x ∷ []) < 9 → x ≡ pos (kind (x ∷ []))
+kind-word : (x : ℤ) → kind (x ∷ []) < 10 → x ≡ pos (kind (x ∷ []))
 kind-word (pos k) h = refl
 kind-word (negsuc n) h = absurd (omega (arith, kind-count))
 
@@ -58,7 +58,7 @@ fixing-range w k f =
 unfoldable pub words : ℕ → Words → Words
 words k w = pos k ∷ word w 1 ∷ word w 2 ∷ word w 3 ∷ word w 4 ∷ word w 5 ∷ drop 6 w
 
-pub shape : (w : Words) → 6 ≤ length w → kind w < 9 → w ≡ words (kind w) w
+pub shape : (w : Words) → 6 ≤ length w → kind w < 10 → w ≡ words (kind w) w
 unfolding words
 shape w few known =
     head-tail w few
@@ -66,30 +66,30 @@ shape w few known =
     ∙ ap (λ (x : ℤ). x ∷ word w 1 ∷ word w 2 ∷ word w 3 ∷ word w 4 ∷ word w 5 ∷ drop 6 w) (kind-word (word w 0) known)
 
 -- what holds of a row of each kind
-pub by-kind : (P : Words → Type 0) (w : Words) → 6 ≤ length w → kind w < 9
-    → P (words 0 w) → P (words 1 w) → P (words 2 w) → P (words 3 w) → P (words 4 w) → P (words 5 w) → P (words 6 w) → P (words 7 w) → P (words 8 w) → P w
-by-kind P w few known a b c d e f g h i = subst P (sym (shape w few known)) (each (λ k. P (words k w)) a b c d e f g h i (kind w) known)
+pub by-kind : (P : Words → Type 0) (w : Words) → 6 ≤ length w → kind w < 10
+    → P (words 0 w) → P (words 1 w) → P (words 2 w) → P (words 3 w) → P (words 4 w) → P (words 5 w) → P (words 6 w) → P (words 7 w) → P (words 8 w) → P (words 9 w) → P w
+by-kind P w few known a b c d e f g h i j = subst P (sym (shape w few known)) (each (λ k. P (words k w)) a b c d e f g h i j (kind w) known)
 
-module _ (w : Words) (few : 6 ≤ length w) (known : kind w < 9) where
+module _ (w : Words) (few : 6 ≤ length w) (known : kind w < 10) where
   pub row-kind : kind (rowOfWords w) ≡ kind w
   unfolding words rowOfWords fieldsOf kinds bytes
-  row-kind = by-kind (λ v. kind (rowOfWords v) ≡ kind v) w few known refl refl refl refl refl refl refl refl refl
+  row-kind = by-kind (λ v. kind (rowOfWords v) ≡ kind v) w few known refl refl refl refl refl refl refl refl refl refl
 
   pub row-line-fault : (head : Row) (before : List Row) → lineFault head before (rowOfWords w) ≡ lineFault head before w
   unfolding words rowOfWords fieldsOf kinds bytes lineFault nodeFault valueFault travelFault doubleFault fullFault outside conductance ofOhms ofHenries ofFarads depth slots
-  row-line-fault head before = by-kind (λ v. lineFault head before (rowOfWords v) ≡ lineFault head before v) w few known refl refl refl refl refl refl refl refl refl
+  row-line-fault head before = by-kind (λ v. lineFault head before (rowOfWords v) ≡ lineFault head before v) w few known refl refl refl refl refl refl refl refl refl refl
 
   pub row-slots : (head : Row) → slots head (rowOfWords w) ≡ slots head w
   unfolding words rowOfWords fieldsOf kinds bytes depth slots
-  row-slots head = by-kind (λ v. slots head (rowOfWords v) ≡ slots head v) w few known refl refl refl refl refl refl refl refl refl
+  row-slots head = by-kind (λ v. slots head (rowOfWords v) ≡ slots head v) w few known refl refl refl refl refl refl refl refl refl refl
 
   pub row-fixes : (n : ℕ) → fixes n (rowOfWords w) ≡ fixes n w
   unfolding words rowOfWords fieldsOf kinds bytes fixes
-  row-fixes n = by-kind (λ v. fixes n (rowOfWords v) ≡ fixes n v) w few known refl refl refl refl refl refl refl refl refl
+  row-fixes n = by-kind (λ v. fixes n (rowOfWords v) ≡ fixes n v) w few known refl refl refl refl refl refl refl refl refl refl
 
   pub row-study : isStudy w ≡ true → stepLength (rowOfWords w) ≡ stepLength w
   unfolding words rowOfWords fieldsOf kinds bytes
-  row-study = by-kind (λ v. isStudy v ≡ true → stepLength (rowOfWords v) ≡ stepLength v) w few known (λ i. refl) (λ i. refl) (λ i. refl) (λ i. refl) (λ i. refl) (λ i. refl) (λ i. refl) (λ i. refl) (λ i. refl)
+  row-study = by-kind (λ v. isStudy v ≡ true → stepLength (rowOfWords v) ≡ stepLength v) w few known (λ i. refl) (λ i. refl) (λ i. refl) (λ i. refl) (λ i. refl) (λ i. refl) (λ i. refl) (λ i. refl) (λ i. refl) (λ i. refl)
 
   -- what a row that passes has, for what is seen next
   pub source-node : nodeFault w ≡ false → isFixing w ≡ true → at w ≤ 32
@@ -115,7 +115,7 @@ by-step : (head : Row) (before : List Row) (w : Words) → lineFault (headOf (st
 unfolding lineFault valueFault travelFault fullFault depth slots
 by-step head before w = refl
 
-module _ (s : Seen) (w : Words) (few : 6 ≤ length w) (known : kind w < 9) where
+module _ (s : Seen) (w : Words) (few : 6 ≤ length w) (known : kind w < 10) where
   after-study : (before : List Row) → s .branches ≡ count isBranch before → s .sources ≡ count isSource before → s .slots ≡ sum (slots (headOf (s .step))) before
       → ((n : ℕ) → n ≤ 32 → getD (s .fixed) n false ≡ any (fixes n) before) → seenFault s w ≡ lineFault (headOf (s .step)) before w
   unfolding seenFault lineFault
@@ -131,7 +131,7 @@ module _ (s : Seen) (w : Words) (few : 6 ≤ length w) (known : kind w < 9) wher
       by-kind (λ v. isStudy v ≡ true → s .slots ≡ 0 → seenFault s v ≡ lineFault [] [] v) w few known
       (λ i e. rw e)
       (λ i e. absurd (false≢true i)) (λ i e. absurd (false≢true i)) (λ i e. absurd (false≢true i)) (λ i e. absurd (false≢true i))
-      (λ i e. absurd (false≢true i)) (λ i e. absurd (false≢true i)) (λ i e. absurd (false≢true i)) (λ i e. absurd (false≢true i))
+      (λ i e. absurd (false≢true i)) (λ i e. absurd (false≢true i)) (λ i e. absurd (false≢true i)) (λ i e. absurd (false≢true i)) (λ i e. absurd (false≢true i))
 
   -- "in it 1 to 6 in turn": one function, and the paper's
   pub fault-is : (t : Table) → Stands s t → empty t ≡ isStudy w → seenFault s w ≡ rowFault t (rowOfWords w)

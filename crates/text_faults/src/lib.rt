@@ -43,7 +43,7 @@ fn field(row: [i64; 8], i: usize) -> u64
 }
 
 pub fn kind_of(row: [i64; 8]) -> usize
-    requires { ⌜ kind row < 9 ⌝ }
+    requires { ⌜ kind row < 10 ⌝ }
     ensures { λ r. ⌜ r ≡ kind row ⌝ }
 {
     row[0] as usize
@@ -51,7 +51,7 @@ pub fn kind_of(row: [i64; 8]) -> usize
 
 // 2 NODE: "node over 32, both ends equal, source or line end on ground"
 fn node_fault(row: [i64; 8]) -> bool
-    requires { ⌜ kind row < 9 ⌝ }
+    requires { ⌜ kind row < 10 ⌝ }
     ensures { λ r. ⌜ r ≡ Faults.nodeFault row ⌝ }
 {
     let k = kind_of(row);
@@ -79,7 +79,7 @@ pub fn conductance(step: u64, kind: usize, size: u64) -> u64
 
 // 3 VALUE: "a field, or its conductance, out of range"; SW: "1 ≤ close < open"
 fn value_fault(step: u64, row: [i64; 8]) -> bool
-    requires { ⌜ (kind row < 9) × ((Limits.stepLengthLow ≤ step) × (step ≤ Limits.stepLengthEnd)) ⌝ }
+    requires { ⌜ (kind row < 10) × ((Limits.stepLengthLow ≤ step) × (step ≤ Limits.stepLengthEnd)) ⌝ }
     ensures { λ r. ⌜ r ≡ Faults.valueFault (headOf step) row ⌝ }
 {
     let k = kind_of(row);
@@ -94,12 +94,12 @@ fn value_fault(step: u64, row: [i64; 8]) -> bool
     };
     let close = field(row, 4);
     let open = field(row, 5);
-    (k == 5) & (open <= close)
+    paper::kinds::is_switch(k) & (open <= close)
 }
 
 // 4 TRAVEL: "travel shorter than a step"
 fn travel_fault(step: u64, row: [i64; 8]) -> bool
-    requires { ⌜ kind row < 9 ⌝ }
+    requires { ⌜ kind row < 10 ⌝ }
     ensures { λ r. ⌜ r ≡ Faults.travelFault (headOf step) row ⌝ }
 {
     let travel = field(row, 4);
@@ -118,7 +118,7 @@ fn fixed_at(fixed: [bool; Node::PLACES], node: u64) -> bool
 
 // 5 DOUBLE: "a second VS on a node"; "5 covers any two of VS and VC"
 fn double_fault(seen: Seen, row: [i64; 8]) -> bool
-    requires { ⌜ kind row < 9 ⌝ }
+    requires { ⌜ kind row < 10 ⌝ }
     ensures { λ r. ⌜ r ≡ seenDouble seen row ⌝ }
 {
     let fixed = seen.fixed;
@@ -127,7 +127,7 @@ fn double_fault(seen: Seen, row: [i64; 8]) -> bool
 
 // "a store needs 2q + 1 slots where r is not 0", and 2q where it is
 fn slots_of(step: u64, row: [i64; 8]) -> usize
-    requires { ⌜ (kind row < 9) × ((1 ≤ step) × (Faults.valueFault (headOf step) row ≡ false)) ⌝ }
+    requires { ⌜ (kind row < 10) × ((1 ≤ step) × (Faults.valueFault (headOf step) row ≡ false)) ⌝ }
     ensures { λ r. ⌜ r ≡ Faults.slots (headOf step) row ⌝ }
 {
     if kind_of(row) == 4 {
@@ -139,7 +139,7 @@ fn slots_of(step: u64, row: [i64; 8]) -> usize
 
 // 6 FULL: "65th branch, 17th source, or" the slots "summed over lines past 4,096"
 fn full_fault(seen: Seen, row: [i64; 8]) -> bool
-    requires { ⌜ (kind row < 9) × (Held seen × (Faults.valueFault (headOf (seen .step)) row ≡ false)) ⌝ }
+    requires { ⌜ (kind row < 10) × (Held seen × (Faults.valueFault (headOf (seen .step)) row ≡ false)) ⌝ }
     ensures { λ r. ⌜ r ≡ seenFull seen row ⌝ }
 {
     let k = kind_of(row);
@@ -150,7 +150,7 @@ fn full_fault(seen: Seen, row: [i64; 8]) -> bool
 
 // "in it 1 to 6 in turn": the number of a row's first fault, or 0.
 pub fn line_fault(seen: Seen, row: [i64; 8]) -> u64
-    requires { ⌜ (kind row < 9) × Held seen ⌝ }
+    requires { ⌜ (kind row < 10) × Held seen ⌝ }
     ensures { λ r. ⌜ r ≡ seenFault seen row ⌝ }
 {
     if node_fault(row) {
@@ -181,7 +181,7 @@ fn one_if(b: bool) -> usize
 }
 
 fn step_after(step: u64, row: [i64; 8]) -> u64
-    requires { ⌜ kind row < 9 ⌝ }
+    requires { ⌜ kind row < 10 ⌝ }
     ensures { λ r. ⌜ r ≡ cond (isStudy row) (stepLength row) step ⌝ }
 {
     if kind_of(row) == 0 {
@@ -192,7 +192,7 @@ fn step_after(step: u64, row: [i64; 8]) -> u64
 
 // "A node with a VS is fixed"; "A VC fixes its node like a VS."
 fn fixed_after(fixed: [bool; Node::PLACES], row: [i64; 8]) -> [bool; Node::PLACES]
-    requires { ⌜ kind row < 9 ⌝ }
+    requires { ⌜ kind row < 10 ⌝ }
     ensures { λ r. ⌜ r ≡ fixedAfter fixed row ⌝ }
 {
     let mut next = fixed;
@@ -208,7 +208,7 @@ fn fixed_after(fixed: [bool; Node::PLACES], row: [i64; 8]) -> [bool; Node::PLACE
 
 // What the rows tell with one more, which has no fault.
 pub fn seen_after(seen: Seen, row: [i64; 8]) -> Seen
-    requires { ⌜ (kind row < 9) × (Held seen × (seenFault seen row ≡ 0)) ⌝ }
+    requires { ⌜ (kind row < 10) × (Held seen × (seenFault seen row ≡ 0)) ⌝ }
     ensures { λ r. ⌜ r ≡ seenAfter seen row ⌝ }
 {
     let k = kind_of(row);

@@ -9,25 +9,26 @@ use Rattle.text_kinds.specs.Table.{namesOf, low, high, anyOutside, outsi
 
 -- ---- a law for each kind
 
-pub each : (P : ℕ → Type 0) → P 0 → P 1 → P 2 → P 3 → P 4 → P 5 → P 6 → P 7 → P 8 → (k : ℕ) → k < 9 → P k
-each P a b c d e f g h i zero l = a
-each P a b c d e f g h i (suc zero) l = b
-each P a b c d e f g h i (suc (suc zero)) l = c
-each P a b c d e f g h i (suc (suc (suc zero))) l = d
-each P a b c d e f g h i (suc (suc (suc (suc zero)))) l = e
-each P a b c d e f g h i (suc (suc (suc (suc (suc zero))))) l = f
-each P a b c d e f g h i (suc (suc (suc (suc (suc (suc zero)))))) l = g
-each P a b c d e f g h i (suc (suc (suc (suc (suc (suc (suc zero))))))) l = h
-each P a b c d e f g h i (suc (suc (suc (suc (suc (suc (suc (suc zero)))))))) l = i
-each P a b c d e f g h i (suc (suc (suc (suc (suc (suc (suc (suc (suc k))))))))) l = absurd (omega arith)
+pub each : (P : ℕ → Type 0) → P 0 → P 1 → P 2 → P 3 → P 4 → P 5 → P 6 → P 7 → P 8 → P 9 → (k : ℕ) → k < 10 → P k
+each P a b c d e f g h i j zero l = a
+each P a b c d e f g h i j (suc zero) l = b
+each P a b c d e f g h i j (suc (suc zero)) l = c
+each P a b c d e f g h i j (suc (suc (suc zero))) l = d
+each P a b c d e f g h i j (suc (suc (suc (suc zero)))) l = e
+each P a b c d e f g h i j (suc (suc (suc (suc (suc zero))))) l = f
+each P a b c d e f g h i j (suc (suc (suc (suc (suc (suc zero)))))) l = g
+each P a b c d e f g h i j (suc (suc (suc (suc (suc (suc (suc zero))))))) l = h
+each P a b c d e f g h i j (suc (suc (suc (suc (suc (suc (suc (suc zero)))))))) l = i
+each P a b c d e f g h i j (suc (suc (suc (suc (suc (suc (suc (suc (suc zero))))))))) l = j
+each P a b c d e f g h i j (suc (suc (suc (suc (suc (suc (suc (suc (suc (suc k)))))))))) l = absurd (omega arith)
 
-pub names-few : (k : ℕ) → k < 9 → namesOf k ≤ length (fieldsOf k)
+pub names-few : (k : ℕ) → k < 10 → namesOf k ≤ length (fieldsOf k)
 unfolding namesOf fieldsOf kinds bytes count
-names-few = each (λ k. namesOf k ≤ length (fieldsOf k)) (omega arith) (omega arith) (omega arith) (omega arith) (omega arith) (omega arith) (omega arith) (omega arith) (omega arith)
+names-few = each (λ k. namesOf k ≤ length (fieldsOf k)) (omega arith) (omega arith) (omega arith) (omega arith) (omega arith) (omega arith) (omega arith) (omega arith) (omega arith) (omega arith)
 
-pub fields-few : (k : ℕ) → k < 9 → length (fieldsOf k) ≤ 5
+pub fields-few : (k : ℕ) → k < 10 → length (fieldsOf k) ≤ 5
 unfolding fieldsOf kinds bytes
-fields-few = each (λ k. length (fieldsOf k) ≤ 5) (omega arith) (omega arith) (omega arith) (omega arith) (omega arith) (omega arith) (omega arith) (omega arith) (omega arith)
+fields-few = each (λ k. length (fieldsOf k) ≤ 5) (omega arith) (omega arith) (omega arith) (omega arith) (omega arith) (omega arith) (omega arith) (omega arith) (omega arith) (omega arith)
 
 -- ---- the paper's test of a row's fields
 
@@ -46,13 +47,13 @@ five (x ∷ w) h = go w (omega arith)
 
 -- a field that names a node, and one that does not
 module _ (w : Words) (h : 6 ≤ length w) where
-  pub outside-names : (k : ℕ) → k < 9 → outsideFrom k 0 (namesOf k) w ≡ outside true (fieldsOf k) (tail w)
+  pub outside-names : (k : ℕ) → k < 10 → outsideFrom k 0 (namesOf k) w ≡ outside true (fieldsOf k) (tail w)
   unfolding namesOf fieldsOf kinds bytes count outsideFrom anyOutside outside low high
-  outside-names = rw (five w h) (each (λ k. outsideFrom k 0 (namesOf k) w ≡ outside true (fieldsOf k) (word w 1 ∷ word w 2 ∷ word w 3 ∷ word w 4 ∷ word w 5 ∷ drop 6 w)) refl refl refl refl refl refl refl refl refl)
+  outside-names = rw (five w h) (each (λ k. outsideFrom k 0 (namesOf k) w ≡ outside true (fieldsOf k) (word w 1 ∷ word w 2 ∷ word w 3 ∷ word w 4 ∷ word w 5 ∷ drop 6 w)) refl refl refl refl refl refl refl refl refl refl)
 
-  pub outside-values : (k : ℕ) → k < 9 → outsideFrom k (namesOf k) (length (fieldsOf k)) w ≡ outside false (fieldsOf k) (tail w)
+  pub outside-values : (k : ℕ) → k < 10 → outsideFrom k (namesOf k) (length (fieldsOf k)) w ≡ outside false (fieldsOf k) (tail w)
   unfolding namesOf fieldsOf kinds bytes count outsideFrom anyOutside outside low high
-  outside-values = rw (five w h) (each (λ k. outsideFrom k (namesOf k) (length (fieldsOf k)) w ≡ outside false (fieldsOf k) (word w 1 ∷ word w 2 ∷ word w 3 ∷ word w 4 ∷ word w 5 ∷ drop 6 w)) refl refl refl refl refl refl refl refl refl)
+  outside-values = rw (five w h) (each (λ k. outsideFrom k (namesOf k) (length (fieldsOf k)) w ≡ outside false (fieldsOf k) (word w 1 ∷ word w 2 ∷ word w 3 ∷ word w 4 ∷ word w 5 ∷ drop 6 w)) refl refl refl refl refl refl refl refl refl refl)
 
 -- ---- what a row has whose fields pass
 
@@ -75,7 +76,7 @@ in-range l h (pos n) e = (refl, (leb-true l n (and-left (leb l n) (leb n h) e), 
 in-range l h (negsuc n) e = let c : _≡_ {A = ℕ} 0 1 = cc in absurd (omega arith)
 
 -- a kind that is none of the others
-pub the-last : (P : ℕ → Type 0) → P 8 → (k : ℕ) → k < 9 → (k ≡ 0 → ⊥) → (k ≡ 1 → ⊥) → (k ≡ 2 → ⊥) → (k ≡ 3 → ⊥) → (k ≡ 4 → ⊥) → (k ≡ 5 → ⊥) → (k ≡ 6 → ⊥) → (k ≡ 7 → ⊥) → P k
-the-last P x = each (λ k. (k ≡ 0 → ⊥) → (k ≡ 1 → ⊥) → (k ≡ 2 → ⊥) → (k ≡ 3 → ⊥) → (k ≡ 4 → ⊥) → (k ≡ 5 → ⊥) → (k ≡ 6 → ⊥) → (k ≡ 7 → ⊥) → P k)
-    (λ a b c d e f g h. absurd (a refl)) (λ a b c d e f g h. absurd (b refl)) (λ a b c d e f g h. absurd (c refl)) (λ a b c d e f g h. absurd (d refl))
-    (λ a b c d e f g h. absurd (e refl)) (λ a b c d e f g h. absurd (f refl)) (λ a b c d e f g h. absurd (g refl)) (λ a b c d e f g h. absurd (h refl)) (λ a b c d e f g h. x)
+pub the-last : (P : ℕ → Type 0) → P 9 → (k : ℕ) → k < 10 → (k ≡ 0 → ⊥) → (k ≡ 1 → ⊥) → (k ≡ 2 → ⊥) → (k ≡ 3 → ⊥) → (k ≡ 4 → ⊥) → (k ≡ 5 → ⊥) → (k ≡ 6 → ⊥) → (k ≡ 7 → ⊥) → (k ≡ 8 → ⊥) → P k
+the-last P x = each (λ k. (k ≡ 0 → ⊥) → (k ≡ 1 → ⊥) → (k ≡ 2 → ⊥) → (k ≡ 3 → ⊥) → (k ≡ 4 → ⊥) → (k ≡ 5 → ⊥) → (k ≡ 6 → ⊥) → (k ≡ 7 → ⊥) → (k ≡ 8 → ⊥) → P k)
+    (λ a b c d e f g h i. absurd (a refl)) (λ a b c d e f g h i. absurd (b refl)) (λ a b c d e f g h i. absurd (c refl)) (λ a b c d e f g h i. absurd (d refl)) (λ a b c d e f g h i. absurd (e refl))
+    (λ a b c d e f g h i. absurd (f refl)) (λ a b c d e f g h i. absurd (g refl)) (λ a b c d e f g h i. absurd (h refl)) (λ a b c d e f g h i. absurd (i refl)) (λ a b c d e f g h i. x)

@@ -1,4 +1,4 @@
-// The table of kinds: study, R, L, C, LINE, SW, VS, IS, VC, kinds 0 to 8. A kind's fields that name a node are its first.
+// The table of kinds: study, R, L, C, LINE, SW, VS, IS, VC, SWT, kinds 0 to 9. A kind's fields that name a node are its first.
 ghost use Rattle.whole.specs.Plain.{_≤_, _<_, _+_, _≡_, length, between};
 ghost use Rattle.paper.specs.Rows.{fieldsOf};
 ghost use Rattle.text_kinds.specs.Table.{namesOf, lowsOf, highsOf, outsideFrom};
@@ -19,7 +19,7 @@ use paper::Voltage;
 
 // Each is a match and no constant array, which would be laid out anew at each use.
 pub fn fields(kind: usize) -> usize
-    requires { ⌜ kind < 9 ⌝ }
+    requires { ⌜ kind < 10 ⌝ }
     ensures { λ r. ⌜ r ≡ length (fieldsOf kind) ⌝ }
 {
     match kind {
@@ -28,12 +28,13 @@ pub fn fields(kind: usize) -> usize
         6 => 4,
         7 => 4,
         8 => 4,
+        9 => 5,
         _ => 3,
     }
 }
 
 pub fn names(kind: usize) -> usize
-    requires { ⌜ kind < 9 ⌝ }
+    requires { ⌜ kind < 10 ⌝ }
     ensures { λ r. ⌜ r ≡ namesOf kind ⌝ }
 {
     match kind {
@@ -47,7 +48,7 @@ pub fn names(kind: usize) -> usize
 
 // The least that each field of a kind may be, and the most.
 pub fn lows(kind: usize) -> [i64; 5]
-    requires { ⌜ kind < 9 ⌝ }
+    requires { ⌜ kind < 10 ⌝ }
     ensures { λ r. ⌜ r ≡ lowsOf kind ⌝ }
 {
     match kind {
@@ -65,12 +66,19 @@ pub fn lows(kind: usize) -> [i64; 5]
         ],
         6 => [Node::MIN, Voltage::MIN, Start::MIN, Rise::MIN, 0],
         7 => [Node::MIN, Injection::MIN, Start::MIN, Rise::MIN, 0],
-        _ => [Node::MIN, Voltage::MIN, Start::MIN, Frequency::MIN, 0],
+        8 => [Node::MIN, Voltage::MIN, Start::MIN, Frequency::MIN, 0],
+        _ => [
+            Node::MIN,
+            Node::MIN,
+            Ohms::MIN,
+            Switching::MIN,
+            Switching::MIN,
+        ],
     }
 }
 
 fn highs(kind: usize) -> [i64; 5]
-    requires { ⌜ kind < 9 ⌝ }
+    requires { ⌜ kind < 10 ⌝ }
     ensures { λ r. ⌜ r ≡ highsOf kind ⌝ }
 {
     match kind {
@@ -88,7 +96,14 @@ fn highs(kind: usize) -> [i64; 5]
         ],
         6 => [Node::MAX, Voltage::MAX, Start::MAX, Rise::MAX, 0],
         7 => [Node::MAX, Injection::MAX, Start::MAX, Rise::MAX, 0],
-        _ => [Node::MAX, Voltage::MAX, Start::MAX, Frequency::MAX, 0],
+        8 => [Node::MAX, Voltage::MAX, Start::MAX, Frequency::MAX, 0],
+        _ => [
+            Node::MAX,
+            Node::MAX,
+            Ohms::MAX,
+            Switching::MAX,
+            Switching::MAX,
+        ],
     }
 }
 
@@ -100,7 +115,7 @@ fn within(low: i64, high: i64, x: i64) -> bool
 
 // A field of a kind, from the place i below end, out of its range.
 pub fn outside(kind: usize, first: usize, end: usize, row: [i64; 8]) -> bool
-    requires { ⌜ (kind < 9) × (end ≤ 5) ⌝ }
+    requires { ⌜ (kind < 10) × (end ≤ 5) ⌝ }
     ensures { λ r. ⌜ r ≡ outsideFrom kind first end row ⌝ }
 {
     let low = lows(kind);

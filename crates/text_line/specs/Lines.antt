@@ -146,12 +146,12 @@ line-kind u = rw (split-fields u)
 pub line-fields : (u : List ℕ) → tail (split TAB (lineOf u)) ≡ fieldsFrom (rest ends u)
 line-fields u = rw (split-fields u)
 
-kind-most : (n : ℕ) (ks : List Kind) (w : List ℕ) → n + length ks ≤ 9 → placeOf n ks w ≤ 9
+kind-most : (n : ℕ) (ks : List Kind) (w : List ℕ) → n + length ks ≤ 10 → placeOf n ks w ≤ 10
 unfolding placeOf
 kind-most n [] w h = omega (arith, kind-count)
-kind-most n (k ∷ ks) w h = either (λ (p : ℕ). p ≤ 9) (sameBytes (k .spelt) w) _ _ (omega arith) (kind-most (suc n) ks w (omega arith))
+kind-most n (k ∷ ks) w h = either (λ (p : ℕ). p ≤ 10) (sameBytes (k .spelt) w) _ _ (omega arith) (kind-most (suc n) ks w (omega arith))
 
-pub kinds-most : (w : List ℕ) → placeOf 0 kinds w ≤ 9
+pub kinds-most : (w : List ℕ) → placeOf 0 kinds w ≤ 10
 unfolding kinds
 kinds-most w = kind-most 0 kinds w (omega arith)
 
@@ -181,10 +181,10 @@ module _ (s : List ℕ) (at : ℕ) where
   abbrev here : List ℕ
   here = drop at s
 
-  no-word : (k : ℕ) → k ≡ 9 → (r : Walk) → r .ok ≡ false → ReadsParts here at k (fieldsFrom (rest ends here)) r
+  no-word : (k : ℕ) → k ≡ 10 → (r : Walk) → r .ok ≡ false → ReadsParts here at k (fieldsFrom (rest ends here)) r
   no-word k e r f = record { verdict = f ∙ rw (e, kind-count) (sym (and-false (ended here))); place = λ t. absurd (false≢true (sym f ∙ t)); row = λ t. absurd (false≢true (sym f ∙ t)) }
 
-  some-word : (k : ℕ) → k < 9 → (r : Walk) → Walked s k (worded s at k) (rest ends here) (fieldsOf k) 0 r → ReadsParts here at k (fieldsFrom (rest ends here)) (closed s r)
+  some-word : (k : ℕ) → k < 10 → (r : Walk) → Walked s k (worded s at k) (rest ends here) (fieldsOf k) 0 r → ReadsParts here at k (fieldsFrom (rest ends here)) (closed s r)
   some-word k h r v =
       let n : eqb k noKind ≡ false = ne-eqb k noKind (λ (e : k ≡ noKind). omega (arith, kind-count)) in
       record {
@@ -201,10 +201,10 @@ module _ (s : List ℕ) (at : ℕ) where
       let e : length (fieldsOf k) - 0 ≡ length (fieldsOf k) = omega arith in
       rw e (walk s k (fieldsOf k) 0 refl (worded s at k) refl (rest ends here) (sym (drop-drop (length (fieldOf here)) at s)) (rest-stops here))
 
-  of-kind : (k : ℕ) → k ≤ 9 → ReadsParts here at k (fieldsFrom (rest ends here)) (lineOfKind s at k)
+  of-kind : (k : ℕ) → k ≤ 10 → ReadsParts here at k (fieldsFrom (rest ends here)) (lineOfKind s at k)
   of-kind k m =
-      elim (decLt k 9)
-      [ yes l ↦ rw (lt-leb 9 k l) (some-word k l (fieldsAt s k (worded s at k)) (walked k)) | no l ↦ rw (le-leb 9 k (omega arith)) (no-word k (omega arith) _ refl) ]
+      elim (decLt k 10)
+      [ yes l ↦ rw (lt-leb 10 k l) (some-word k l (fieldsAt s k (worded s at k)) (walked k)) | no l ↦ rw (le-leb 10 k (omega arith)) (no-word k (omega arith) _ refl) ]
 
   pub reads-line : ReadsLine here at (lineAt s at)
   unfolding lineAt

@@ -39,7 +39,7 @@ abbrev pub closed : List ℕ → Walk → Walk
 closed s w = record { ok = w .ok && startsWith LF (drop (w .at) s); at = w .at; row = w .row }
 
 abbrev pub lineOfKind : List ℕ → ℕ → ℕ → Walk
-lineOfKind s at k = cond (leb 9 k) (record { ok = false; at = at; row = replicate 8 z }) (closed s (fieldsAt s k (worded s at k)))
+lineOfKind s at k = cond (leb 10 k) (record { ok = false; at = at; row = replicate 8 z }) (closed s (fieldsAt s k (worded s at k)))
 
 unfoldable pub lineAt : List ℕ → ℕ → Walk
 lineAt s at = lineOfKind s at (placeOf 0 kinds (fieldOf (drop at s)))
@@ -93,11 +93,11 @@ module _ (s : List ℕ) (at : ℕ) {end k : ℕ} (e : end ≡ at + length (field
   kind-is : k ≡ placeOf 0 kinds (fieldOf (drop at s))
   kind-is = f ∙ ap (placeOf 0 kinds) (part-is s at end e)
 
-  pub line-none : 9 ≤ k → _≡_ {A = Walk} (record { ok = false; at = at; row = replicate 8 z }) (lineAt s at)
+  pub line-none : 10 ≤ k → _≡_ {A = Walk} (record { ok = false; at = at; row = replicate 8 z }) (lineAt s at)
   unfolding lineAt
-  line-none h = rw (← kind-is, le-leb 9 k h)
+  line-none h = rw (← kind-is, le-leb 10 k h)
 
-  pub line-some : k < 9 → {w : Walk} {t : Bool} → w ≡ fieldsAt s k (record { ok = true; at = end; row = set (replicate 8 z) 0 (pos k) }) → t ≡ startsWith LF (drop (w .at) s)
+  pub line-some : k < 10 → {w : Walk} {t : Bool} → w ≡ fieldsAt s k (record { ok = true; at = end; row = set (replicate 8 z) 0 (pos k) }) → t ≡ startsWith LF (drop (w .at) s)
       → _≡_ {A = Walk} (record { ok = w .ok && t; at = w .at; row = w .row }) (lineAt s at)
   unfolding lineAt
-  line-some h {w} {t} g j = rw (← kind-is, lt-leb 9 k h, j) (ap (closed s) (g ∙ ap (λ (n : ℕ). fieldsAt s k (record { ok = true; at = n; row = set (replicate 8 z) 0 (pos k) })) e))
+  line-some h {w} {t} g j = rw (← kind-is, lt-leb 10 k h, j) (ap (closed s) (g ∙ ap (λ (n : ℕ). fieldsAt s k (record { ok = true; at = n; row = set (replicate 8 z) 0 (pos k) })) e))

@@ -43,7 +43,7 @@ fn is_at(text: &[u8], at: usize, b: u8) -> bool
 
 // The field i of a line of a kind: a tab and a number.
 fn field_at(text: &[u8], kind: usize, i: usize, walk: Walk) -> Walk
-    requires { ⌜ (kind < 9) × ((i < 5) × (walk .at ≤ length (now text))) ⌝ }
+    requires { ⌜ (kind < 10) × ((i < 5) × (walk .at ≤ length (now text))) ⌝ }
     ensures { λ r. ⌜ r ≡ fieldAt (was text) kind i walk ⌝ }
 {
     let at = walk.at;
@@ -65,7 +65,7 @@ fn field_at(text: &[u8], kind: usize, i: usize, walk: Walk) -> Walk
 }
 
 fn fields_at(text: &[u8], kind: usize, first: Walk) -> Walk
-    requires { ⌜ (kind < 9) × (first .at ≤ length (now text)) ⌝ }
+    requires { ⌜ (kind < 10) × (first .at ≤ length (now text)) ⌝ }
     ensures { λ r. ⌜ r ≡ fieldsAt (was text) kind first ⌝ }
 {
     let n = text_kinds::fields(kind);

@@ -45,14 +45,14 @@ same-range l h x p q = by-test (between l h x) refl (between l h (capZ x)) refl
 
 -- ---- the ends of the table lie below
 
-ends-small : (k : ℕ) → k < 9 → every (λ (f : Field). ltb (natAbs (f .low)) heldEnd && ltb (natAbs (f .high)) heldEnd) (fieldsOf k) ≡ true
+ends-small : (k : ℕ) → k < 10 → every (λ (f : Field). ltb (natAbs (f .low)) heldEnd && ltb (natAbs (f .high)) heldEnd) (fieldsOf k) ≡ true
 unfolding every fieldsOf kinds bytes
-ends-small = each (λ k. every (λ (f : Field). ltb (natAbs (f .low)) heldEnd && ltb (natAbs (f .high)) heldEnd) (fieldsOf k) ≡ true) refl refl refl refl refl refl refl refl refl
+ends-small = each (λ k. every (λ (f : Field). ltb (natAbs (f .low)) heldEnd && ltb (natAbs (f .high)) heldEnd) (fieldsOf k) ≡ true) refl refl refl refl refl refl refl refl refl refl
 
 abbrev noField : Field
 noField = record { names = false; low = z; high = z }
 
-field-small : (k i : ℕ) → k < 9 → (ltb (natAbs (low k i)) heldEnd && ltb (natAbs (high k i)) heldEnd) ≡ true
+field-small : (k i : ℕ) → k < 10 → (ltb (natAbs (low k i)) heldEnd && ltb (natAbs (high k i)) heldEnd) ≡ true
 unfolding low high
 field-small k i h =
     elim (decLt i (length (fieldsOf k))) [
@@ -60,10 +60,10 @@ field-small k i h =
       | no l ↦ let g : length (fieldsOf k) ≤ i = omega arith in rw (low, high, List·getD-eq-default (fieldsOf k) noField g)
     ]
 
-low-small : (k i : ℕ) → k < 9 → natAbs (low k i) < heldEnd
+low-small : (k i : ℕ) → k < 10 → natAbs (low k i) < heldEnd
 low-small k i h = ltb-true _ heldEnd (and-left _ (ltb (natAbs (high k i)) heldEnd) (field-small k i h))
 
-high-small : (k i : ℕ) → k < 9 → natAbs (high k i) < heldEnd
+high-small : (k i : ℕ) → k < 10 → natAbs (high k i) < heldEnd
 high-small k i h = ltb-true _ heldEnd (and-right (ltb (natAbs (low k i)) heldEnd) _ (field-small k i h))
 
 -- ---- a row's words
@@ -94,19 +94,19 @@ unfolding heldRow
 held-length [] = refl
 held-length (x ∷ w) = ap suc (length-map w capZ)
 
-held-any : (k : ℕ) → k < 9 → (i n : ℕ) (w : Words) → anyOutside k i n (heldRow w) ≡ anyOutside k i n w
+held-any : (k : ℕ) → k < 10 → (i n : ℕ) (w : Words) → anyOutside k i n (heldRow w) ≡ anyOutside k i n w
 unfolding anyOutside
 held-any k h i zero w = refl
 held-any k h i (suc n) w = rw (held-word w i, same-range (low k i) (high k i) (word w (suc i)) (low-small k i h) (high-small k i h), held-any k h (suc i) n w)
 
-held-outside : (k : ℕ) → k < 9 → (i e : ℕ) (w : Words) → outsideFrom k i e (heldRow w) ≡ outsideFrom k i e w
+held-outside : (k : ℕ) → k < 10 → (i e : ℕ) (w : Words) → outsideFrom k i e (heldRow w) ≡ outsideFrom k i e w
 unfolding outsideFrom
 held-outside k h i e w = held-any k h i (e - i) w
 
 -- ---- the faults of a row
 
 -- NODE asks for the fields that name a node alone
-nodes-alike : (k : ℕ) → k < 9 → (w v : Words) → (0 < namesOf k → word w 1 ≡ word v 1) → (1 < namesOf k → word w 2 ≡ word v 2) → nodeFault (words k w) ≡ nodeFault (words k v)
+nodes-alike : (k : ℕ) → k < 10 → (w v : Words) → (0 < namesOf k → word w 1 ≡ word v 1) → (1 < namesOf k → word w 2 ≡ word v 2) → nodeFault (words k w) ≡ nodeFault (words k v)
 unfolding words namesOf nodeFault outside fieldsOf branchKind sourceKind kinds bytes count
 nodes-alike k h w v = each (λ k. (0 < namesOf k → word w 1 ≡ word v 1) → (1 < namesOf k → word w 2 ≡ word v 2) → nodeFault (words k w) ≡ nodeFault (words k v))
     (λ p q. refl)
@@ -118,6 +118,7 @@ nodes-alike k h w v = each (λ k. (0 < namesOf k → word w 1 ≡ word v 1) → 
     (λ p q. rw (p (omega arith)))
     (λ p q. rw (p (omega arith)))
     (λ p q. rw (p (omega arith)))
+    (λ p q. rw (p (omega arith), q (omega arith)))
     k h
 
 node-out : (w : Words) → outside true (fieldsOf (kind w)) (tail w) ≡ true → nodeFault w ≡ true
@@ -128,7 +129,7 @@ value-out : (head : Row) (w : Words) → outside false (fieldsOf (kind w)) (tail
 unfolding valueFault
 value-out head w e = rw e
 
-module _ (w : Words) (few : 6 ≤ length w) (known : kind w < 9) where
+module _ (w : Words) (few : 6 ≤ length w) (known : kind w < 10) where
   -- a field that passes is held as it is
   field-same : (i e j : ℕ) → outsideFrom (kind w) i e w ≡ false → i ≤ j → j < e → word (heldRow w) (suc j) ≡ word w (suc j)
   field-same i e j o l h =
@@ -138,7 +139,7 @@ module _ (w : Words) (few : 6 ≤ length w) (known : kind w < 9) where
   few-held : 6 ≤ length (heldRow w)
   few-held = rw (held-length w) few
 
-  known-held : kind (heldRow w) < 9
+  known-held : kind (heldRow w) < 10
   known-held = rw (held-kind w) known
 
   node-held : outsideFrom (kind w) 0 (namesOf (kind w)) w ≡ false → nodeFault (heldRow w) ≡ nodeFault w

@@ -40,7 +40,7 @@ numbers-length (f ∷ fs) (p ∷ ps) e = ap suc (numbers-length fs ps (and-right
 
 -- ---- a line that is well formed
 
-line-most : (line : List ℕ) → lineKind line ≤ 9
+line-most : (line : List ℕ) → lineKind line ≤ 10
 unfolding lineKind
 line-most line = kinds-most (getD (split TAB line) 0 [])
 
@@ -55,7 +55,7 @@ module _ (line : List ℕ) (ok : spelled line ≡ true) where
   abbrev trueWords : Words
   trueWords = filled 8 z (rowOf line)
 
-  pub known : lineKind line < 9
+  pub known : lineKind line < 10
   known =
       let n : eqb (lineKind line) noKind ≡ false = not-true _ (and-left (not (eqb (lineKind line) noKind)) (allSpelt (fieldsOf (lineKind line)) (tail (split TAB line))) ok) in
       let m : lineKind line ≡ noKind → ⊥ = eqb-false (lineKind line) noKind n in
@@ -100,7 +100,7 @@ module _ (line : List ℕ) (ok : spelled line ≡ true) where
   few-true : 6 ≤ length trueWords
   few-true = omega (arith, true-length)
 
-  known-true : kind trueWords < 9
+  known-true : kind trueWords < 10
   known-true = rw true-kind known
 
   pub few-held : 6 ≤ length (heldRow trueWords)
@@ -109,7 +109,7 @@ module _ (line : List ℕ) (ok : spelled line ≡ true) where
   pub kind-held : kind (heldRow trueWords) ≡ lineKind line
   kind-held = held-kind trueWords ∙ true-kind
 
-  pub known-held : kind (heldRow trueWords) < 9
+  pub known-held : kind (heldRow trueWords) < 10
   known-held = rw kind-held known
 
   chain : (head : Row) (before : List Row) → lineFault head before (rowOfWords (heldRow trueWords)) ≡ lineFault head before (rowOf line)

@@ -74,7 +74,7 @@ started text net e =
 -- ---- a line without fault
 
 -- a row after the study's is a branch or a source
-one-of : (k : ℕ) → k < 9 → eqb k 0 ≡ false → cond (branchKind k) 1 0 + cond (sourceKind k) 1 0 ≡ 1
+one-of : (k : ℕ) → k < 10 → eqb k 0 ≡ false → cond (branchKind k) 1 0 + cond (sourceKind k) 1 0 ≡ 1
 one-of k h n = let q : k ≡ 0 → ⊥ = eqb-false k 0 n in one-sort k (omega arith) (omega arith)
 
 module _ (line : List ℕ) (ok : spelled line ≡ true) (s : Seen) where

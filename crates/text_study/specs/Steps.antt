@@ -97,7 +97,7 @@ module _ (text : List ℕ) (p : Progress) (net : Words) (st : State text p net) 
     row-is : w .row ≡ heldRow (filled 8 z (rowOf (lineOf left)))
     row-is = reads .row o ∙ sym (Line.held-words (lineOf left) spelt)
 
-    pub known : kind (w .row) < 9
+    pub known : kind (w .row) < 10
     known = rw row-is (Line.known-held (lineOf left) spelt)
 
     study-is : isStudy (w .row) ≡ eqb (lineKind (lineOf left)) 0

@@ -56,7 +56,7 @@ fn put_study(net: &mut [i64], row: [i64; 8])
 
 fn put_line(net: &mut [i64], n: usize, row: [i64; 8])
     requires { ⌜ (length (now net) ≡ Limits.networkWords)
-        × ((kind row < 9) × (isStudy row ≡ false → n < Limits.rowEnd)) ⌝ }
+        × ((kind row < 10) × (isStudy row ≡ false → n < Limits.rowEnd)) ⌝ }
     ensures { λ _. ⌜ is net ≡ putLine n row (was net) ⌝ }
 {
     if text_faults::kind_of(row) == 0 {
@@ -76,14 +76,14 @@ fn alike(a: bool, b: bool) -> bool
 
 // "The first line, and only it, is `study`."
 fn in_place(row: [i64; 8], first: bool) -> bool
-    requires { ⌜ kind row < 9 ⌝ }
+    requires { ⌜ kind row < 10 ⌝ }
     ensures { λ r. ⌜ r ≡ Bool·beq first (isStudy row) ⌝ }
 {
     alike(first, text_faults::kind_of(row) == 0)
 }
 
 fn fault_of(walk: Walk, seen: Seen, first: bool) -> u64
-    requires { ⌜ (walk .ok ≡ true → kind (walk .row) < 9) × Held seen ⌝ }
+    requires { ⌜ (walk .ok ≡ true → kind (walk .row) < 10) × Held seen ⌝ }
     ensures { λ r. ⌜ r ≡ faultSeen walk seen first ⌝ }
 {
     let row = walk.row;

@@ -111,7 +111,7 @@ pub fn read_number(s: &[u8], signed: bool) -> Number
 // ---- words
 
 pub fn length_of(kind: usize) -> usize
-    requires { ⌜ kind < 9 ⌝ }
+    requires { ⌜ kind < 10 ⌝ }
     ensures { λ r. ⌜ r ≡ length (wordOf kind) ⌝ }
 {
     match kind {
@@ -121,12 +121,13 @@ pub fn length_of(kind: usize) -> usize
         6 => 2,
         7 => 2,
         8 => 2,
+        9 => 3,
         _ => 1,
     }
 }
 
 pub fn letters_of(kind: usize) -> [u8; 5]
-    requires { ⌜ kind < 9 ⌝ }
+    requires { ⌜ kind < 10 ⌝ }
     ensures { λ r. ⌜ r ≡ lettersOf kind ⌝ }
 {
     match kind {
@@ -138,12 +139,13 @@ pub fn letters_of(kind: usize) -> [u8; 5]
         5 => [b'S', b'W', 0, 0, 0],
         6 => [b'V', b'S', 0, 0, 0],
         7 => [b'I', b'S', 0, 0, 0],
-        _ => [b'V', b'C', 0, 0, 0],
+        8 => [b'V', b'C', 0, 0, 0],
+        _ => [b'S', b'W', b'T', 0, 0],
     }
 }
 
 fn is_word(word: &[u8], kind: usize) -> bool
-    requires { ⌜ kind < 9 ⌝ }
+    requires { ⌜ kind < 10 ⌝ }
     ensures { λ r. ⌜ r ≡ sameBytes (wordOf kind) (was word) ⌝ }
 {
     if word.len() != length_of(kind) {
@@ -183,7 +185,12 @@ fn candidate(first: u8, second: u8, length: usize) -> usize
             4
         }
         b'C' => 3,
-        b'S' => 5,
+        b'S' => {
+            if length == 3 {
+                return 9;
+            }
+            5
+        }
         b'V' => {
             if second == b'C' {
                 return 8;

@@ -22,9 +22,9 @@ pub letters-long : (k : ℕ) → length (lettersOf k) ≡ 5
 unfolding lettersOf table entries
 letters-long k = refl
 
-pub letters-word : (k : ℕ) → k < 9 → take (length (wordOf k)) (lettersOf k) ≡ wordOf k
+pub letters-word : (k : ℕ) → k < 10 → take (length (wordOf k)) (lettersOf k) ≡ wordOf k
 unfolding lettersOf wordOf table entries kinds bytes
-letters-word = each (λ k. take (length (wordOf k)) (lettersOf k) ≡ wordOf k) refl refl refl refl refl refl refl refl refl
+letters-word = each (λ k. take (length (wordOf k)) (lettersOf k) ≡ wordOf k) refl refl refl refl refl refl refl refl refl refl
 
 pub field-parts : (x : ℤ) → Parts (field x) (TAB ∷ []) (shown x)
 unfolding field

@@ -15,7 +15,7 @@ use list_digits::Pairs;
 // ---- a line
 
 fn put_kind(kind: usize, out: &mut [u8], at: usize) -> usize
-    requires { ⌜ (kind < 9) × (at + length (wordOf kind) ≤ length (now out)) ⌝ }
+    requires { ⌜ (kind < 10) × (at + length (wordOf kind) ≤ length (now out)) ⌝ }
     ensures { λ r. ⌜ Puts (was out) at (wordOf kind) r (is out) ⌝ }
 {
     let letters = text_words::letters_of(kind);
@@ -47,7 +47,7 @@ fn put_fields(pairs: &Pairs, fields: &[i64], out: &mut [u8], at: usize) -> usize
 }
 
 fn put_line(pairs: &Pairs, kind: usize, fields: &[i64], out: &mut [u8], at: usize) -> usize
-    requires { ⌜ (now pairs ≡ allPairs) × (kind < 9) ⌝ }
+    requires { ⌜ (now pairs ≡ allPairs) × (kind < 10) ⌝ }
     requires { ⌜ at + length (lineOf (wordOf kind) (now fields)) ≤ length (now out) ⌝ }
     ensures { λ r. ⌜ Puts (was out) at (lineOf (wordOf kind) (was fields)) r (is out) ⌝ }
 {

@@ -7,6 +7,8 @@ use super::dice::Dice;
 use super::ends_mode;
 use super::fixed;
 use super::foreign::{self, Calls};
+use super::latch_slips;
+use super::latches;
 use super::layout_slips;
 use super::layouts;
 use super::list_slips;
@@ -31,7 +33,7 @@ const SHRINK_TRIES: usize = 3_000;
 /// Every how manyth study has each single word changed; that asks some 20,000 questions.
 const EVERY_WORD_TURN: u64 = 500;
 
-/// So many studies have travel times, parts of a turn and odd peaks of every kind.
+/// So many studies have travel times, parts of a turn, current zeros, odd peaks and odd latches of every kind.
 const ALL_KINDS: u64 = 1_000;
 
 pub type Question<'a> = &'a dyn Fn(&[u8], &mut Tally) -> Result<(), Difference>;
@@ -54,6 +56,7 @@ pub fn compare_calls(arguments: &Arguments) -> bool {
     }
     if calls.node.is_some() && extent.studies >= ALL_KINDS {
         nodes::miss_nothing(&mut tally);
+        latches::miss_nothing(&mut tally);
     }
     if calls.write.is_some() {
         writings::miss_nothing(&mut tally);
@@ -108,7 +111,8 @@ fn compare_all(calls: &Calls, extent: &Extent, aloud: bool) -> Tally {
             layouts::ask_layouts(calls, text, seed, depth, tally)?;
             listings::ask_listings(calls, text, seed, depth, tally)?;
             writings::ask_writings(calls, text, seed, depth, tally)?;
-            nodes::ask_nodes(calls, text, seed, depth, tally)
+            nodes::ask_nodes(calls, text, seed, depth, tally)?;
+            latches::ask_latches(calls, text, seed, depth, tally)
         });
         if aloud && tally.failed > failed {
             println!("found at study number {index}: --first {index} --count 1 asks it again\n");
@@ -201,6 +205,7 @@ pub fn compare_self(arguments: &Arguments) -> bool {
         write_slips::planted(),
         peak_slips::planted(),
         cosine_slips::planted(),
+        latch_slips::planted(),
     ]
     .concat();
     for (name, calls, in_reader) in planted {

@@ -2,6 +2,7 @@
 
 use super::ends_mode::Found;
 use super::foreign::Calls;
+use super::latch_slips;
 use super::peak_slips;
 use super::slips;
 use super::travel_slips;
@@ -40,6 +41,14 @@ pub fn planted() -> Vec<(&'static str, Calls, Found)> {
         ),
         ("peak told at the step before", advance(peak_slips::advance_step_before), Found::WrongPeak),
         ("peak of 0 at step 1 not told", advance(peak_slips::advance_keeping), Found::WrongPeak),
+        (
+            "breaker does not part where its current is 0",
+            advance(latch_slips::advance_turning),
+            Found::WrongLatch,
+        ),
+        ("latch of the last step left out", advance(latch_slips::advance_but_last), Found::WrongLatch),
+        ("latch a step late", advance(latch_slips::advance_step_late), Found::StrangeAnswer),
+        ("parted breaker closes again", advance(latch_slips::advance_closing_again), Found::AgainstSecond),
     ]
 }
 

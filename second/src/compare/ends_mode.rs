@@ -15,6 +15,7 @@ use super::studies;
 use super::tally::{Difference, Tally};
 use crate::calls;
 use crate::ends::{self, AreaEnd};
+use crate::limits::Whole;
 use crate::network::Network;
 use crate::reader;
 use crate::record;
@@ -30,6 +31,7 @@ const MIXED: &str = "ends: studies with a stopped area, one tied to it and one a
 pub enum Found {
     StrangeAnswer,
     WrongPeak,
+    WrongLatch,
     TwoOrders,
     TooShort,
     AgainstSecond,
@@ -40,6 +42,7 @@ impl Found {
         match self {
             Found::StrangeAnswer => "an answer that no run gets",
             Found::WrongPeak => "a peak that is not the largest of the voltages after each step",
+            Found::WrongLatch => "a latch that is not the first zero of the currents after each step",
             Found::TwoOrders => "two orders end differently",
             Found::TooShort => "an area that nothing stops has steps left",
             Found::AgainstSecond => "an order ends otherwise than by the second program",
@@ -207,6 +210,13 @@ fn same_as_whole_run(network: &Network, theirs: &Ended) -> Result<(), Difference
         let (ours, theirs) = (run.peak(node), calls::lent_peak(&theirs.lent.records, node));
         let more = format!("a whole run, the peak of node {node}");
         return Err(differ(Found::AgainstSecond, more, format!("{ours:?}"), format!("{theirs:?}")));
+    }
+    let latch =
+        |index: usize| Whole::from(theirs.lent.records[state::latch_place(network.branches[index].row)]);
+    if let Some(index) = (0..network.branches.len()).find(|index| latch(*index) != run.latch(*index)) {
+        let more = format!("a whole run, the latch of branch {}", index + 1);
+        let (ours, theirs) = (run.latch(index).to_string(), latch(index).to_string());
+        return Err(differ(Found::AgainstSecond, more, ours, theirs));
     }
     let theirs = ends::end_lines(&run, &theirs.ends);
     if ours == theirs {

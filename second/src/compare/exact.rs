@@ -82,7 +82,9 @@ fn refusals_at_one_step(dice: &mut Dice, sign: Whole, study: &mut Study) {
     study.steps = step + 1;
     study.rows.push(row(Kind::VoltageSource, &[1, sign * limits::HIGHEST_VOLTAGE, 1, 0]));
     if dice.one_in(2) {
-        study.rows.push(row(Kind::Switch, &[1, next_node(), 1_000, 1, step]));
+        // Nothing flows through it, so that either kind opens then.
+        let kind = dice.pick(&[Kind::Switch, Kind::TimedSwitch]);
+        study.rows.push(row(kind, &[1, next_node(), 1_000, 1, step]));
     }
     if dice.one_in(2) {
         let node = next_node();

@@ -5,7 +5,7 @@ use super::edges;
 const STUDY: &str = "study\t1000\t3\t1000000000000000\n";
 
 /// A good line of each kind, with its fields apart.
-const GOOD_LINES: [&[&str]; 9] = [
+const GOOD_LINES: [&[&str]; 10] = [
     &["study", "1000", "3", "1000000000000000"],
     &["R", "1", "2", "1000000"],
     &["L", "1", "2", "1000000"],
@@ -15,6 +15,7 @@ const GOOD_LINES: [&[&str]; 9] = [
     &["VS", "1", "1000", "1", "0"],
     &["IS", "1", "1000", "1", "0"],
     &["VC", "1", "1000", "1", "50000"],
+    &["SWT", "1", "2", "1000000", "1", "3"],
 ];
 
 /// A line for each number 1 to 6 that is at fault by that number and no lower one, after `full_table`.
@@ -27,7 +28,7 @@ const FAULTS: [&str; 6] = [
     "R\t1\t0\t1000\n",
 ];
 
-/// The tables of E1 to E10, each with its study line, and a power-frequency source's.
+/// The tables of E1 to E10, each with its study line, a power-frequency source's and one of a switch by the clock.
 pub fn examples() -> Vec<String> {
     let source = "VS\t1\t1000\t1\t0\n";
     let mut all = vec![
@@ -43,6 +44,7 @@ pub fn examples() -> Vec<String> {
     ];
     all.push("study\t1000\t3\t0\nVS\t1\t20000000\t1\t0\nL\t1\t0\t500\n".to_string());
     all.push("study\t1000000\t7\t0\nVC\t1\t1000\t2\t50000\nR\t1\t0\t1000000\n".to_string());
+    all.push("study\t1000\t4\t0\nVS\t1\t1000\t1\t0\nSWT\t1\t2\t2000\t1\t2\n".to_string());
     all
 }
 
@@ -194,8 +196,8 @@ fn field_counts() -> Vec<Vec<u8>> {
             }
         }
         for word in [
-            "r", "RR", "VSS", "V", "VCC", "VR", "vc", "CV", "LINES", "LIN", "S", "I", "Study", "studyy", "1",
-            "-", " R", "R ",
+            "r", "RR", "VSS", "V", "VCC", "VR", "vc", "CV", "LINES", "LIN", "S", "I", "ST", "SWTT", "SWt",
+            "WT", "Study", "studyy", "1", "-", " R", "R ",
         ] {
             let mut fields = owned(good);
             fields[0] = word.to_string();
@@ -252,6 +254,7 @@ fn full_tables() -> Vec<Vec<u8>> {
         ("L\t1\t0\t1000000\n", 64),
         ("C\t1\t0\t1000\n", 64),
         ("SW\t1\t0\t1000000\t1\t2\n", 64),
+        ("SWT\t1\t0\t1000000\t1\t2\n", 64),
         ("LINE\t1\t2\t400000\t1000\n", 64),
         ("LINE\t1\t2\t400000\t32000\n", 64),
         ("LINE\t1\t2\t400000\t33000\n", 62),

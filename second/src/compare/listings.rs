@@ -250,7 +250,7 @@ impl<'a> ListAsker<'a> {
         for area in 2..=self.areas {
             self.lent.records[state::count_place(area)] = self.count_of(1);
         }
-        moves::set_peaks(&mut self.dice, &network, &mut self.lent.records);
+        moves::set_peaks_and_latches(&mut self.dice, &network, &mut self.lent.records);
         if self.areas > 0 && self.dice.one_in(6) {
             let area = 1 + self.dice.below(self.areas);
             self.lent.records[state::count_place(area)] += self.dice.pick(&[-1, 1]);

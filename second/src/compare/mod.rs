@@ -2,6 +2,7 @@
 //! the proved program (its listing, its calls), and the search for the smallest text that shows a difference.
 
 pub mod arguments;
+pub mod breaking;
 pub mod bridged;
 pub mod call_mode;
 pub mod cosine_slips;
@@ -13,6 +14,8 @@ pub mod ends_mode;
 pub mod exact;
 pub mod fixed;
 pub mod foreign;
+pub mod latch_slips;
+pub mod latches;
 pub mod layout_slips;
 pub mod layouts;
 pub mod lent;

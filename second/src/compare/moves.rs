@@ -14,7 +14,7 @@ use crate::record;
 use crate::state;
 
 /// Words of the records that some network uses; those behind are 0.
-pub const RECORDS_IN_USE: usize = 368;
+pub const RECORDS_IN_USE: usize = 448;
 
 /// How thoroughly one study is asked.
 #[derive(Clone, Copy, PartialEq, Eq, Debug)]
@@ -177,7 +177,7 @@ impl Asker<'_> {
             if self.dice.one_in(2) {
                 part_too_far(&mut self.dice, &network, &mut self.lent.records);
             }
-            set_peaks(&mut self.dice, &network, &mut self.lent.records);
+            set_peaks_and_latches(&mut self.dice, &network, &mut self.lent.records);
         }
         for _ in 0..6 {
             let area = 1 + self.dice.below(network.area_count.max(1));
@@ -322,13 +322,13 @@ pub fn random_state(dice: &mut Dice, network: &Network, words: &[i64]) -> Lent {
         }
     }
     set_counts(dice, network, &mut lent.records);
-    set_peaks(dice, network, &mut lent.records);
+    set_peaks_and_latches(dice, network, &mut lent.records);
     lent
 }
 
-/// Peaks that voltages and counts allow, many of them at their very ends. An area that has taken no step may have
-/// one too: its step 1 overwrites it.
-pub fn set_peaks(dice: &mut Dice, network: &Network, records: &mut [i64]) {
+/// Peaks and latches that voltages, steps and counts allow, many of them at their very ends. An area that has taken no
+/// step may have a peak too: its step 1 overwrites it.
+pub fn set_peaks_and_latches(dice: &mut Dice, network: &Network, records: &mut [i64]) {
     let highest = limits::HIGHEST_VOLTAGE as i64;
     for node in 1..=network.node_count {
         let magnitude = records[state::voltage_place(node)].abs();
@@ -337,6 +337,14 @@ pub fn set_peaks(dice: &mut Dice, network: &Network, records: &mut [i64]) {
         let step = dice.between(0, count);
         records[state::peak_place(node)] = dice.pick(&[magnitude, magnitude, highest, above]);
         records[state::peak_step_place(node)] = dice.pick(&[0, count, step]);
+    }
+    for branch in &network.branches {
+        let Some(breaker) = branch.breaker() else { continue };
+        let count = records[state::count_place(network.area_of_branch(branch))];
+        let chance = breaker.first_chance() as i64;
+        let between = dice.between(chance, count.max(chance));
+        let latch = dice.pick(&[0, 0, 0, chance, count, between]);
+        records[state::latch_place(branch.row)] = if chance <= count { latch } else { 0 };
     }
 }
 

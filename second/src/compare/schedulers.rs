@@ -3,6 +3,7 @@
 use super::dice::Dice;
 use super::ends_mode::Found;
 use super::foreign::AdvanceCall;
+use super::latches::PastCurrents;
 use super::lent::Lent;
 use super::nodes::PastVoltages;
 use super::tally::Difference;
@@ -40,8 +41,8 @@ pub struct Ended {
 }
 
 /// Calls areas of a network at rest until in one unchanged state every area has answered DONE, WAIT or one of
-/// 14 to 17. An answer that no run gets, a step past the last, or a peak at the end that is not the largest of the
-/// voltages that the records held after each step is an error.
+/// 14 to 17. An answer that no run gets, a step past the last, a peak at the end that is not the largest of the
+/// voltages that the records held after each step, or a latch that is not the first zero of the currents, is an error.
 pub fn take_to_end(
     advance: AdvanceCall,
     network: &Network,
@@ -52,6 +53,7 @@ pub fn take_to_end(
     let mut scheduler = Scheduler::new(order, network.area_count, dice);
     let mut accepted = vec![Vec::new(); network.area_count];
     let mut past = PastVoltages::at_rest(network);
+    let mut currents = PastCurrents::at_rest(network);
     while let Some(area) = scheduler.next_area() {
         scheduler.disturb(advance, &mut lent)?;
         let (number, place) =
@@ -60,6 +62,7 @@ pub fn take_to_end(
         if number == 0 && (answers.len() as Whole) < network.steps {
             answers.push(place);
             past.note(network, area, &lent.records);
+            currents.note(network, area, &lent.records);
             scheduler.answers.fill(None);
         } else if ends::may_rest(number) {
             scheduler.answers[area - 1] = Some((number, place));
@@ -70,6 +73,10 @@ pub fn take_to_end(
     }
     if let Some(node) = past.first_other(&lent.records) {
         return Err(wrong_peak(order, node, past.peak(node), calls::lent_peak(&lent.records, node)));
+    }
+    if let Some(index) = currents.first_other(network, &lent.records) {
+        let recorded = lent.records[state::latch_place(network.branches[index].row)];
+        return Err(wrong_latch(order, index + 1, currents.latch(network, index), recorded));
     }
     let count = |index: usize| Whole::from(lent.records[state::count_place(index + 1)]);
     let end = |(index, answer): (usize, &Option<(u64, u64)>)| {
@@ -95,6 +102,14 @@ fn wrong_peak(order: Order, node: usize, ours: Peak, theirs: Peak) -> Difference
         question: format!("{}: {order:?}, node {node}", Found::WrongPeak.question()),
         ours: shown(ours),
         theirs: shown(theirs),
+    }
+}
+
+fn wrong_latch(order: Order, branch: usize, ours: Whole, theirs: i64) -> Difference {
+    Difference {
+        question: format!("{}: {order:?}, branch {branch}", Found::WrongLatch.question()),
+        ours: ours.to_string(),
+        theirs: theirs.to_string(),
     }
 }
 

@@ -100,11 +100,13 @@ impl Maker<'_> {
         }
     }
 
-    /// A switch opens, or is not closed yet, and nothing else leads to its far node.
+    /// A switch opens, or is not closed yet, and nothing else leads to its far node. Nothing flows through it, so that a
+    /// breaker opens then too, but not right after it closed.
     fn add_floating(&mut self, port: Whole, step: Whole) {
         let (hanging, resistance) = (self.node(), self.resistance());
         let times = if step == 1 { [2, NEVER_OPEN] } else { [1, step] };
-        self.add(Kind::Switch, &[port, hanging, resistance, times[0], times[1]]);
+        let kind = self.dice.pick(&[Kind::Switch, Kind::TimedSwitch]);
+        self.add(kind, &[port, hanging, resistance, times[0], times[1]]);
         if self.dice.one_in(2) {
             self.add_supply(port);
         } else {

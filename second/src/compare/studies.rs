@@ -1,6 +1,7 @@
 //! Random studies that the reader accepts: several areas joined by lines, rings of many lengths, and runs
 //! that end in each way a run can end.
 
+use super::breaking;
 use super::dice::Dice;
 use super::exact::{self, row};
 use crate::limits::{self, Whole};
@@ -33,6 +34,9 @@ pub fn random_text(dice: &mut Dice) -> Vec<u8> {
 pub fn random_study(dice: &mut Dice) -> Study {
     if dice.one_in(6) {
         return exact::exact_study(dice);
+    }
+    if dice.one_in(10) {
+        return breaking::breaking_study(dice);
     }
     let temper = match dice.below(12) {
         0..=3 => Temper::Calm,
@@ -177,7 +181,7 @@ impl Maker<'_> {
         }
     }
 
-    /// R, L, C or SW between two nodes, either way round.
+    /// R, L, C or a switch between two nodes, either way round.
     fn add_branch(&mut self, one: usize, other: usize) {
         let (one, other) = (one as Whole, other as Whole);
         let (from, to) = if self.dice.one_in(2) { (one, other) } else { (other, one) };
@@ -186,9 +190,11 @@ impl Maker<'_> {
             Temper::Stiff => [Kind::Resistor; 3],
             _ => [Kind::Resistor, Kind::Inductor, Kind::Capacitor],
         };
-        let kind = if self.dice.one_in(switches) { Kind::Switch } else { self.dice.pick(&kinds) };
+        let is_switch = self.dice.one_in(switches);
+        let switch = self.dice.pick(&[Kind::Switch, Kind::Switch, Kind::TimedSwitch]);
+        let kind = if is_switch { switch } else { self.dice.pick(&kinds) };
         let mut fields = vec![from, to, self.element_value(kind, one == 0 || other == 0)];
-        if kind == Kind::Switch {
+        if is_switch {
             fields.extend(self.switch_times());
         }
         let made = Row { kind, fields };

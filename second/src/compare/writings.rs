@@ -59,7 +59,8 @@ pub fn ask_writings(
 
 /// The longest text there is: the longest line of a branch and of a source, as often as a table holds them.
 pub fn longest_text() -> Vec<u8> {
-    let switch = row(Kind::Switch, &[31, 32, *limits::MILLIOHM.end(), 1_000_000, *limits::SWITCH_STEP.end()]);
+    let switch =
+        row(Kind::TimedSwitch, &[31, 32, *limits::MILLIOHM.end(), 1_000_000, *limits::SWITCH_STEP.end()]);
     let source = row(
         Kind::CurrentSource,
         &[32, *limits::INJECTION.start(), *limits::SOURCE_START.end(), *limits::SOURCE_RISE.end()],

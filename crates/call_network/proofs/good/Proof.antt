@@ -14,10 +14,10 @@ unknown c = rw (sym (c .before .known .ensures) ∙ not-true _ (c .if1 .taken))
 known : (c : tie.Else1) → knownRow (c .before .before .args .row) ≡ true
 known c = sym (c .before .known .ensures) ∙ not-false _ (c .if1 .left)
 
-few : (c : tie.Else1) → kind (c .before .before .args .row) < 9
+few : (c : tie.Else1) → kind (c .before .before .args .row) < 10
 few c =
     let k = kind (c .before .before .args .row) in
-    omega (arith, leb-true k 8 (and-right (leb 1 k) (leb k 8) (known c)))
+    omega (arith, leb-true k 9 (and-right (leb 1 k) (leb k 9) (known c)))
 
 spare : tie.Need-returns-2
 unfolding goodRow

@@ -41,7 +41,7 @@ records-formed-spec =
     (λ c κs. (small c .areas, small c .steps, c .pre .1))
     returns
     (λ c κs. let s = c .before .before in (small s .nodes, small s .steps, s .pre .1))
-    (λ c κs. let s = c .before .before .before in (counted (s .pre .0 .of .of) (numbered (c .before)), s .pre .1))
+    (λ c κs. let s = c .before .before .before in (counted (s .pre .0 .of .of) (numbered (c .before)), (s .pre .1, small s .steps)))
     (λ c κs. let s = c .before .before .before .before in (small s .rows, s .pre .1))
     (λ c κs. let s = c .before .before .before .before .before in (nodes-counted (s .pre .0 .of) (numbered (c .before .before .before)), s .pre .1))
     returns-2)

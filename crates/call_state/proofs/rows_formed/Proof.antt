@@ -1,15 +1,16 @@
 -- `call_state::rows_formed` meets its contract. The invariant: the flag says whether the rows passed so far are formed. Assumes nothing.
-use Rattle.whole.specs.Plain.{_-_, _≤_, _≡_, refl, zero-add, arith, every, numbers}
+use Rattle.whole.specs.Plain.{_-_, _≤_, _≡_, refl, sym, subst, zero-add, arith, every, numbers}
 use Rattle.whole.specs.Folds.{every-numbers}
+use Rattle.call_counts.specs.Counts.{LineIn, BreakerIn}
 use Rattle.call_state.specs.Judged.{plannedFormed}
 use Rattle.call_state.proofs.rows_formed.Statement.{statement}
 use Rattle.call_state.proofs.rows_formed.Tie as tie
 
 abbrev Inv-loop : tie.InvT-loop
-Inv-loop plan records rows all₀ i₀ all i = (i ≤ rows) × (all ≡ every (plannedFormed plan records) (numbers 0 i))
+Inv-loop plan records rows steps all₀ i₀ all i = (i ≤ rows) × (all ≡ every (plannedFormed steps plan records) (numbers 0 i))
 
 abbrev μ-loop : tie.MeasureT-loop
-μ-loop plan records rows all₀ i₀ all i = rows - i
+μ-loop plan records rows steps all₀ i₀ all i = rows - i
 
 loop-holds : tie.Need-loop-holds Inv-loop μ-loop
 unfolding every numbers
@@ -19,13 +20,14 @@ row-formed-requires : tie.Need-row-formed-requires Inv-loop μ-loop
 row-formed-requires c κs =
     let l = c .before .before in
     let p = l .before .pre in
-    (rw (c .row-at .ensures) (p .0 .line (l .loop .i) (omega arith)), omega (arith, p .0 .few), p .1)
+    let e = c .row-at .ensures in
+    ((subst (LineIn (l .before .args .records .now)) (sym e) (p .0 .line (l .loop .i) (omega arith)), subst (BreakerIn (l .before .args .records .now)) (sym e) (p .0 .breaker (l .loop .i) (omega arith))), (omega (arith, p .0 .few), p .1 .0, p .1 .1))
 
 -- what was judged of the row
 judged : (c : tie.After-row-formed Inv-loop μ-loop)
     → let l = c .before .before .before in
     let a = l .before .args in
-    c .row-formed .result ≡ plannedFormed (a .plan .now) (a .records .now) (l .loop .i)
+    c .row-formed .result ≡ plannedFormed (a .steps) (a .plan .now) (a .records .now) (l .loop .i)
 unfolding plannedFormed
 judged c = rw (c .before .row-at .ensures) at (c .row-formed .ensures)
 

@@ -1,5 +1,5 @@
 -- `step_area::ready` meets its contract: 14, or the step from what is kept for it. Assumes nothing.
-use Rattle.whole.specs.Plain.{arith}
+use Rattle.whole.specs.Plain.{not-true, arith}
 use borrow.Author.Needs.{needs}
 use Rattle.step_area.specs.Tabled.{area-few}
 use Rattle.step_area.specs.Stepping.{floating-step}
@@ -7,11 +7,11 @@ use Rattle.step_area.proofs.ready.Statement.{statement}
 use Rattle.step_area.proofs.ready.Tie as tie
 
 abbrev start : tie.After-renew → tie.Start
-start r = r .before .before .before .before .before
+start r = r .before .before .before .before .before .before
 
 renew-requires : tie.Need-renew-requires
 renew-requires c κs =
-    let s = c .before .before .before .before in
+    let s = c .before .before .before .before .before in
     let p = s .pre in
     record {
       net = p .net;
@@ -22,6 +22,7 @@ renew-requires c κs =
       least = p .stepping .least;
       most = p .stepping .most;
       few = omega (arith, p .stepping .step, p .tables .sound .study .stepsIn .most);
+      long = p .stepping .kept .records-long;
     }
 
 returns : tie.Need-returns
@@ -48,19 +49,39 @@ stepped-requires c κs =
     let w = r .renew .ensures .of _ _ _ _ (p .tables) (p .stepping .least) (p .stepping .most) in
     record { net = p .net; low = p .low; high = p .high; owns = _; ready = record { tables = w .tables; stepping = p .stepping; own = o .own-at .ensures; serving = w .serving (e .if1 .left) } }
 
+-- ---- the step that was taken or not
+abbrev read : tie.After-stepped → tie.After-own-at
+read x = x .before .before .before .before .before .before
+
+abbrev renewed : tie.After-stepped → tie.After-renew
+renewed x = read x .before .before .before .before
+
 returns-2 : tie.Need-returns-2
 returns-2 c =
-    let x = c .before .before .before .before in
-    let o = x .before .before .before .before .before .before in
-    let e = o .before .before in
-    let r = e .before .before in
+    let x = c .before .before .before .before .before .before in
     record {
       of = λ N low high t s.
-          let w = r .renew .ensures .of N low high _ t (s .least) (s .most) in
-          x .stepped .ensures .of N low high _ (record { tables = w .tables; stepping = s; own = o .own-at .ensures; serving = w .serving (e .if1 .left) });
+          let w = renewed x .renew .ensures .of N low high _ t (s .least) (s .most) in
+          x .stepped .ensures .of N low high _ (record { tables = w .tables; stepping = s; own = read x .own-at .ensures; serving = w .serving (read x .before .before .if1 .left) }) .whole (not-true _ (c .if2 .taken));
+    }
+
+put-until-requires : tie.Need-put-until-requires
+put-until-requires c κs =
+    let x = c .before .before .before .before .before .before .before in
+    let p = start (renewed x) .pre in
+    area-few (p .tables) _ (p .stepping .least) (p .stepping .most)
+
+returns-3 : tie.Need-returns-3
+returns-3 c =
+    let x = c .before .before .before .before .before .before .before .before in
+    record {
+      of = λ N low high t s.
+          let w = renewed x .renew .ensures .of N low high _ t (s .least) (s .most) in
+          rw (c .put-until .ensures)
+          (x .stepped .ensures .of N low high _ (record { tables = w .tables; stepping = s; own = read x .own-at .ensures; serving = w .serving (read x .before .before .if1 .left) }) .parted);
     }
 
 pub ready-spec : {M : Type 1} → statement M
 ready-spec =
     tie.close
-    (tie.spec renew-requires (λ c. search needs) returns own-at-requires stepped-requires (λ c. search needs) (λ c. search needs) (λ c. search needs) (λ c. search needs) returns-2)
+    (tie.spec renew-requires (λ c. search needs) (λ c. search needs) returns own-at-requires stepped-requires (λ c. search needs) (λ c. search needs) (λ c. search needs) (λ c. search needs) returns-2 put-until-requires (λ c. search needs) (λ c. search needs) (λ c. search needs) (λ c. search needs) returns-3)

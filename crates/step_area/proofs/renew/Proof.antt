@@ -26,7 +26,7 @@ prepare-requires : tie.Need-prepare-requires
 prepare-requires c κs =
     let o = before (c .before .before) in
     let p = start o .pre in
-    (record { net = p .net; area = start o .args .area; stands = stands-read (o .own-at .ensures) (p .tables) (p .least) (p .most) }, p .tables .square, p .few)
+    ((record { net = p .net; area = start o .args .area; stands = stands-read (o .own-at .ensures) (p .tables) (p .least) (p .most) }, p .tables .square, p .few), p .long)
 
 abbrev asked : tie.After-prepare → tie.After-prepare-arg
 asked p = p .before .before .before

@@ -3,7 +3,7 @@ use Rattle.whole.specs.Plain.{_≡_, refl, sym, _∙_, true, not-true, not-fals
 use borrow.Author.Needs.{needs}
 use Rattle.paper.specs.Answers.{accepted}
 use Rattle.plan_own.specs.Owns.{Ours}
-use Rattle.step_area.specs.Stepping.{own-there, tries-at, tried-at, tables-after, not-taken, asked, moved}
+use Rattle.step_area.specs.Stepping.{own-there, tries-at, tried-at, tables-after, not-taken, stayed, asked, came}
 use Rattle.step_area.proofs.stepped.Statement.{statement}
 use Rattle.step_area.proofs.stepped.Tie as tie
 
@@ -26,12 +26,7 @@ returns : tie.Need-returns
 returns c =
     let t = c .before .before .before in
     let e = sym (c .before .took .ensures) ∙ not-true _ (c .if1 .taken) in
-    record {
-      of = λ N low high owns R. record {
-        tables = tables-after R (t .try-step .ensures .1);
-        step = not-taken N _ _ _ _ _ (tried-at R (placed t .at-of .ensures) (t .try-step .ensures .0) .tried) e;
-      };
-    }
+    record { of = λ N low high owns R. stayed R (t .try-step .ensures .1) (not-taken N _ _ _ _ _ (tried-at R (placed t .at-of .ensures) (t .try-step .ensures .0) .tried) e) }
 
 -- ---- the step is written
 abbrev tried : tie.Else1 → tie.After-try-step
@@ -53,12 +48,7 @@ returns-2 c =
     let e = w .before .before .before .before .before .before .before .before in
     let t = tried e in
     let q = w .commit .ensures in
-    record {
-      of = λ N low high owns R. record {
-        tables = tables-after R (t .try-step .ensures .1);
-        step = moved R (t .try-step .ensures .1) (tried-at R (placed t .at-of .ensures) (t .try-step .ensures .0)) (accepts e) (q .0) (q .1 .0) (q .1 .1);
-      };
-    }
+    record { of = λ N low high owns R. came R (t .try-step .ensures .1) (tried-at R (placed t .at-of .ensures) (t .try-step .ensures .0)) (accepts e) (q .0) (q .1 .1 .0) (q .1 .1 .1) (q .1 .0) }
 
 pub stepped-spec : {M : Type 1} → statement M
 stepped-spec =

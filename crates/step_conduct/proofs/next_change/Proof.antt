@@ -1,8 +1,14 @@
 -- `step_conduct::next_change` meets its contract. Assumes nothing.
-use Rattle.whole.specs.Plain.{arith}
+use Rattle.whole.specs.Plain.{_≡_, sym, _∙_, true, false, true≢false, not-true, arith}
 use borrow.Author.Needs.{needs}
+use Rattle.step_conduct.specs.Conducted.{switches}
 use Rattle.step_conduct.proofs.next_change.Statement.{statement}
 use Rattle.step_conduct.proofs.next_change.Tie as tie
+
+returns : tie.Need-returns
+returns c =
+    let n : switches (c .before .before .args .r) ≡ false = sym (c .before .is-switch .ensures) ∙ not-true _ (c .if1 .taken) in
+    record { most = omega arith; on = λ h. h; closes = λ e h. absurd (true≢false (sym e ∙ n)); opens = λ e h. absurd (true≢false (sym e ∙ n)) }
 
 returns-2 : tie.Need-returns-2
 returns-2 c =
@@ -16,4 +22,4 @@ returns-2 c =
     }
 
 pub next-change-spec : {M : Type 1} → statement M
-next-change-spec = tie.close (tie.spec (λ c. search needs) (λ c κs. search needs) (λ c κs. search needs) returns-2)
+next-change-spec = tie.close (tie.spec (λ c κs. search needs) returns (λ c κs. search needs) (λ c κs. search needs) returns-2)

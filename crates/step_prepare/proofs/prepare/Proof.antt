@@ -9,13 +9,13 @@ use Rattle.step_prepare.proofs.prepare.Tie as tie
 conduct-requires : tie.Need-conduct-requires
 conduct-requires c κs =
     let p = c .before .before .pre in
-    let s = p .0 .stands in
-    (rated (s .sound) (s .one) (s .planned) (s .framed), p .2)
+    let s = p .0 .0 .stands in
+    ((rated (s .sound) (s .one) (s .planned) (s .framed), p .0 .2), p .1)
 
 floating-requires : tie.Need-floating-requires
 floating-requires c κs =
     let t = c .before .before in
-    let s = t .before .before .before .pre .0 .stands in
+    let s = t .before .before .before .pre .0 .0 .stands in
     (all-wires s (t .conduct .ensures), all-free s)
 
 abbrev conducted : tie.After-floating → tie.After-conduct
@@ -27,12 +27,12 @@ start f = conducted f .before .before .before
 returns : tie.Need-returns
 returns c =
     let f = c .before in
-    (λ N n s. stops s (conducted f .conduct .ensures) _ (f .floating .ensures) (c .if1 .taken), renewed-none _ _ (start f .pre .1))
+    (λ N n s. stops s (conducted f .conduct .ensures) _ (f .floating .ensures) (c .if1 .taken), renewed-none _ _ (start f .pre .0 .1))
 
 prepare-requires : tie.Need-prepare-requires
 prepare-requires c κs =
     let f = c .before .before .before in
-    let p = start f .pre in
+    let p = start f .pre .0 in
     let s = p .0 .stands in
     (all-wires s (conducted f .conduct .ensures), all-free s, s .room, p .1)
 

@@ -7,35 +7,54 @@ use Rattle.step_records.specs.Records.{legPut}
 use Rattle.step_records.proofs.put_leg.Statement.{statement}
 use Rattle.step_records.proofs.put_leg.Tie as tie
 
-slice-set-from-passed : tie.Need-slice-set-from-passed
-slice-set-from-passed c = simp length-set (omega arith)
-
+-- at a to end
 returns : tie.Need-returns
 unfolding legPut putIf
-returns c =
-    let s = c .before .before .before .before .before in
-    rw (toZ-ofZ (s .fits .current), toZ-ofZ (s .fits .passed), eq-eqb _ 1 (c .before .before .before .if1 .taken), c .if2 .taken)
+returns c = let n = ne-eqb _ 1 (c .before .before .if1 .taken) in (rw (n, ne-eqb _ 4 (c .if2 .taken)), rw n)
 
 returns-2 : tie.Need-returns-2
 unfolding legPut putIf
 returns-2 c =
-    let s = c .before .before .before .before .before in
-    rw (toZ-ofZ (s .fits .current), eq-eqb _ 1 (c .before .before .before .if1 .taken), c .if2 .left)
+    let s = c .before .before .before .before in
+    let n = ne-eqb _ 1 (c .before .before .if1 .taken) in
+    (rw (toZ-ofZ (s .fits .current), n, eq-eqb _ 4 (c .if2 .left)), rw n)
+
+-- at a from end
+slice-set-from-passed : tie.Need-slice-set-from-passed
+slice-set-from-passed c =
+    let p = c .before .before .before .before in
+    let s = p .before .before .before .before in
+    simp length-set (omega (arith, p .part .kept .1 .1 .1 .0, s .pre .1))
 
 returns-3 : tie.Need-returns-3
 unfolding legPut putIf
 returns-3 c =
-    let s = c .before .before .before .before in
-    rw (toZ-ofZ (s .fits .current), ne-eqb _ 1 (c .before .before .if1 .left), eq-eqb _ 4 (c .if3 .taken))
+    let p = c .before .before .before .before in
+    let s = p .before .before .before .before in
+    let o = eq-eqb _ 1 (p .before .before .if1 .left) in
+    let i = toZ-ofZ (s .fits .current) in
+    (rw (p .part .ensures .1, i, toZ-ofZ (s .fits .passed), o, c .if3 .taken), rw o (rw i at (p .part .ensures .0)))
 
 returns-4 : tie.Need-returns-4
 unfolding legPut putIf
-returns-4 c = rw (ne-eqb _ 1 (c .before .before .if1 .left), ne-eqb _ 4 (c .if3 .left))
+returns-4 c =
+    let p = c .before .before .before .before in
+    let s = p .before .before .before .before in
+    let o = eq-eqb _ 1 (p .before .before .if1 .left) in
+    let i = toZ-ofZ (s .fits .current) in
+    (rw (p .part .ensures .1, i, o, c .if3 .left), rw o (rw i at (p .part .ensures .0)))
 
 pub put-leg-spec : {M : Type 1} → statement M
 put-leg-spec =
     tie.close
     (tie.spec
+    returns
+    (λ c. search needs)
+    (λ c. search needs)
+    (λ c. search needs)
+    (λ c. search needs)
+    returns-2
+    (λ c κs. search needs)
     (λ c. search needs)
     (λ c. search needs)
     (λ c. search needs)
@@ -43,12 +62,6 @@ put-leg-spec =
     (λ c. search needs)
     slice-set-from-passed
     (λ c. search needs)
-    (λ c. search needs)
-    (λ c. search needs)
-    (λ c. search needs)
-    returns
-    (λ c. search needs)
-    returns-2
-    (λ c. search needs)
     returns-3
+    (λ c. search needs)
     returns-4)

@@ -1,5 +1,5 @@
 -- `step_try::try_step` meets its contract: each part gives what the next asks, and the whole is the paper's step. Assumes nothing.
-use Rattle.whole.specs.Plain.{ℕ, _≡_, refl, List, arith, Words}
+use Rattle.whole.specs.Plain.{ℕ, _≡_, refl, ap, _∙_, List, arith, Words}
 use borrow.Author.Needs.{needs}
 use Rattle.paper.specs.declared.Advance.the-variants.{Took, Range}
 use Rattle.paper.specs.Areas.{Net}
@@ -10,7 +10,7 @@ use Rattle.step_histories.specs.Heard.{all-heard}
 use Rattle.step_histories.specs.Laws.{hears}
 use Rattle.step_flow.specs.Flown.{flown-same, wires-stay}
 use Rattle.step_flow.specs.Past.{past-unbalanced}
-use Rattle.step_flow.specs.Beyond.{first-by}
+use Rattle.step_flow.specs.Beyond.{firstRow, first-by}
 use Rattle.step_try.specs.Trying.{Trying, all-sized, all-long, all-free, tries-range, tries-flow, heard-from, still-from, inject-from, drives, volts-from, serves-from, found-volts}
 use Rattle.step_try.proofs.try_step.Statement.{statement}
 use Rattle.step_try.proofs.try_step.Tie as tie
@@ -102,7 +102,7 @@ returns-2 c =
     let h = heard d in (
       λ N a t. record {
         tried = tries-flow t (laid h t) (d .drive .last .1 .1 .1 .0) (inject-from t (d .drive .ensures .1 .0)) (still-from t (d .drive .ensures .0)) (e .before .solve .ensures) (e .if1 .left)
-            (rw (past-unbalanced _ _ _ (f .flow .ensures .0) (all-free t (laid h t)), f .flow .ensures .1, first-by _ _ (all-long t (laid h t))) at (c .judged .ensures));
+            (past-unbalanced _ _ _ (f .flow .ensures .0) (all-free t (laid h t))) (ap firstRow (f .flow .ensures .1) ∙ first-by _ _ (all-long t (laid h t))) (c .judged .ensures);
         flowing = λ o. record { legs = after h; laid = laid h t; flows = f .flow .ensures .1; volts = volts e t };
       },
       same-then (all-heard _ _ _ _ _ _ (h .hear .ensures)) (flown-same _ _ (f .flow .ensures .1)),

@@ -1,5 +1,5 @@
 use borrow.Author.Needs.{needs}
-use Rattle.whole.specs.Plain.{ℕ, _≡_, _∙_, sym, true, false, _&&_, tail, leb, eqb, not-true, not-false, arith}
+use Rattle.whole.specs.Plain.{ℕ, _≡_, _∙_, sym, Bool, true, false, _&&_, _||_, tail, leb, eqb, not-true, not-false, arith}
 use Rattle.num_quantity.specs.declared.Conductance.{Conductance}
 use Rattle.num_quantity.specs.declared.CheckedConductance.the-variants.{Good, Refused}
 use Rattle.paper.specs.Rows.{kind, fieldsOf, closes, opens}
@@ -85,8 +85,8 @@ module _ (c : tie.After-new) where
       value-refused (s .args .row) (omega arith) (s .pre .0) (f .before .before .kind-of .ensures) (s .args .step) in-range (i .is-branch .ensures) (not-false _ (c .before .before .before .if2 .left))
       (c .before .before .field .ensures) (c .before .conductance .ensures) (c .new .ensures)
 
-  taken : {shut opened : ℕ} {g : Conductance} → c .new .result ≡ Good g → shut ≡ closes (s .args .row) → opened ≡ opens (s .args .row)
-      → (eqb (f .before .before .kind-of .result) 5 && leb opened shut) ≡ valueFault (headOf (s .args .step)) (s .args .row)
+  taken : {shut opened : ℕ} {sw : Bool} {g : Conductance} → c .new .result ≡ Good g → shut ≡ closes (s .args .row) → opened ≡ opens (s .args .row)
+      → sw ≡ (eqb (f .before .before .kind-of .result) 5 || eqb (f .before .before .kind-of .result) 9) → (sw && leb opened shut) ≡ valueFault (headOf (s .args .step)) (s .args .row)
   taken =
       value-taken (s .args .row) (omega arith) (s .pre .0) (f .before .before .kind-of .ensures) (s .args .step) in-range (i .is-branch .ensures) (not-false _ (c .before .before .before .if2 .left))
       (c .before .before .field .ensures) (c .before .conductance .ensures) (c .new .ensures)
@@ -100,8 +100,13 @@ field-requires-2 c κs = search needs
 field-requires-3 : tie.Need-field-requires-3
 field-requires-3 c κs = search needs
 
+is-switch-requires : tie.Need-is-switch-requires
+is-switch-requires c κs = search needs
+
 returns-4 : tie.Need-returns-4
-returns-4 c = taken (c .before .before .before .before) (c .before .before .enum-told .given .1) (c .before .field2 .ensures) (c .field3 .ensures)
+returns-4 c =
+    let d = c .before in
+    taken (d .before .before .before .before) (d .before .before .enum-told .given .1) (d .before .field2 .ensures) (d .field3 .ensures) (c .is-switch .ensures)
 
 pub value-fault-spec : {M : Type 1} → statement M
-value-fault-spec = tie.close (tie.spec kind-of-requires names-requires fields-requires outside-requires returns is-branch-requires returns-2 field-requires conductance-requires new-requires enum-told enum-told-2 returns-3 field-requires-2 field-requires-3 returns-4)
+value-fault-spec = tie.close (tie.spec kind-of-requires names-requires fields-requires outside-requires returns is-branch-requires returns-2 field-requires conductance-requires new-requires enum-told enum-told-2 returns-3 field-requires-2 field-requires-3 is-switch-requires returns-4)

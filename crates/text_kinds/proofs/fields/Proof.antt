@@ -26,11 +26,15 @@ returns-5 c = let e : c .before .args .kind ≡ 8 = c .match .keys5 in rw e
 
 returns-6 : tie.Need-returns-6
 unfolding fieldsOf kinds bytes
-returns-6 c =
+returns-6 c = let e : c .before .args .kind ≡ 9 = c .match .keys6 in rw e
+
+returns-7 : tie.Need-returns-7
+unfolding fieldsOf kinds bytes
+returns-7 c =
     let r = c .match .rest in
-    each (λ (k : ℕ). (k ≡ 4 → ⊥) → (k ≡ 5 → ⊥) → (k ≡ 6 → ⊥) → (k ≡ 7 → ⊥) → (k ≡ 8 → ⊥) → _≡_ {A = ℕ} 3 (length (fieldsOf k)))
-    (λ a b c d e. refl) (λ a b c d e. refl) (λ a b c d e. refl) (λ a b c d e. refl) (λ a b c d e. absurd (a refl)) (λ a b c d e. absurd (b refl)) (λ a b c d e. absurd (c refl)) (λ a b c d e. absurd (d refl)) (λ a b c d e. absurd (e refl))
-    (c .before .args .kind) (c .before .pre) (r .0 .0 .0 .0 .1) (r .0 .0 .0 .1) (r .0 .0 .1) (r .0 .1) (r .1)
+    each (λ (k : ℕ). (k ≡ 4 → ⊥) → (k ≡ 5 → ⊥) → (k ≡ 6 → ⊥) → (k ≡ 7 → ⊥) → (k ≡ 8 → ⊥) → (k ≡ 9 → ⊥) → _≡_ {A = ℕ} 3 (length (fieldsOf k)))
+    (λ a b c d e f. refl) (λ a b c d e f. refl) (λ a b c d e f. refl) (λ a b c d e f. refl) (λ a b c d e f. absurd (a refl)) (λ a b c d e f. absurd (b refl)) (λ a b c d e f. absurd (c refl)) (λ a b c d e f. absurd (d refl))
+    (λ a b c d e f. absurd (e refl)) (λ a b c d e f. absurd (f refl)) (c .before .args .kind) (c .before .pre) (r .0 .0 .0 .0 .0 .1) (r .0 .0 .0 .0 .1) (r .0 .0 .0 .1) (r .0 .0 .1) (r .0 .1) (r .1)
 
 pub fields-spec : {M : Type 1} → statement M
-fields-spec = tie.close (tie.spec returns returns-2 returns-3 returns-4 returns-5 returns-6)
+fields-spec = tie.close (tie.spec returns returns-2 returns-3 returns-4 returns-5 returns-6 returns-7)

@@ -26,7 +26,7 @@ unfolding namesOf count fieldsOf kinds bytes
 returns-5 c =
     let r = c .match .rest in
     each (λ (k : ℕ). (k ≡ 0 → ⊥) → (k ≡ 6 → ⊥) → (k ≡ 7 → ⊥) → (k ≡ 8 → ⊥) → _≡_ {A = ℕ} 2 (namesOf k))
-    (λ a b c d. absurd (a refl)) (λ a b c d. refl) (λ a b c d. refl) (λ a b c d. refl) (λ a b c d. refl) (λ a b c d. refl) (λ a b c d. absurd (b refl)) (λ a b c d. absurd (c refl)) (λ a b c d. absurd (d refl))
+    (λ a b c d. absurd (a refl)) (λ a b c d. refl) (λ a b c d. refl) (λ a b c d. refl) (λ a b c d. refl) (λ a b c d. refl) (λ a b c d. absurd (b refl)) (λ a b c d. absurd (c refl)) (λ a b c d. absurd (d refl)) (λ a b c d. refl)
     (c .before .args .kind) (c .before .pre) (r .0 .0 .0 .1) (r .0 .0 .1) (r .0 .1) (r .1)
 
 pub names-spec : {M : Type 1} → statement M

@@ -30,11 +30,16 @@ returns-6 c = let e : c .before .args .kind ≡ 8 = c .match .keys6 in rw e
 
 returns-7 : tie.Need-returns-7
 unfolding wordOf kinds bytes
-returns-7 c =
+returns-7 c = let e : c .before .args .kind ≡ 9 = c .match .keys7 in rw e
+
+returns-8 : tie.Need-returns-8
+unfolding wordOf kinds bytes
+returns-8 c =
     let r = c .match .rest in
-    each (λ (k : ℕ). (k ≡ 0 → ⊥) → (k ≡ 4 → ⊥) → (k ≡ 5 → ⊥) → (k ≡ 6 → ⊥) → (k ≡ 7 → ⊥) → (k ≡ 8 → ⊥) → _≡_ {A = ℕ} 1 (length (wordOf k)))
-    (λ a b c d e f. absurd (a refl)) (λ a b c d e f. refl) (λ a b c d e f. refl) (λ a b c d e f. refl) (λ a b c d e f. absurd (b refl)) (λ a b c d e f. absurd (c refl)) (λ a b c d e f. absurd (d refl)) (λ a b c d e f. absurd (e refl)) (λ a b c d e f. absurd (f refl))
-    (c .before .args .kind) (c .before .pre) (r .0 .0 .0 .0 .0 .1) (r .0 .0 .0 .0 .1) (r .0 .0 .0 .1) (r .0 .0 .1) (r .0 .1) (r .1)
+    each (λ (k : ℕ). (k ≡ 0 → ⊥) → (k ≡ 4 → ⊥) → (k ≡ 5 → ⊥) → (k ≡ 6 → ⊥) → (k ≡ 7 → ⊥) → (k ≡ 8 → ⊥) → (k ≡ 9 → ⊥) → _≡_ {A = ℕ} 1 (length (wordOf k)))
+    (λ a b c d e f g. absurd (a refl)) (λ a b c d e f g. refl) (λ a b c d e f g. refl) (λ a b c d e f g. refl) (λ a b c d e f g. absurd (b refl)) (λ a b c d e f g. absurd (c refl))
+    (λ a b c d e f g. absurd (d refl)) (λ a b c d e f g. absurd (e refl)) (λ a b c d e f g. absurd (f refl)) (λ a b c d e f g. absurd (g refl))
+    (c .before .args .kind) (c .before .pre) (r .0 .0 .0 .0 .0 .0 .1) (r .0 .0 .0 .0 .0 .1) (r .0 .0 .0 .0 .1) (r .0 .0 .0 .1) (r .0 .0 .1) (r .0 .1) (r .1)
 
 pub length-of-spec : {M : Type 1} → statement M
-length-of-spec = tie.close (tie.spec returns returns-2 returns-3 returns-4 returns-5 returns-6 returns-7)
+length-of-spec = tie.close (tie.spec returns returns-2 returns-3 returns-4 returns-5 returns-6 returns-7 returns-8)

@@ -40,9 +40,13 @@ returns-8 c = let e : c .before .args .kind ≡ 7 = c .match .keys8 in rw e
 
 returns-9 : tie.Need-returns-9
 unfolding lettersOf wordOf table entries kinds bytes
-returns-9 c =
+returns-9 c = let e : c .before .args .kind ≡ 8 = c .match .keys9 in rw e
+
+returns-10 : tie.Need-returns-10
+unfolding lettersOf wordOf table entries kinds bytes
+returns-10 c =
     let r = c .match .rest in
-    the-last (λ (k : ℕ). _≡_ {A = List ℕ} (86 ∷ 67 ∷ 0 ∷ 0 ∷ 0 ∷ []) (lettersOf k)) refl (c .before .args .kind) (c .before .pre) (r .0 .0 .0 .0 .0 .0 .0 .1) (r .0 .0 .0 .0 .0 .0 .1) (r .0 .0 .0 .0 .0 .1) (r .0 .0 .0 .0 .1) (r .0 .0 .0 .1) (r .0 .0 .1) (r .0 .1) (r .1)
+    the-last (λ (k : ℕ). _≡_ {A = List ℕ} (83 ∷ 87 ∷ 84 ∷ 0 ∷ 0 ∷ []) (lettersOf k)) refl (c .before .args .kind) (c .before .pre) (r .0 .0 .0 .0 .0 .0 .0 .0 .1) (r .0 .0 .0 .0 .0 .0 .0 .1) (r .0 .0 .0 .0 .0 .0 .1) (r .0 .0 .0 .0 .0 .1) (r .0 .0 .0 .0 .1) (r .0 .0 .0 .1) (r .0 .0 .1) (r .0 .1) (r .1)
 
 pub letters-of-spec : {M : Type 1} → statement M
-letters-of-spec = tie.close (tie.spec returns returns-2 returns-3 returns-4 returns-5 returns-6 returns-7 returns-8 returns-9)
+letters-of-spec = tie.close (tie.spec returns returns-2 returns-3 returns-4 returns-5 returns-6 returns-7 returns-8 returns-9 returns-10)

@@ -17,7 +17,7 @@ start c = c .before .before
 most : (c : tie.After-kind) → start c .args .i < 80
 most c = omega (arith, start c .pre .0 .2, net-sound (start c .args .net .now) (start c .pre .0 .1) .rowMost)
 
-known : (c : tie.After-kind) → c .kind .result < 9
+known : (c : tie.After-kind) → c .kind .result < 10
 known c = let s = start c in omega (arith, c .kind .ensures, net-sound (s .args .net .now) (s .pre .0 .1) .row (s .args .i) (s .pre .0 .2) .kindMost)
 
 few : (c : tie.After-fields) → c .fields .result ≤ 5

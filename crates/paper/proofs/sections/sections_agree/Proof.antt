@@ -4,7 +4,7 @@ use Rattle.paper.proofs.sections.sections_agree.Statement.{statement}
 use Rattle.paper.proofs.sections.sections_agree.Tie as tie
 
 returns : tie.Need-returns
-returns c = (refl, (refl, (refl, (refl, (refl, (refl, (refl, refl)))))))
+returns c = (refl, (refl, (refl, (refl, (refl, (refl, (refl, (refl, refl))))))))
 
 pub sections-agree-spec : {M : Type 1} → statement M
 sections-agree-spec = tie.close (tie.spec returns)

@@ -1,0 +1,1 @@
+// Breakers over every run: the theorem stands in specs/.
