@@ -35,7 +35,7 @@ use Rattle.step_own.specs.Laid.{Laid, wires-are}
 use Rattle.step_own.specs.Pass.{turn, pass}
 use Rattle.step_flow.specs.Flown.{passedBy, flown}
 use Rattle.step_latch.specs.Parting.{legParts, latchPut, parts-paper, latch-again}
-use Rattle.step_records.specs.Records.{legPut, recordsPut, nodePut, nodesPut, nodes-else}
+use Rattle.step_records.specs.Records.{legPut, areaPut, linesPut, recordsPut, nodePut, nodesPut, nodes-else}
 use Rattle.step_commit.specs.Stores.{fromEnd, toEnd, sentPut, sentBy}
 use Rattle.step_commit.specs.Reached.{fold-keep, fold-reach, fold-first}
 use Rattle.step_commit.specs.Asked.{place-is, slots-is}
@@ -261,7 +261,7 @@ module _ {N : Net} {a k : ℕ} {recs froms tos : Words} {legs : List Words} {pla
     all = fold (λ x e. put e x) nodes (ownEnds N a)
 
     records-fold : recordsPut plan lines (ownNodes N a) v a k recs ≡ all
-    unfolding recordsPut
+    unfolding linesPut areaPut
     records-fold =
         by-wires (legPut plan k) v legs (record { nine = λ j h. l .conducting .framed .line j h .long }) _
         ∙ rw (wires-are l) (fold-map (λ x w. found (legPut plan k) v w x) (wireOf N k recs froms tos) nodes (ownEnds N a))

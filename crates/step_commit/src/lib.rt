@@ -3,7 +3,7 @@
 ghost use Rattle.whole.specs.Plain.{_+_, _≤_, _<_, _%_, _≡_, length, set};
 ghost use Rattle.whole.specs.Loans.{was, is};
 ghost use Rattle.paper.specs.Limits as Limits;
-ghost use Rattle.step_records.specs.Records.{recordsPut, Unparted, Recordable};
+ghost use Rattle.step_records.specs.Records.{linesPut, recordsPut, Unparted, Recordable};
 ghost use Rattle.step_commit.specs.Stores.{fromEnd, toEnd, sentPut, sentBy, Slotted, Sendable};
 use paper::Node;
 use paper::kinds;
@@ -11,7 +11,9 @@ use plan_rows::Table;
 use step_legs::Line;
 use step_legs::Wire;
 
-// Of a leg's line, what it passes on.
+// Of a leg's line, what the step found: its current, and what it passes on.
+const CURRENT: usize = 7;
+
 const PASSED: usize = 8;
 
 // The value of step s in place s mod the slots of one line end.
@@ -49,19 +51,32 @@ fn send_leg(plan: &Table, l: Wire, x: i64, froms: &mut [i64], tos: &mut [i64], k
     }
 }
 
-// "An area's advance writes only the slots of its own line ends.": one pass over its legs, into both stores.
-fn send(plan: &Table, legs: &[Line], froms: &mut [i64], tos: &mut [i64], k: usize)
+// What each leg writes, in one pass: its row's words, and "only the slots of its own line ends". Whether a breaker parted: where none did, every latch is as it was.
+fn put_legs(
+    plan: &Table,
+    legs: &[Line],
+    records: &mut [i64],
+    froms: &mut [i64],
+    tos: &mut [i64],
+    k: usize,
+) -> bool
     requires { ⌜ Sendable (now plan) (now legs) (now froms) (now tos) ⌝ }
+    requires { ⌜ (length (now records) ≡ Limits.recordWords) × (k ≤ Limits.stepsEnd) ⌝ }
+    ensures { λ _. ⌜ is records ≡ linesPut (was plan) k (was legs) (was records) ⌝ }
+    ensures { λ r. ⌜ Unparted r (was records) (is records) ⌝ }
     ensures { λ _. ⌜ is froms ≡ sentBy (was plan) k fromEnd (was legs) (was froms) ⌝ }
     ensures { λ _. ⌜ is tos ≡ sentBy (was plan) k toEnd (was legs) (was tos) ⌝ }
 {
+    let mut parted = false;
     let mut j = 0;
     while j < legs.len() {
         let l = step_legs::leg_at(legs, j);
         let w = legs[j];
+        parted = step_records::put_leg(plan, l, w[CURRENT], w[PASSED], records, k) | parted;
         send_leg(plan, l, w[PASSED], froms, tos, k);
         j += 1;
     }
+    parted
 }
 
 // All that an accepted step writes. Whether a breaker of the area parted: where none did, every latch is as it was.
@@ -83,7 +98,6 @@ pub fn commit(
     ensures { λ _. ⌜ is froms ≡ sentBy (was plan) k fromEnd (was legs) (was froms) ⌝ }
     ensures { λ _. ⌜ is tos ≡ sentBy (was plan) k toEnd (was legs) (was tos) ⌝ }
 {
-    let parted = step_records::put_records(plan, legs, nodes, v, records, area, k);
-    send(plan, legs, froms, tos, k);
-    parted
+    step_records::put_area(nodes, v, records, area, k);
+    put_legs(plan, legs, records, froms, tos, k)
 }

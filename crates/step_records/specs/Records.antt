@@ -1,6 +1,6 @@
 -- What an area's legs and nodes write into the records. Assumes nothing.
-use Rattle.whole.specs.Plain.{ℕ, suc, _+_, _-_, _≤_, _<_, _≡_, refl, _∙_, _⊎_, inl, inr, ⊎-elim, Bool, true, false, cond, _&&_, _||_, List, [], _∷_, eqb, ℤ, pos, natAbs}
-use Rattle.whole.specs.Plain.{length, getD, set, getD-set-other, arith, Words, z, word, fold}
+use Rattle.whole.specs.Plain.{ℕ, suc, _+_, _-_, _≤_, _<_, _≡_, refl, sym, _∙_, true≢false, _⊎_, inl, inr, ⊎-elim, Bool, true, false, cond, _&&_, _||_, List, [], _∷_, eqb, ℤ, pos, natAbs}
+use Rattle.whole.specs.Plain.{length, getD, set, getD-set-other, ne-eqb, ℕ-discrete, arith, Words, z, word, fold}
 use Rattle.paper.specs.Limits as Limits
 use Rattle.paper.specs.Records.{counts, voltages, outdone, histories, peaks, peakSteps, latches, currentAt, toCurrentAt, historyAt, latchAt}
 use Rattle.paper.specs.Advance.{putIf}
@@ -27,11 +27,19 @@ nodePut k n x r =
 unfoldable pub nodesPut : ℕ → Words → List ℕ → Words → Words
 nodesPut k v nodes r = fold (λ u n. nodePut k n (word v n) u) r nodes
 
+-- and the area's count
+unfoldable pub areaPut : ℕ → Words → List ℕ → ℕ → Words → Words
+areaPut k v nodes a r = nodesPut k v nodes (set r (counts .start + (a - 1)) (pos k))
+
+-- the legs' parts, one after the other
 abbrev pub linePut : List (List ℕ) → ℕ → Words → Words → Words
 linePut plan k r l = legPut plan k (wireIn l) (currentIn l) (passedIn l) r
 
-unfoldable pub recordsPut : List (List ℕ) → List Words → List ℕ → Words → ℕ → ℕ → Words → Words
-recordsPut plan legs nodes v a k r = fold (linePut plan k) (nodesPut k v nodes (set r (counts .start + (a - 1)) (pos k))) legs
+unfoldable pub linesPut : List (List ℕ) → ℕ → List Words → Words → Words
+linesPut plan k legs r = fold (linePut plan k) r legs
+
+abbrev pub recordsPut : List (List ℕ) → List Words → List ℕ → Words → ℕ → ℕ → Words → Words
+recordsPut plan legs nodes v a k r = linesPut plan k legs (areaPut k v nodes a r)
 
 pub record Nodes (nodes : List ℕ) : Type 0 where
   pub end : (i : ℕ) → i < length nodes → getD nodes i 0 ≤ Limits.nodeEnd
@@ -45,6 +53,14 @@ pub record Recordable (legs : List Words) (nodes : List ℕ) (v records : Words)
   pub area-least : 1 ≤ area
   pub area-most : area ≤ Limits.nodeEnd
   pub step-most : k ≤ Limits.stepsEnd
+
+-- an L or a C is no breaker
+pub held-unparted : (plan : List (List ℕ)) (k : ℕ) (w : Wire) (i : ℤ) (r : Words) → (eqb (w .kind) 2 || eqb (w .kind) 3) ≡ true → legParts plan k w i r ≡ false
+unfolding legParts
+held-unparted plan k w i r h = rw (no-breaker (w .kind) h)
+  where
+    no-breaker : (n : ℕ) → (eqb n 2 || eqb n 3) ≡ true → eqb n 5 ≡ false
+    no-breaker n e = elim (ℕ-discrete n 5) [ yes q ↦ absurd (true≢false (sym (rw q at e))) | no q ↦ ne-eqb n 5 q ]
 
 -- ---- the latches: where no breaker parted, all are as they were
 pub record Unparted (parted : Bool) (before after : Words) : Type 0 where
@@ -79,7 +95,8 @@ nodes-else k v (n ∷ nodes) r h j l m =
 
 -- the count's and the nodes', before the legs'
 pub begun-latches : (nodes : List ℕ) (v r : Words) {after : Words} (a k : ℕ) {parted : Bool} → Nodes nodes → 1 ≤ a → a ≤ Limits.nodeEnd
-    → Unparted parted (nodesPut k v nodes (set r (counts .start + (a - 1)) (pos k))) after → Unparted parted r after
+    → Unparted parted (areaPut k v nodes a r) after → Unparted parted r after
+unfolding areaPut
 begun-latches nodes v r a k n one most u = record {
   latch = λ e j. u .latch e j ∙ nodes-else k v nodes (set r (counts .start + (a - 1)) (pos k)) n (latchAt j) (omega arith) (inr (omega arith)) ∙ getD-set-other r (counts .start + (a - 1)) (latchAt j) (pos k) z (λ d. omega arith);
 }

@@ -1,24 +1,16 @@
 // What an accepted step of one area writes into the records: its count, its nodes' voltages and peaks, the words of its rows, the latches of breakers that part. A leg's
 // line has its current and what it passes on; nothing is worked out again.
-ghost use Rattle.whole.specs.Plain.{_≤_, _<_, _≡_, _&&_, eqb, pos, natAbs, length, fold};
+ghost use Rattle.whole.specs.Plain.{_≤_, _<_, _≡_, _&&_, eqb, pos, natAbs, length};
 ghost use Rattle.whole.specs.Loans.{was, is};
 ghost use Rattle.paper.specs.Limits as Limits;
-ghost use Rattle.step_legs.specs.Wires.{Wires};
 ghost use Rattle.step_legs.specs.Shares.{Volts};
 ghost use Rattle.step_latch.specs.Parting.{legParts};
-ghost use Rattle.step_records.specs.Records.{nodePut, nodesPut, legPut, linePut, recordsPut, Unparted, Nodes};
-ghost use Rattle.step_records.specs.Records.{Recordable};
+ghost use Rattle.step_records.specs.Records.{nodePut, nodesPut, areaPut, legPut, Nodes};
 use paper::Node;
 use paper::kinds;
 use paper::sections;
 use plan_rows::Table;
-use step_legs::Line;
 use step_legs::Wire;
-
-// Of a leg's line, what the step found.
-const CURRENT: usize = 7;
-
-const PASSED: usize = 8;
 
 // A voltage's magnitude.
 fn size(x: i64) -> i64
@@ -57,9 +49,32 @@ fn put_nodes(nodes: &[usize], v: &[i64; Node::PLACES], records: &mut [i64], k: u
     }
 }
 
+// The area's count, and its nodes' voltages and peaks.
+pub fn put_area(
+    nodes: &[usize],
+    v: &[i64; Node::PLACES],
+    records: &mut [i64],
+    area: usize,
+    k: usize,
+)
+    requires { ⌜ Nodes (now nodes) × Volts (now v) × (length (now records) ≡ Limits.recordWords) ⌝ }
+    requires { ⌜ (1 ≤ area) × (area ≤ Limits.nodeEnd) × (k ≤ Limits.stepsEnd) ⌝ }
+    ensures { λ _. ⌜ is records ≡ areaPut k (was v) (was nodes) area (was records) ⌝ }
+{
+    records[sections::COUNTS + (area - 1)] = k as i64;
+    put_nodes(nodes, v, records, k);
+}
+
 // A leg's part of its row's words: at the from end the current, the history of an L or a C, and the latch of an SW that parts; a line's current at its to
-// end. Whether a breaker parted.
-fn put_leg(plan: &Table, l: Wire, current: i64, passed: i64, records: &mut [i64], k: usize) -> bool
+// end. Whether a breaker parted. An L or a C is asked for first: none of them is a breaker.
+pub fn put_leg(
+    plan: &Table,
+    l: Wire,
+    current: i64,
+    passed: i64,
+    records: &mut [i64],
+    k: usize,
+) -> bool
     requires { ⌜ (l .row < Limits.rowEnd) × (length (now records) ≡ Limits.recordWords) × (k ≤ Limits.stepsEnd) ⌝ }
     ensures { λ _. ⌜ is records ≡ legPut (was plan) k l current passed (was records) ⌝ }
     ensures { λ r. ⌜ r ≡ (eqb (l .end) 1 && legParts (was plan) k l current (was records)) ⌝ }
@@ -72,47 +87,12 @@ fn put_leg(plan: &Table, l: Wire, current: i64, passed: i64, records: &mut [i64]
         records[sections::TO_CURRENTS + row] = current;
         return false;
     }
+    if (l.kind == kinds::L) | (l.kind == kinds::C) {
+        records[sections::CURRENTS + row] = current;
+        records[sections::HISTORIES + row] = passed;
+        return false;
+    }
     let parted = step_latch::part(plan, l, current, records, k);
     records[sections::CURRENTS + row] = current;
-    if (l.kind == kinds::L) | (l.kind == kinds::C) {
-        records[sections::HISTORIES + row] = passed;
-        return parted;
-    }
     parted
-}
-
-// Every leg's part.
-fn put_legs(plan: &Table, legs: &[Line], records: &mut [i64], k: usize) -> bool
-    requires { ⌜ Wires (now legs) × (length (now records) ≡ Limits.recordWords) × (k ≤ Limits.stepsEnd) ⌝ }
-    ensures { λ _. ⌜ is records ≡ fold (linePut (was plan) k) (was records) (was legs) ⌝ }
-    ensures { λ r. ⌜ Unparted r (was records) (is records) ⌝ }
-{
-    let mut parted = false;
-    let mut j = 0;
-    while j < legs.len() {
-        let l = step_legs::leg_at(legs, j);
-        let w = legs[j];
-        parted = put_leg(plan, l, w[CURRENT], w[PASSED], records, k) | parted;
-        j += 1;
-    }
-    parted
-}
-
-// The count, the voltages and peaks, and the words of the area's rows. Whether a breaker of the area parted: where none did, every latch is as it was.
-pub fn put_records(
-    plan: &Table,
-    legs: &[Line],
-    nodes: &[usize],
-    v: &[i64; Node::PLACES],
-    records: &mut [i64],
-    area: usize,
-    k: usize,
-) -> bool
-    requires { ⌜ Recordable (now legs) (now nodes) (now v) (now records) area k ⌝ }
-    ensures { λ _. ⌜ is records ≡ recordsPut (was plan) (was legs) (was nodes) (was v) area k (was records) ⌝ }
-    ensures { λ r. ⌜ Unparted r (was records) (is records) ⌝ }
-{
-    records[sections::COUNTS + (area - 1)] = k as i64;
-    put_nodes(nodes, v, records, k);
-    put_legs(plan, legs, records, k)
 }
