@@ -42,7 +42,7 @@ extern "C" {
 
 /* ---- Lengths of lent memory; another length is refused by EMT_STORE */
 #define EMT_NETWORK_WORDS 1024 /* a network, as emt_read writes it */
-#define EMT_RECORD_WORDS 1024  /* counts, voltages, currents, histories, peaks; as long as a network, so that the two exchanged are EMT_NETWORK */
+#define EMT_RECORD_WORDS 1024  /* counts, voltages, currents, histories, peaks, latches; as long as a network, so that the two exchanged are EMT_NETWORK */
 #define EMT_STORE_WORDS 4096   /* what the from ends of all lines sent; as many for the to ends */
 #define EMT_TEXT_BYTES 65536   /* the longest study text; a longer one is EMT_SIZE */
 #define EMT_LIST_BYTES 4160    /* the shortest buffer that emt_list takes; a longer one means fewer calls */
