@@ -71,6 +71,10 @@ early = lines ("study 1000 9 0" ∷ "VS 1 1000 1 0" ∷ "SW 1 2 2000 2 5" ∷ "R
 unfoldable pub late : List ℕ
 late = lines ("study 1000 9 0" ∷ "VS 1 1000 1 0" ∷ "SW 1 2 2000 4 5" ∷ [])
 
+-- an SW in area 2, row 2, that may part from step 2 on
+unfoldable pub beyond : List ℕ
+beyond = lines ("study 1000 9 0" ∷ "VS 1 1000 1 0" ∷ "LINE 1 2 400000 2000" ∷ "SW 2 3 2000 1 2" ∷ "R 3 0 2000" ∷ [])
+
 unfoldable pub latchLendings : List Lending
 latchLendings =
     lends early (inRecords 0 (pos 6) ∷ inRecords 369 (pos 4) ∷ []) 1 (Took 7) ∷ lends early (inRecords 0 (pos 6) ∷ inRecords 369 (pos 3) ∷ []) 1 State
@@ -83,10 +87,13 @@ latchLendings =
     ∷ lends early (inRecords 0 (pos 6) ∷ inRecords 368 (pos 4) ∷ []) 1 State ∷ lends early (inRecords 0 (pos 6) ∷ inRecords 370 (pos 4) ∷ []) 1 State
     ∷ lends early (inRecords 0 (pos 6) ∷ inRecords 371 (pos 4) ∷ []) 1 State ∷ lends early (inRecords 0 (pos 6) ∷ inRecords 372 (pos 4) ∷ []) 1 State
     ∷ lends early (inRecords 0 (pos 6) ∷ inRecords 448 (pos 4) ∷ []) 1 State
+    -- the count is that of the switch's own area
+    ∷ lends beyond (inRecords 0 (pos 1) ∷ inRecords 1 (pos 2) ∷ inRecords 370 (pos 2) ∷ []) 1 (Took 2)
+    ∷ lends beyond (inRecords 0 (pos 2) ∷ inRecords 1 (pos 1) ∷ inRecords 370 (pos 2) ∷ []) 1 State
     ∷ []
 
 pub latch-lendings-hold : map lentAgain latchLendings ≡ latchLendings
-unfolding computing putOn lentAgain tabbed lines early late latchLendings
+unfolding computing putOn lentAgain tabbed lines early late beyond latchLendings
 latch-lendings-hold = refl
 
 -- ---- written out again

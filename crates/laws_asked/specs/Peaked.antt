@@ -1,5 +1,5 @@
 -- K3: peaks while running, worked. Assumes nothing.
-use Rattle.whole.specs.Plain.{ℕ, _≡_, refl, List, [], _∷_, map, ℤ, pos, negsuc, replicate, Words, z}
+use Rattle.whole.specs.Plain.{ℕ, _≡_, refl, List, [], _∷_, map, ℤ, pos, negsuc, replicate, set, Words, z}
 use Rattle.paper.specs.declared.Reading.the-variants.{Read}
 use Rattle.paper.specs.declared.Advance.the-variants.{Took, State, Wait}
 use Rattle.paper.specs.declared.Looking.{Looking}
@@ -7,7 +7,7 @@ use Rattle.paper.specs.declared.Looking.the-variants as Look
 use Rattle.paper.specs.Limits as Limits
 use Rattle.paper.specs.Reading.{readOf}
 use Rattle.paper.specs.Resetting.{fresh}
-use Rattle.paper.specs.Looking.{lookOf}
+use Rattle.paper.specs.Looking.{lookOf, lookingNumber}
 use Rattle.paper.specs.Computing.{computing}
 use Rattle.paper.specs.Examples.{Example, Call, runs, call, volts, peaks, lines, placeOf, looked, goes, played, replay, tabbed}
 use Rattle.paper.specs.Cases.{Lending, lends, inRecords, putOn, lentAgain, plain, wired}
@@ -75,6 +75,19 @@ pub asked-hold : map (askedOf plain (fresh .records)) (0 ∷ 1 ∷ 2 ∷ []) ≡
 unfolding computing askedOf tabbed lines plain
 asked-hold = refl
 
-pub asked-refused : (askedOf plain (replicate 512 z) 2 ≡ Look.Store) × ((lookOf (fresh .records) (fresh .records) 2 ≡ Look.Network) × (askedOf plain (replicate 1024 (pos 1)) 2 ≡ Look.State))
-unfolding computing askedOf tabbed lines plain
-asked-refused = (refl, (refl, refl))
+-- node 2's voltage, peak and the peak's step are three numbers apart, after two steps of its area: each is told as itself, and of node 2 alone
+unfoldable pub kept : Words
+kept = set (set (set (set (fresh .records) 1 (pos 2)) 33 (negsuc 4)) 305 (pos 7)) 337 (pos 1)
+
+pub asked-told : map (askedOf wired kept) (1 ∷ 2 ∷ 3 ∷ []) ≡ (Look.Told z 0 0 ∷ Look.Told (negsuc 4) 7 1 ∷ Look.Node ∷ [])
+unfolding computing askedOf tabbed lines wired kept
+asked-told = refl
+
+-- each for a number that no node has: 9 before 8, 8, 10, 2
+unfoldable pub refusals : List Looking
+refusals = lookOf (fresh .records) (replicate 512 z) 2 ∷ askedOf plain (replicate 512 z) 2 ∷ lookOf (fresh .records) (fresh .records) 2 ∷ askedOf plain (replicate 1024 (pos 1)) 2
+    ∷ askedOf plain (fresh .records) 2 ∷ []
+
+pub asked-refused : map lookingNumber refusals ≡ (9 ∷ 9 ∷ 8 ∷ 10 ∷ 2 ∷ [])
+unfolding computing askedOf tabbed lines plain refusals
+asked-refused = refl
