@@ -6,7 +6,7 @@ use Rattle.run_bytes.specs.declared.Moved.the-variants as M
 use Rattle.run_bytes.specs.declared.Input.{Input}
 use Rattle.run_bytes.specs.declared.Input.the-variants as I
 
--- "-1, or how many bytes": a failure is no count of bytes, nor the end, which is a count of 0
+-- what the kernel answers is -1 or how many bytes: a failure is no count of bytes, nor the end, which is a count of 0
 abbrev pub Tells : ℤ → Moved → Type 0
 Tells (pos k) r = r ≡ M.Bytes k
 Tells (negsuc k) (M.Bytes n) = ⊥

@@ -7,7 +7,7 @@ use libc::STDIN_FILENO;
 use libc::STDOUT_FILENO;
 
 // How often a call is made again that a signal interrupts; after that it counts as one that failed.
-pub const TRIES: u64 = 1_000_000;
+const TRIES: u64 = 1_000_000;
 
 // What one call came to: so many bytes moved, a signal before any was, or a failure, which errno names.
 pub enum Moved {
