@@ -13,7 +13,7 @@ trap 'rm -rf "$work"' EXIT
 if [ -z "${LIBEMT:-}" ]; then
     tools/libemt >"$work/rt" 2>&1 || { tail -n 5 "$work/rt"; exit 1; }
 fi
-compile "$work/calls" bench/calls.c bench/lent.c "${LIBEMT:-target/staticlib/libemt.a}"
+compile "$work/calls" bench/calls.c bench/lent.c "${LIBEMT:-target/staticlib/libemt.a}" -lm
 [ $# -gt 0 ] || set -- $(cd bench/studies && ls | sed 's/\.txt$//')
 
 a_call() { # instructions of one call, the difference between 100 rounds and none: whose, how many calls a round has, and `judged`

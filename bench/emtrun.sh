@@ -24,7 +24,7 @@ emtrun=${EMTRUN:-target/bin/emtrun}
 if [ -z "${EMTRUN:-}" ]; then
     tools/emtrun >"$work/rt" 2>&1 || { tail -n 5 "$work/rt"; exit 1; }
 fi
-compile "$work/ref" bench/ref.c
+compile "$work/ref" bench/ref.c -lm
 [ $# -gt 0 ] || set -- $(cd bench/studies && ls | sed 's/\.txt$//')
 
 of_length() { awk -v steps="$1" 'BEGIN { FS = OFS = "\t" } NR == 1 { $3 = steps } { print }' "$text"; }

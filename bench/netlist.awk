@@ -1,9 +1,9 @@
 # A study text as an ngspice netlist: the same elements from rest, the same step as the largest step, all that a listing has printed at each step.
-# Sources are ramps from the start of step 1; switches are not translated: a study with one is refused.
+# Sources are ramps from the start of step 1; switches and VC are not translated: a study with one is refused.
 BEGIN { FS = "\t" }
 $1 == "study" { step = $2; steps = $3; print "study"; next }
-$1 == "VS" || $1 == "IS" {
-    if ($4 != 1 || $5 < 1) { print "only ramps from step 1 are translated" > "/dev/stderr"; exit 1 }
+$1 == "VS" || $1 == "IS" || $1 == "VC" {
+    if ($1 == "VC" || $4 != 1 || $5 < 1) { print "only ramps from step 1 are translated" > "/dev/stderr"; exit 1 }
     peak = $3 * ($1 == "VS" ? 1e-1 : 1e-10)
     ramp = sprintf("PWL(0 0 %dn %.10g)", $5 * step, peak)
     if ($1 == "VS") printf "V%d %s 0 %s\n", NR, $2, ramp

@@ -10,7 +10,7 @@ static const struct {
     const char *word;
     int length, fields, names;
     int64_t low[5], high[5];
-} kinds[8] = {
+} kinds[10] = {
     {"study", 5, 3, 0, {1, 1, 0}, {1000000, 1000000, 1000000000000000}},
     {"R", 1, 3, 2, {0, 0, 1000}, {32, 32, 1000000000000}},
     {"L", 1, 3, 2, {0, 0, 1}, {32, 32, 1000000000000}},
@@ -19,6 +19,8 @@ static const struct {
     {"SW", 2, 5, 2, {0, 0, 1000, 1, 1}, {32, 32, 1000000000000, 1000001, 1000001}},
     {"VS", 2, 4, 1, {0, -20000000, 1, 0}, {32, 20000000, 1000000, 1000}},
     {"IS", 2, 4, 1, {0, -2000000000000000, 1, 0}, {32, 2000000000000000, 1000000, 1000}},
+    {"VC", 2, 4, 1, {0, -20000000, 1, 1}, {32, 20000000, 1000000, 100000}},
+    {"SWT", 3, 5, 2, {0, 0, 1000, 1, 1}, {32, 32, 1000000000000, 1000001, 1000001}},
 };
 
 // The number at p, its end after it; p where there is none.
@@ -59,17 +61,17 @@ uint64_t plain_read(const uint8_t *text, size_t length, int64_t *network, size_t
     *line = 1;
     if (p == end) return 1;
     for (; p < end; ++*line) {
-        int kind = 8;
+        int kind = 10;
         switch (*p) {
         case 'R': kind = 1; break;
         case 'L': kind = p + 1 < end && p[1] == 'I' ? 4 : 2; break;
         case 'C': kind = 3; break;
-        case 'S': kind = 5; break;
-        case 'V': kind = 6; break;
+        case 'S': kind = p + 2 < end && p[2] == 'T' ? 9 : 5; break;
+        case 'V': kind = p + 1 < end && p[1] == 'C' ? 8 : 6; break;
         case 'I': kind = 7; break;
         case 's': kind = 0; break;
         }
-        if (kind == 8 || end - p < kinds[kind].length || memcmp(p, kinds[kind].word, kinds[kind].length)) return 1;
+        if (kind == 10 || end - p < kinds[kind].length || memcmp(p, kinds[kind].word, kinds[kind].length)) return 1;
         p += kinds[kind].length;
         int64_t f[5] = {0};
         for (int i = 0; i < kinds[kind].fields; i++) {
@@ -79,16 +81,16 @@ uint64_t plain_read(const uint8_t *text, size_t length, int64_t *network, size_t
             p = after;
         }
         if (p == end || *p++ != '\n' || (kind == 0) != (*line == 1)) return 1;
-        int names = kinds[kind].names, branch = kind >= 1 && kind <= 5, source = kind >= 6;
+        int names = kinds[kind].names, branch = names == 2, source = names == 1, holds = kind == 6 || kind == 8;
         if (outside(kind, 0, names, f) || (branch && f[0] == f[1]) || (source && f[0] == 0) || (kind == 4 && (f[0] == 0 || f[1] == 0))) return 2;
-        if (outside(kind, names, kinds[kind].fields, f) || (kind == 5 && f[4] <= f[3])) return 3;
+        if (outside(kind, names, kinds[kind].fields, f) || ((kind == 5 || kind == 9) && f[4] <= f[3])) return 3;
         if (branch) {
             int64_t g = kind == 2 ? nearest(1000000000 * step, 2 * f[2]) : kind == 3 ? nearest(2000000 * f[2], step) : nearest(1000000000000, f[2]);
             if (g < 1 || g > 1000000000) return 3;
         }
-        if (kind == 4 && f[3] % step) return 4;
-        if (kind == 6 && fixed >> f[0] & 1) return 5;
-        int64_t more = kind == 4 ? 2 * (f[3] / step) : 0;
+        if (kind == 4 && f[3] < step) return 4;
+        if (holds && fixed >> f[0] & 1) return 5;
+        int64_t more = kind == 4 ? 2 * (f[3] / step) + (f[3] % step != 0) : 0;
         if ((branch && branches == 64) || (source && sources == 16) || slots + more > 4096) return 6;
         if (kind == 0) {
             step = f[0];
@@ -100,7 +102,7 @@ uint64_t plain_read(const uint8_t *text, size_t length, int64_t *network, size_t
             record[3] = branches + sources + 1;
         }
         branches += branch, sources += source, slots += more;
-        if (kind == 6) fixed |= (uint64_t)1 << f[0];
+        if (holds) fixed |= (uint64_t)1 << f[0];
     }
     memcpy(network, record, sizeof record);
     *line = 0;

@@ -1,4 +1,4 @@
-// emt_read and the plain C reader on the same texts: full, long or wide.
+// emt_read and the plain C reader on the same texts: full, long or wide; and kinds, for their answers alone.
 //   reading TEXT agree COPIES        the answers and all words compared, of the text and of so many damaged copies
 //   reading TEXT ours|plain TIMES    one of the two reads the text so often, for the count; prints its bytes
 #include <stdio.h>
@@ -15,7 +15,7 @@ static int64_t ours[EMT_NETWORK_WORDS], theirs[EMT_NETWORK_WORDS];
 
 static void put(const char *s) { length += (size_t)sprintf((char *)text + length, "%s", s); }
 
-// All kinds, 64 branches and 16 sources, most numbers long.
+// 64 branches and 16 sources, most numbers long.
 static void full(void) {
     put("study\t1000\t1000000\t1000000000000000\n");
     for (int i = 0; i < 64; i++) {
@@ -37,7 +37,16 @@ static void full(void) {
     }
 }
 
-// The same, and a last line whose number takes it to the longest text.
+// Each word that a line may have, and travel times between steps.
+static void every_kind(void) {
+    put("study\t1000\t100\t1000\n");
+    put("VC\t1\t-20000\t10\t50000\nVS\t2\t-20000\t10\t50\nIS\t1\t5\t1\t0\n");
+    put("SW\t1\t3\t1000\t5\t50\nSWT\t3\t4\t1000\t5\t50\nR\t3\t0\t2000\nL\t4\t0\t2000\nC\t4\t0\t2000\n");
+    put("LINE\t2\t5\t400000\t2500\nLINE\t5\t6\t400000\t1000\nLINE\t5\t6\t400000\t2040001\n");
+    put("VC\t6\t1\t1\t100000\nVC\t7\t0\t1000000\t1\n");
+}
+
+// The same as the full one, and a last line whose number takes it to the longest text.
 static void wide(void) {
     full();
     put("R\t1\t2\t");
@@ -73,9 +82,12 @@ int main(int count, char **words) {
     if (count < 4) return 2;
     const char *name = words[1];
     int times = atoi(words[3]);
-    strcmp(name, "full") ? strcmp(name, "wide") ? longest() : wide() : full();
+    if (!strcmp(name, "full")) full();
+    else if (!strcmp(name, "wide")) wide();
+    else if (!strcmp(name, "kinds")) every_kind();
+    else longest();
     if (!strcmp(words[2], "agree")) {
-        static const char bytes[] = "0123456789\t\n-RLCSVIWENstudy 9990001";
+        static const char bytes[] = "0123456789\t\n-RLCSVIWENTstudy 9990001";
         static uint8_t copy[sizeof text];
         compare(text, length, EMT_NETWORK_WORDS);
         compare(text, length, 1023);

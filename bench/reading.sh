@@ -21,7 +21,7 @@ a_read() { # instructions of one read: a text, and whose
     echo $(((all - none) / 10))
 }
 
-for text in full wide long; do run "$work/reading" $text agree "${1:-20000}"; done
+for text in full wide long kinds; do run "$work/reading" $text agree "${1:-20000}"; done
 printf '%-8s %8s %12s %12s %8s\n' text bytes "per byte" "C per byte" ratio
 for text in full wide long; do
     echo "$text $(run "$work/reading" $text ours 0) $(a_read $text ours) $(a_read $text plain)" | awk '{ printf "%-8s %8d %12.2f %12.2f %8.2f\n", $1, $2, $3 / $2, $4 / $2, $3 / $4 }'

@@ -1,6 +1,6 @@
 // A whole run in plain C (bench/rules.h): study text on standard input, listing on standard output. bench/emtrun.sh measures emtrun beside it.
 // Each step of each area is made anew from the network and the last state; with -k factors and the search for floating nodes are kept until a switch changes,
-// which gives the same bits. Build with -O3 -ffp-contract=off.
+// which gives the same bits. Nothing that no listing shows is kept: no peaks. Build with -O3 -ffp-contract=off and -lm.
 #include <unistd.h>
 
 #include "rules.h"
@@ -79,7 +79,7 @@ static void put_last(const char *word, int count, const whole *numbers) {
     flush();
 }
 
-static void list(whole k) {
+ALWAYS void list(whole k) {
     char head[16] = {0};
     size_t head_length = (size_t)(put_number(head, k) - head);
     head[head_length++] = '\t';
@@ -153,7 +153,7 @@ static int read_line(const char *p, const char *end) {
     whole n[FIELDS];
     while (kind < KINDS && !starts(p, end, shapes[kind].word)) kind++;
     if (kind == KINDS) return FORM;
-    int count = shapes[kind].nodes + shapes[kind].others, signed_field = shapes[kind].nodes == 1 ? 1 : -1;
+    int count = shapes[kind].nodes + shapes[kind].others, signed_field = is_source(kind) ? 1 : -1;
     if (!spelt_fields(p + strlen(shapes[kind].word), end, count, signed_field, n)) return FORM;
     return take(kind, n, branch_count);
 }
@@ -177,17 +177,10 @@ static int read_text(const char *text, size_t length, whole *at) {
 // ---- the run
 
 // Areas advance in rising order, so no far area is ever more than one step behind: nothing waits (refusal 13).
-static void run(const char *text, size_t length) {
-    whole line;
-    int refusal = read_text(text, length, &line);
-    if (refusal) {
-        put_last("bad", 2, (whole[]){line, refusal});
-        return;
-    }
-    find_areas();
+ALWAYS void run_by(bool is_plain) {
     for (whole k = 1; k <= steps; k++) {
         for (int i = 0; i < area_count; i++) {
-            struct answer got = advance(&areas[i], k);
+            struct answer got = advance_by(is_plain, &areas[i], k);
             if (!got.number) continue;
             put_last("stop", 4, (whole[]){k, i + 1, got.number, got.place + (got.number == HISTORY)});
             return;
@@ -197,10 +190,26 @@ static void run(const char *text, size_t length) {
     put_last("done", 1, &steps);
 }
 
+// Not put into one another: each has the registers to itself.
+__attribute__((noinline)) static void run_plain(void) { run_by(true); }
+__attribute__((noinline)) static void run_any(void) { run_by(false); }
+
+static void run(const char *text, size_t length) {
+    whole line;
+    int refusal = read_text(text, length, &line);
+    if (refusal) {
+        put_last("bad", 2, (whole[]){line, refusal});
+        return;
+    }
+    find_areas();
+    if (plain) run_plain();
+    else run_any();
+}
+
 int main(int count, char **words) {
     static char text[TEXT + 1];
-    static whole volts[NODES + 1], currents[2][BRANCHES], histories[BRANCHES], stores[2][SLOTS];
-    volt = volts, history = histories;
+    static whole volts[NODES + 1], currents[2][BRANCHES], histories[BRANCHES], latches[BRANCHES], stores[2][SLOTS];
+    volt = volts, history = histories, latch = latches;
     for (int side = 0; side < 2; side++) current[side] = currents[side], store[side] = stores[side];
     keep = count > 1 && !strcmp(words[1], "-k");
     for (int i = 0; i < 100; i++) pairs[2 * i] = (char)('0' + i / 10), pairs[2 * i + 1] = (char)('0' + i % 10);

@@ -1,30 +1,40 @@
-// Document 01 in plain C, as one would write it who wants the answers fast and proves nothing: what a line may hold, areas, one step of one area.
+// Documents 01 and 02 in plain C, as one would write it who wants the answers fast and proves nothing: what a line may hold, areas, one step of one area.
 // For bench/ref.c (a whole run) and bench/lent.c (one call over lent memory). Sums of conductances stay below 2^53, so they are added as doubles.
+// A study without lines between steps, VC and SW is advanced by a step that has none of the three: what is not asked for costs nothing.
+#include <math.h>
 #include <stdbool.h>
 #include <stdint.h>
 #include <string.h>
 
+// Compiled into its caller, as what is called once would be: a step is compiled twice.
+#define ALWAYS __attribute__((always_inline)) static inline
+
 typedef int64_t whole;
 enum { NODES = 32, BRANCHES = 64, SOURCES = 16, ROWS = BRANCHES + SOURCES, SLOTS = 4096, FIELDS = 5 };
 enum { FORM = 1, NODE, VALUE, TRAVEL, DOUBLE, FULL, SIZE, FLOATING = 14, RANGE, UNBALANCED, HISTORY };
-enum kind { R, L, C, LINE, SW, VS, IS, KINDS };
+enum kind { R, L, C, LINE, SW, VS, IS, VC, SWT, KINDS }; // in the order of a network's numbers
 #define HIGHEST INT64_C(20000000)           // the largest voltage
 #define FAR INT64_C(100000000000000000)     // the largest history
 #define MOST_STEPS INT64_C(1000000)         // also the longest step
 #define WIDEST INT64_C(1000000000000000)    // the largest balance limit
 #define STRONGEST INT64_C(2000000000000000) // the largest peak of an IS
 #define OHMS INT64_C(1000000000000)         // the largest resistance and inductance
+#define TURN INT64_C(1000000000000)         // a whole turn of a VC, in ns times mHz
+enum { QUARTER = 256, PARTS = 4 * QUARTER }; // parts of a turn
 
 struct branch {
     enum kind kind;
     int from, to;
     whole g, close, open;
-    uint32_t d, slot; // LINE: steps of travel, where its slots start in both stores
+    uint32_t d, slot; // LINE: whole steps of travel, where its slots start in both stores
+    uint32_t slots;   // and how many they are
+    whole rest;       // what is left of its travel time, below a step
 };
 struct source {
     enum kind kind;
     int node;
     whole peak, start, rise;
+    whole pace; // VC: how far a step takes it
 };
 struct end {
     int branch, side, node; // side: 0 the from end, 1 the to end
@@ -49,9 +59,11 @@ static bool fixed[NODES + 1];
 static int row_of[NODES + 1], area_of[NODES + 1]; // a free node's row in its area's matrix, else -1; a node's area from 0 on
 static struct area areas[NODES];
 static bool keep; // factors and the search for floating nodes are kept until a switch changes
+static bool plain = true; // no line between steps, no VC and no SW so far
 
-// The state, by node and by a branch's place: currents of the from side, and of a line's to side; what the from ends and the to ends sent.
-static whole *volt, *current[2], *history, *store[2];
+// The state, by node and by a branch's place: currents of the from side, and of a line's to side; the step after which an SW parted; what the from ends and
+// the to ends sent.
+static whole *volt, *current[2], *history, *latch, *store[2];
 
 // ---- lines
 
@@ -64,10 +76,16 @@ static const struct {
     [L] = {"L", 2, 1, {1}, {OHMS}},
     [C] = {"C", 2, 1, {1}, {1000000000}},
     [LINE] = {"LINE", 2, 2, {1000, 1}, {OHMS, 1000000000}},
-    [SW] = {"SWT", 2, 3, {1000, 1, 2}, {OHMS, MOST_STEPS, MOST_STEPS + 1}},
+    [SW] = {"SW", 2, 3, {1000, 1, 2}, {OHMS, MOST_STEPS, MOST_STEPS + 1}},
     [VS] = {"VS", 1, 3, {-HIGHEST, 1, 0}, {HIGHEST, MOST_STEPS, 1000}},
     [IS] = {"IS", 1, 3, {-STRONGEST, 1, 0}, {STRONGEST, MOST_STEPS, 1000}},
+    [VC] = {"VC", 1, 3, {-HIGHEST, 1, 1}, {HIGHEST, MOST_STEPS, 100000}},
+    [SWT] = {"SWT", 2, 3, {1000, 1, 2}, {OHMS, MOST_STEPS, MOST_STEPS + 1}},
 };
+
+static bool is_source(enum kind kind) { return shapes[kind].nodes == 1; }
+static bool is_switch(enum kind kind) { return kind == SW || kind == SWT; }
+static bool fixes(enum kind kind) { return kind == VS || kind == VC; }
 
 static bool in(whole x, whole least, whole most) { return least <= x && x <= most; }
 
@@ -80,36 +98,47 @@ static whole conductance(enum kind kind, whole x) {
     return kind == C ? nearest(2000000 * x, step_length) : nearest(OHMS, x);
 }
 
+// The cosine of a quarter of a turn, in parts of 2^30: filled where the first VC is read.
+static whole cosines[QUARTER + 1];
+
+static void fill_cosines(void) {
+    if (cosines[0]) return;
+    for (int i = 0; i <= QUARTER; i++) cosines[i] = lround(cos(i * (2 * 3.14159265358979323846 / PARTS)) * 0x1p30);
+}
+
 // Takes a line by its fields, a branch to this place; or the number of what is wrong with it.
 static int take(enum kind kind, const whole *n, int place) {
     int nodes = shapes[kind].nodes;
-    bool source = nodes == 1;
+    bool source = is_source(kind);
     for (int i = 0; i < nodes; i++)
         if (n[i] > NODES || ((source || kind == LINE) && n[i] == 0)) return NODE;
     if (!source && n[0] == n[1]) return NODE;
     for (int i = 0; i < shapes[kind].others; i++)
         if (!in(n[nodes + i], shapes[kind].least[i], shapes[kind].most[i])) return VALUE;
     if (source) {
-        if (kind == VS && fixed[n[0]]) return DOUBLE;
+        if (fixes(kind) && fixed[n[0]]) return DOUBLE;
         if (source_count == SOURCES) return FULL;
-        sources[source_count++] = (struct source){kind, (int)n[0], n[1], n[2], n[3]};
-        fixed[n[0]] |= kind == VS;
+        sources[source_count++] = (struct source){kind, (int)n[0], n[1], n[2], n[3], step_length * n[3]};
+        fixed[n[0]] |= fixes(kind);
+        if (kind == VC) plain = false, fill_cosines();
     } else {
         struct branch b = {.kind = kind, .from = (int)n[0], .to = (int)n[1], .g = conductance(kind, n[2])};
         whole slots = 0;
-        if (kind == SW) {
+        if (is_switch(kind)) {
             if (n[3] >= n[4]) return VALUE;
             b.close = n[3], b.open = n[4];
         }
         if (!in(b.g, 1, 1000000000)) return VALUE;
         if (kind == LINE) {
-            if (n[3] % step_length) return TRAVEL;
-            slots = 2 * (n[3] / step_length);
-            b.d = (uint32_t)(slots / 2), b.slot = slot_count;
+            if (n[3] < step_length) return TRAVEL;
+            b.d = (uint32_t)(n[3] / step_length), b.rest = n[3] % step_length, b.slot = slot_count;
+            slots = 2 * (n[3] / step_length) + (b.rest != 0);
+            b.slots = (uint32_t)slots;
         }
         if (branch_count == BRANCHES || slot_count + slots > SLOTS) return FULL;
         slot_count += (uint32_t)slots;
         branch_count++;
+        plain &= kind != SW && !b.rest;
         branches[place] = b;
         places = place + 1;
     }
@@ -160,7 +189,7 @@ __attribute__((noinline)) static void find_areas(void) {
             }
         } else if (node) {
             a->lumped[a->lumped_count++] = b;
-            if (branches[b].kind == SW) a->switches[a->switch_count++] = b;
+            if (is_switch(branches[b].kind)) a->switches[a->switch_count++] = b;
         }
     }
     for (int s = 0; s < source_count; s++) {
@@ -176,16 +205,52 @@ static whole source_value(const struct source *s, whole k) {
     return n < 0 ? 0 : n < s->rise ? s->peak * n / s->rise : s->peak;
 }
 
-static bool conducts(const struct branch *b, whole k) { return b->kind != SW || (b->close <= k && k < b->open); }
+static whole swung(const struct source *s, whole k) {
+    whole n = k - s->start;
+    if (n < 0) return 0;
+    int i = (int)(PARTS * (n * s->pace % TURN) / TURN), half = i <= 2 * QUARTER ? i : PARTS - i;
+    whole cosine = half <= QUARTER ? cosines[half] : -cosines[2 * QUARTER - half];
+    return s->peak * cosine / (1 << 30);
+}
 
-static bool switch_changes(const struct area *a, whole k) {
+static bool timed(const struct branch *b, whole k) { return b->kind != SWT || (b->close <= k && k < b->open); }
+
+// An SW stays closed until it has parted.
+static bool conducts(int place, whole k) {
+    const struct branch *b = &branches[place];
+    return b->kind == SW ? b->close <= k && (!latch[place] || k <= latch[place]) : timed(b, k);
+}
+
+ALWAYS bool timed_changes(const struct area *a, whole k) {
     for (int i = 0; i < a->switch_count; i++)
         if (branches[a->switches[i]].close == k || branches[a->switches[i]].open == k) return true;
     return false;
 }
 
+ALWAYS bool switch_changes(const struct area *a, whole k) {
+    for (int i = 0; i < a->switch_count; i++) {
+        const struct branch *b = &branches[a->switches[i]];
+        if (b->close == k || (b->kind == SW ? k > 1 && latch[a->switches[i]] == k - 1 : b->open == k)) return true;
+    }
+    return false;
+}
+
+// An SW parts after a step at which its current is zero or of opposite sign to that of the step before; zero has no opposite sign.
+static bool parts(const struct branch *b, whole k, whole now, whole before) {
+    return b->kind == SW && k >= b->open - 1 && k > b->close && (now == 0 || (now < 0 && before > 0) || (now > 0 && before < 0));
+}
+
+// What an end receives: of a line between steps a part of the way from the newer sent value to the older, rounded down; values before step 1 are 0.
+static whole received(const struct branch *b, const whole *sent, whole k) {
+    if (k <= b->d) return 0;
+    whole newer = sent[b->slot + ((uint32_t)k - b->d) % b->slots];
+    if (!b->rest) return newer;
+    whole gap = (k - 1 > b->d ? sent[b->slot + ((uint32_t)k - 1 - b->d) % b->slots] : 0) - newer, part = gap % step_length * b->rest;
+    return newer + gap / step_length * b->rest + part / step_length - (part % step_length < 0);
+}
+
 // The lowest free node without a path of conducting branches to ground, a fixed node or a line end; or 0.
-static int floating(const struct area *a, const int *conducting, int count) {
+ALWAYS int floating(const struct area *a, const int *conducting, int count) {
     uint64_t reached = a->held, before;
     do {
         before = reached;
@@ -198,7 +263,7 @@ static int floating(const struct area *a, const int *conducting, int count) {
     return lost ? __builtin_ctzll(lost) : 0;
 }
 
-static void assemble(const struct area *a, const int *conducting, int count, double m[][NODES]) {
+ALWAYS void assemble(const struct area *a, const int *conducting, int count, double m[][NODES]) {
     for (int p = 0; p < a->free_count; p++) memset(m[p], 0, (size_t)a->free_count * sizeof(double));
     for (int i = 0; i < count; i++) {
         const struct branch *b = &branches[conducting[i]];
@@ -218,7 +283,7 @@ static void assemble(const struct area *a, const int *conducting, int count, dou
 }
 
 // The elimination; each row's factors are left below its pivot.
-static void eliminate(double m[][NODES], double *right, int n) {
+ALWAYS void eliminate(double m[][NODES], double *right, int n) {
     for (int p = 0; p < n; p++)
         for (int q = p + 1; q < n; q++) {
             double f = m[q][p] / m[p][p];
@@ -231,12 +296,12 @@ static void eliminate(double m[][NODES], double *right, int n) {
 }
 
 // What the elimination does to the right sides, by kept factors: the same operations in the same order, so the same bits.
-static void eliminate_kept(const double m[][NODES], double *right, int n) {
+ALWAYS void eliminate_kept(const double m[][NODES], double *right, int n) {
     for (int p = 0; p < n; p++)
         for (int q = p + 1; q < n; q++) right[q] = right[q] - m[q][p] * right[p];
 }
 
-static void substitute(const double m[][NODES], const double *right, double *x, int n) {
+ALWAYS void substitute(const double m[][NODES], const double *right, double *x, int n) {
     for (int p = n - 1; p >= 0; p--) {
         double t = right[p];
         for (int c = p + 1; c < n; c++) t = t - m[p][c] * x[c];
@@ -252,13 +317,14 @@ static whole nearest_away(double x) {
 
 static bool beyond(whole x, whole end) { return x > end || x < -end; }
 
-// A step of one area, which writes the state where it is accepted; the place of HISTORY is the branch's.
-static struct answer advance(struct area *a, whole k) {
+// A step of one area, which writes the state where it is accepted; the place of HISTORY is the branch's. It is compiled twice: for plain networks, which have no
+// line between steps, no VC and no SW, and for any.
+ALWAYS struct answer advance_by(bool is_plain, struct area *a, whole k) {
     int n = a->free_count, conducting[BRANCHES], count = 0;
     for (int i = 0; i < a->lumped_count; i++)
-        if (conducts(&branches[a->lumped[i]], k)) conducting[count++] = a->lumped[i];
+        if (is_plain ? timed(&branches[a->lumped[i]], k) : conducts(a->lumped[i], k)) conducting[count++] = a->lumped[i];
 
-    bool fresh = !keep || k == 1 || switch_changes(a, k);
+    bool fresh = !keep || k == 1 || (is_plain ? timed_changes(a, k) : switch_changes(a, k));
     if (fresh) {
         int lost = floating(a, conducting, count);
         if (lost) return (struct answer){FLOATING, lost};
@@ -270,8 +336,8 @@ static struct answer advance(struct area *a, whole k) {
     for (int i = 0; i < n; i++) injection[a->free[i]] = 0;
     for (int i = 0; i < a->source_count; i++) {
         const struct source *s = &sources[a->sources[i]];
-        whole value = source_value(s, k);
-        if (s->kind == VS) v[s->node] = value, sum[s->node] = 0;
+        whole value = is_plain || s->kind != VC ? source_value(s, k) : swung(s, k);
+        if (s->kind == VS || (!is_plain && s->kind == VC)) v[s->node] = value, sum[s->node] = 0;
         else if (!fixed[s->node]) injection[s->node] += value;
     }
     for (int i = 0; i < n; i++) right[i] = injection[a->free[i]];
@@ -286,7 +352,8 @@ static struct answer advance(struct area *a, whole k) {
     for (int i = 0; i < a->end_count; i++) {
         struct end e = a->ends[i];
         const struct branch *b = &branches[e.branch];
-        arriving[i] = k > b->d ? store[1 - e.side][b->slot + ((uint32_t)k - b->d) % (2 * b->d)] : 0;
+        if (is_plain) arriving[i] = k > b->d ? store[1 - e.side][b->slot + ((uint32_t)k - b->d) % (2 * b->d)] : 0;
+        else arriving[i] = received(b, store[1 - e.side], k);
         if (row_of[e.node] >= 0) right[row_of[e.node]] -= arriving[i];
     }
 
@@ -340,6 +407,9 @@ static struct answer advance(struct area *a, whole k) {
 
     // accepted: write
     for (uint64_t left = a->nodes; left; left &= left - 1) volt[__builtin_ctzll(left)] = v[__builtin_ctzll(left)];
+    whole before[BRANCHES];
+    if (!is_plain)
+        for (int i = 0; i < a->switch_count; i++) before[i] = current[0][a->switches[i]];
     for (int i = 0; i < a->switch_count; i++) current[0][a->switches[i]] = 0;
     for (int i = 0; i < count; i++) {
         current[0][conducting[i]] = through[i] + history[conducting[i]];
@@ -349,7 +419,12 @@ static struct answer advance(struct area *a, whole k) {
         struct end e = a->ends[i];
         const struct branch *br = &branches[e.branch];
         current[e.side][e.branch] = end_through[i] + arriving[i];
-        store[e.side][br->slot + (uint32_t)k % (2 * br->d)] = sent[i];
+        store[e.side][br->slot + (uint32_t)k % (is_plain ? 2 * br->d : br->slots)] = sent[i];
     }
+    if (!is_plain)
+        for (int i = 0; i < a->switch_count; i++) {
+            int p = a->switches[i];
+            if (!latch[p] && parts(&branches[p], k, current[0][p], before[i])) latch[p] = k;
+        }
     return (struct answer){0, 0};
 }
