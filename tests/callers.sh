@@ -1,6 +1,6 @@
 #!/usr/bin/env bash
 # The library as its customers link it: the three callers of examples/, E1 to E10 through the compiled calls, a listing that stops, what include/emt.h says that a call takes for granted,
-# how networks are laid out, a study that is changed and written out again, and tables of peaks.
+# how networks are laid out, a study that is changed and written out again, and tables of peaks, README.md's three lines of C among them.
 # LIBEMT=PATH takes this archive and makes none.
 # Closing line: N passed, M failed.
 set -u
@@ -131,10 +131,27 @@ peaks "a falling ramp" 0 1 20.0 4
 # Node 2 hangs in the air at step 3: the peaks are those of the two steps before.
 printf 'study\t1000\t9\t0\nVS\t1\t8\t1\t0\nSW\t1\t2\t1000\t1\t3\n' >"$work/study.txt"
 peaks "a run that stops" 1 1 0.8 1 2 0.8 1
-# The table of README.md.
-cp studies/lightning.txt "$work/study.txt"
-peaks "lightning" 0 1 1123848.5 106 2 1123848.5 136 3 1159848.5 76
 expect peaks "no study" 1 /dev/null <examples/peaks.c
+
+# The three lines of C on README.md behind a run (tests/callers/table.c), and the table under them, which is that of examples/peaks.c
+blocks() { awk -v has="$1" '!/^    / { if (index(block, has)) printf "%s", block; block = ""; next } { block = block substr($0, 5) "\n" }' README.md; }
+blocks 'emt_node(' >"$work/table.inc"
+blocks "$(printf 'node\tpeak, V\tstep')" >"$work/whole"
+tail -n +2 "$work/whole" >"$work/lines"
+if [ "$(wc -l <"$work/table.inc")" -eq 3 ] && [ "$(wc -l <"$work/lines")" -eq 3 ]; then
+    passed=$((passed + 1))
+else
+    echo "README.md: the table of peaks is not three lines of C and a table of three nodes"
+    failed=$((failed + 1))
+fi
+flags+=("-DTABLE=\"$work/table.inc\"")
+compile "$work/table" tests/callers/table.c "$archive" || stop "the three lines of C on README.md do not compile"
+expect table "README.md's study" 0 "$work/lines" <studies/lightning.txt
+expect peaks "README.md's study" 0 "$work/whole" <studies/lightning.txt
+# A node at rest has its peak of 0 at step 1; a run that stops has the peaks of its steps.
+printf 'study\t1000\t9\t0\nVS\t1\t8\t1\t0\nSW\t1\t2\t1000\t1\t3\nVS\t3\t0\t1\t0\n' >"$work/study.txt"
+printf '1\t0.8\t1\n2\t0.8\t1\n3\t0.0\t1\n' >"$work/lines"
+expect table "a run that stops" 0 "$work/lines" <"$work/study.txt"
 
 echo "$passed passed, $failed failed"
 [ "$failed" -eq 0 ]
