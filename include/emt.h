@@ -61,7 +61,7 @@ extern "C" {
 #define EMT_STEP_LENGTH_MOST INT64_C(1000000)             /* ns; the least is 1 */
 #define EMT_STEPS_MOST INT64_C(1000000)                   /* the least is 1 */
 #define EMT_LIMIT_MOST INT64_C(1000000000000000)          /* balance limit; the least is 0 */
-#define EMT_MILLIOHM_LEAST INT64_C(1000)                  /* R, SW, LINE */
+#define EMT_MILLIOHM_LEAST INT64_C(1000)                  /* R, SW, SWT, LINE */
 #define EMT_MILLIOHM_MOST INT64_C(1000000000000)
 #define EMT_NANOHENRY_MOST INT64_C(1000000000000)         /* the least is 1 */
 #define EMT_PICOFARAD_MOST INT64_C(1000000000)            /* the least is 1 */
@@ -87,7 +87,7 @@ enum { EMT_R = 1, EMT_L = 2, EMT_C = 3, EMT_LINE = 4, EMT_SW = 5, EMT_VS = 6, EM
 #define EMT_HISTORY_OF(row) (224 + (row))    /* of L and C */
 #define EMT_PEAK(node) (304 + (node) - 1)    /* the voltage's largest magnitude over all steps of the node's area */
 #define EMT_PEAK_STEP(node) (336 + (node) - 1) /* the first step where it came; 0 before any step */
-#define EMT_LATCH(r) (368 + (r))             /* of an SW the step after which it parted, 0 while it has not; 0 of any other row */
+#define EMT_LATCH(row) (368 + (row))         /* of an SW the step after which it parted, 0 while it has not; 0 of any other row */
 
 /* ---- Answers. Reading: 9, 7, then 1 to 6; resetting: 9, 8; advancing: 9, 8, then 10 to 17; listing: 9, 8, 10; writing: 9, 8; asking
  * for a node: 9, 8, 10, 2; asking how a network is laid out: 9, 8, 2. */

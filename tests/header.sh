@@ -43,7 +43,7 @@ while read -r name class; do
 done < <(sed -nE 's/^ *∷ kindOf "([A-Z]+)" (a[A-Za-z]+) .*/\1 \2/p' $specs/Rows.antt)
 
 # a word's place, asked for area, node and row 7
-set -- COUNT countAt VOLTAGE voltAt CURRENT currentAt TO_CURRENT toCurrentAt HISTORY_OF historyAt PEAK peakAt PEAK_STEP peakStepAt
+set -- COUNT countAt VOLTAGE voltAt CURRENT currentAt TO_CURRENT toCurrentAt HISTORY_OF historyAt PEAK peakAt PEAK_STEP peakStepAt LATCH latchAt
 while [ $# -gt 1 ]; do
     place=$(sed -nE "s/^$2 (N )?[anr] = //p" $specs/Where.antt)
     expect "EMT_$1(7)" "$((${place//[anr]/7}))"
