@@ -36,9 +36,9 @@ extern "C" {
  * first is 0 while lent words may still move; the second goes up where a length, a word's place, a call or an answer changes, the third for all else.
  * (A length that has changed is refused by EMT_STORE.) */
 #define EMT_VERSION_MAJOR 0
-#define EMT_VERSION_MINOR 5
+#define EMT_VERSION_MINOR 6
 #define EMT_VERSION_PATCH 0
-#define EMT_VERSION "0.5.0"
+#define EMT_VERSION "0.6.0"
 
 /* ---- Lengths of lent memory; another length is refused by EMT_STORE */
 #define EMT_NETWORK_WORDS 1024 /* a network, as emt_read writes it */
