@@ -12,6 +12,8 @@ int main(void) {
     while (emt_list(network, EMT_NETWORK_WORDS, records, EMT_RECORD_WORDS, froms, EMT_STORE_WORDS, tos, EMT_STORE_WORDS, listing, sizeof listing, &written, &area,
                     &number, &place) == EMT_MORE)
         continue;
+    {
 #include TABLE
+    }
     return 0;
 }
