@@ -34,6 +34,10 @@ kept true k x p s q e = absurd (true≢false e)
 kept false k x (pos p) s q e = (eqb-false k 1 q, ltb-false p (natAbs x) e)
 kept false k x (negsuc p) s q e = absurd (true≢false (sym s))
 
+not-below : (x : ℤ) → nonNeg x ≡ true → x ≡ pos (nat x)
+not-below (pos x) s = refl
+not-below (negsuc x) s = absurd (true≢false (sym s))
+
 module _ (net : Words) (lent : Memory) (ok : Lent net lent) (n : ℕ) (low : 1 ≤ n) (high : n ≤ netIn net .nodes) where
   open FromReset (fromReset net lent) using (N, start, at)
 
@@ -72,6 +76,8 @@ module _ (net : Words) (lent : Memory) (ok : Lent net lent) (n : ℕ) (low : 1 �
     pub reached : size (step .before) ≡ y
 
   pub record Peak (w : List ℕ) : Type 0 where
+    -- the two words are these numbers
+    pub words : (peakIn N (at w) n ≡ pos (peak w)) × (peakStepIn N (at w) n ≡ pos (peakStep w))
     -- an accepted step is one of those counted, and its magnitude is at most the peak
     pub inside : (x : ℕ) → StepIn net start w a x → (1 ≤ x) × (x ≤ count w)
     pub most : (x : ℕ) (t : StepIn net start w a x) → size (t .before) ≤ peak w
@@ -84,6 +90,11 @@ module _ (net : Words) (lent : Memory) (ok : Lent net lent) (n : ℕ) (low : 1 �
   at-more : {w : List ℕ} {x y : ℕ} (c : ℕ) → At w x y → At (w ++ (c ∷ [])) x y
   unfolding step-more
   at-more c t = record { step = step-more c (t .step); reached = t .reached }
+
+  in-words : (w : List ℕ) → (peakIn N (at w) n ≡ pos (peak w)) × (peakStepIn N (at w) n ≡ pos (peakStep w))
+  in-words w =
+      let f = formed N (at w) (run-inv net lent ok w .good) .peaks n low high in
+      (not-below (peakIn N (at w) n) (f .peak-sign), not-below (peakStepIn N (at w) n) (f .step-sign))
 
   -- ---- at the reset
 
@@ -98,6 +109,7 @@ module _ (net : Words) (lent : Memory) (ok : Lent net lent) (n : ℕ) (low : 1 �
   at-reset =
       let c : count [] ≡ 0 = ap nat (reset-word (countAt a)) in
       record {
+        words = in-words [];
         inside = λ x t. absurd (no-step x t);
         most = λ x t. absurd (no-step x t);
         there = λ h. absurd (omega arith);
@@ -112,6 +124,7 @@ module _ (net : Words) (lent : Memory) (ok : Lent net lent) (n : ℕ) (low : 1 �
       let e : peak (w ++ (c ∷ [])) ≡ peak w = ap nat (i .words (recordWord (peakAt N n)) (peak-own N a snd n node)) in
       let f : peakStep (w ++ (c ∷ [])) ≡ peakStep w = ap nat (i .words (recordWord (peakStepAt N n)) (peak-step-own N a snd n node)) in
       record {
+        words = in-words (w ++ (c ∷ []));
         inside = λ x t. rw (i .count) (p .inside x (i .steps x t .0));
         most = λ x t. let o = i .steps x t in rw (e, ← o .1) (p .most x (o .0));
         there = λ h. rw (e, f) (at-more c (p .there (rw (i .count) at h)));
@@ -165,6 +178,7 @@ module _ (net : Words) (lent : Memory) (ok : Lent net lent) (n : ℕ) (low : 1 �
 
     at-rise : (k ≡ 1) ⊎ (peak w < natAbs v) → peak new ≡ natAbs v → peakStep new ≡ k → Peak new
     at-rise r e f = record {
+      words = in-words new;
       inside = inside-new;
       most = by-step (λ x y. y ≤ peak new) (λ x t. omega (arith, risen r x t, e)) (omega (arith, e));
       there = λ h. rw (e, f) this;
@@ -178,6 +192,7 @@ module _ (net : Words) (lent : Memory) (ok : Lent net lent) (n : ℕ) (low : 1 �
         let some : 1 ≤ count w = omega (arith, next, r .0) in
         let before = p .there some in
         record {
+          words = in-words new;
           inside = inside-new;
           most = by-step (λ x y. y ≤ peak new) (λ x t. rw e (p .most x t)) (rw e (r .1));
           there = λ h. rw (e, f) (at-more a before);
