@@ -1,8 +1,8 @@
 -- T-parts: over every run from a reset, an SW's latch is the first accepted step x of its area, "at or after open - 1 and later than its closing step, at which
--- its current is zero or of opposite sign to that of step" x - 1; it is 0 while there is none. Assumes nothing.
+-- its current is zero or of opposite sign to that of step" x - 1; it is 0 while there is none; and "it is open from step" x "+ 1 and stays so". Assumes nothing.
 use Rattle.whole.specs.Plain.{ℕ, suc, _-_, _≤_, _<_, max, _≡_, refl, sym, ap, _∙_, subst, _⊎_, inl, inr, Bool, true, false, cond, not, _&&_}
 use Rattle.whole.specs.Plain.{true≢false, List, [], _∷_, _++_, leb, ltb, ℤ, pos, ltZ, length, length-append, leb-true, ltb-true}
-use Rattle.whole.specs.Plain.{ltb-false, le-leb, lt-ltb, not-true, not-false, decLe, arith, Words, z, word, nat}
+use Rattle.whole.specs.Plain.{ltb-false, le-leb, lt-ltb, lt-leb, not-true, not-false, decLe, arith, Words, z, word, nat}
 use Rattle.whole.specs.Folds.{and-left, and-right, both}
 use Rattle.paper.specs.declared.Advance.the-variants.{Took}
 use Rattle.paper.specs.Limits as Limits
@@ -10,7 +10,8 @@ use Rattle.paper.specs.Rows.{Row, isBreaker, from, to, closes, opens}
 use Rattle.paper.specs.Classes.{breaker-branch, breaker-line}
 use Rattle.paper.specs.Areas.{rowArea, step}
 use Rattle.paper.specs.Records.{countAt, currentAt, latchAt, countOf}
-use Rattle.paper.specs.Latch.{crosses, mayPart, parts, newLatch}
+use Rattle.paper.specs.Latch.{crosses, mayPart, parts, newLatch, holds}
+use Rattle.paper.specs.Legs.{isOpen}
 use Rattle.paper.specs.Advance.{Memory, advanceOf}
 use Rattle.paper.specs.Resetting.{fresh}
 use Rattle.laws_facts.specs.Sound.{BranchSound}
@@ -71,6 +72,10 @@ module _ (net : Words) (lent : Memory) (ok : Lent net lent) (i : ℕ) (there : i
     pub this : At w x now
     pub crossing : crosses before now ≡ true
 
+  -- "it is open from step k + 1 and stays so": no later step has a current
+  abbrev pub StaysOpen : List ℕ → Type 0
+  StaysOpen w = 1 ≤ set w → (x : ℕ) (c : ℤ) → At w x c → set w < x → c ≡ z
+
   pub record Breaker (w : List ℕ) : Type 0 where
     -- an accepted step is one of those counted, and the current in the records is that of the last
     pub inside : (x : ℕ) → StepIn net start w a x → (1 ≤ x) × (x ≤ count w)
@@ -81,6 +86,7 @@ module _ (net : Words) (lent : Memory) (ok : Lent net lent) (i : ℕ) (there : i
     pub parted : 1 ≤ set w → Parts w (set w)
     -- and it is set by the first such step: 0 means that there was none
     pub first : (x : ℕ) → Parts w x → (1 ≤ set w) × (set w ≤ x)
+    pub stays : StaysOpen w
 
   at-more : {w : List ℕ} {x : ℕ} {c : ℤ} (e : ℕ) → At w x c → At (w ++ (e ∷ [])) x c
   unfolding step-more
@@ -109,6 +115,7 @@ module _ (net : Words) (lent : Memory) (ok : Lent net lent) (i : ℕ) (there : i
         sign = rw p;
         parted = λ h. absurd (omega (arith, ap nat p));
         first = λ x q. absurd (no-step x (q .this .step));
+        stays = λ h x c t l. absurd (no-step x (t .step));
       }
 
   -- ---- at a call that leaves the area's words
@@ -131,6 +138,7 @@ module _ (net : Words) (lent : Memory) (ok : Lent net lent) (i : ℕ) (there : i
           sign = rw g (p .sign);
           parted = λ h. rw g (parts-more e (p .parted (rw g at h)));
           first = λ x q. rw g (p .first x (parts-back q));
+          stays = λ h x c t l. p .stays (rw g at h) x c (at-back t) (rw g at l);
         }
 
   -- ---- at an accepted step of its own
@@ -225,18 +233,35 @@ module _ (net : Words) (lent : Memory) (ok : Lent net lent) (i : ℕ) (there : i
     over : not (ltZ z (latch (at w) i)) ≡ false → 1 ≤ set w
     over e = let q : ltb 0 (set w) ≡ true = not-false (ltb 0 (set w)) (rw (p .sign) at e) in ltb-true 0 (set w) q
 
+    -- the switch that parted before is open at this step
+    let-go : 1 ≤ set w → set w < k → holds r (latch (at w) i) k ≡ false
+    unfolding holds
+    let-go one l = rw (b, p .sign, lt-ltb 0 (set w) one, lt-leb k (set w) l)
+
+    is-open : 1 ≤ set w → set w < k → isOpen N (at w .records) k i ≡ true
+    unfolding isOpen
+    is-open one l = rw (b, let-go one l) (by (leb (closes r) k))
+      where
+        by : (x : Bool) → not (x && false) ≡ true
+        by true = refl
+        by false = refl
+
+    no-current : 1 ≤ set w → set w < k → current new ≡ z
+    no-current one l = o .stepped .offered .plain i there (breaker-branch r b) (breaker-line r b) refl .opened (rw b) (is-open one l)
+
     at-step : Breaker new
     unfolding newLatch
     at-step = go (not (ltZ z (latch (at w) i))) (parts k r (current w) (current new)) refl refl latched
       where
-        made : latch (at new) i ≡ pos (set new) → (1 ≤ set new → Parts new (set new)) → ((x : ℕ) → Parts new x → (1 ≤ set new) × (set new ≤ x)) → Breaker new
-        made q u f = record {
+        made : latch (at new) i ≡ pos (set new) → (1 ≤ set new → Parts new (set new)) → ((x : ℕ) → Parts new x → (1 ≤ set new) × (set new ≤ x)) → StaysOpen new → Breaker new
+        made q u f g = record {
           inside = inside-new;
           there-is = λ h. rw counted this;
           only = λ c t. at-newest (rw counted at t) (omega arith) .1;
           sign = q;
           parted = u;
           first = f;
+          stays = g;
         }
 
         -- it parts now, for the first time
@@ -244,17 +269,23 @@ module _ (net : Words) (lent : Memory) (ok : Lent net lent) (i : ℕ) (there : i
         now-parts n e q =
             let u : set new ≡ k = ap nat q in
             made (rw u q) (λ h. rw u (newest-parts e)) (λ x y. (omega (arith, u, next), rw u (late x y (decLe k x))))
+            (λ h x c t l. absurd (omega (arith, u, at-newest t (omega (arith, u, l)) .0)))
           where
             late : (x : ℕ) → Parts new x → Dec (k ≤ x) → k ≤ x
             late x y (yes h) = h
             late x y (no h) = absurd (omega (arith, p .first x (parts-older (omega arith) y) .0))
 
         -- it does not, or has parted before
-        stays : (1 ≤ set w) ⊎ (parts k r (current w) (current new) ≡ false) → latch (at new) i ≡ latch (at w) i → Breaker new
-        stays d q =
+        unmoved : (1 ≤ set w) ⊎ (parts k r (current w) (current new) ≡ false) → latch (at new) i ≡ latch (at w) i → Breaker new
+        unmoved d q =
             let u : set new ≡ set w = ap nat q in
             made (rw u (q ∙ p .sign)) (λ h. rw u (parts-more a (p .parted (rw u at h)))) (λ x y. rw u (either x y (decLe k x) d))
+            (λ h x c t l. after-it (rw u at h) x c t (rw u at l) (decLe k x))
           where
+            after-it : 1 ≤ set w → (x : ℕ) (c : ℤ) → At new x c → set w < x → Dec (k ≤ x) → c ≡ z
+            after-it h x c t l (yes y) = let n = at-newest t y in n .1 ∙ no-current h (omega (arith, n .0))
+            after-it h x c t l (no y) = p .stays h x c (at-older t (omega arith)) l
+
             either : (x : ℕ) → Parts new x → Dec (k ≤ x) → (1 ≤ set w) ⊎ (parts k r (current w) (current new) ≡ false) → (1 ≤ set w) × (set w ≤ x)
             either x y (no h) d = p .first x (parts-older (omega arith) y)
             either x y (yes h) (inl l) = (l, omega (arith, p .inside (set w) (p .parted l .this .step), next))
@@ -262,8 +293,8 @@ module _ (net : Words) (lent : Memory) (ok : Lent net lent) (i : ℕ) (there : i
 
         go : (x y : Bool) → not (ltZ z (latch (at w) i)) ≡ x → parts k r (current w) (current new) ≡ y → latch (at new) i ≡ cond (x && y) (pos k) (latch (at w) i) → Breaker new
         go true true e f q = now-parts (unset e) f q
-        go true false e f q = stays (inr f) q
-        go false y e f q = stays (inl (over e)) q
+        go true false e f q = unmoved (inr f) q
+        go false y e f q = unmoved (inl (over e)) q
 
   -- T-parts
   pub breakers : (w : List ℕ) → Breaker w
