@@ -1,7 +1,7 @@
 -- Runs that mix the two calls which advance: from a reset, any list of calls of `advance` and of `list`, refused ones among them. Each leaves what a
 -- run of advances leaves, so the promises of such runs are promises of mixed ones. Assumes nothing.
-use Rattle.whole.specs.Plain.{ℕ, _≡_, refl, sym, ap, _∙_, true, List, [], _∷_, _++_, length, Words, _<_}
-use Rattle.paper.specs.Rows.{isLine}
+use Rattle.whole.specs.Plain.{ℕ, _≡_, refl, sym, ap, _∙_, true, List, [], _∷_, _++_, length, Words, _≤_, _<_}
+use Rattle.paper.specs.Rows.{isLine, isBreaker}
 use Rattle.paper.specs.Records.{countOf}
 use Rattle.paper.specs.Advance.{Memory, advanceOf}
 use Rattle.paper.specs.Pieces.{listOf}
@@ -14,6 +14,8 @@ use Rattle.laws_runs.specs.Orders.{run-inv, orders-agree}
 use Rattle.laws_runs.specs.Refused.{counts-are}
 use Rattle.laws_runs.specs.Received.{Side, areaAt, StepIn}
 use Rattle.laws_runs.specs.Heard.{Receives, received, once}
+use Rattle.laws_peaks.specs.Peaks.{Peak, peaks}
+use Rattle.laws_breakers.specs.Breakers.{Breaker, breakers}
 use Rattle.laws_mixed.specs.Made.{after-append, list-is-calls}
 
 -- a call: of an area by its number, or of a listing into a buffer of so many bytes
@@ -90,3 +92,11 @@ module _ (net : Words) (lent : Memory) (ok : Lent net lent) where
   -- a mixed run has one accepted step x of an area
   pub mixed-once : (w : List Call) (b x : ℕ) (p q : StepIn net start (run w) b x) → p .before ≡ q .before
   mixed-once w b x = once net lent ok b x (run w)
+
+  -- T-peak: a node's peak after a mixed run is the largest magnitude of all accepted steps of its area, those inside listings too, at its first place
+  pub mixed-peaks : (w : List Call) (n : ℕ) (low : 1 ≤ n) (high : n ≤ N .nodes) → Peak net lent ok n low high (run w)
+  mixed-peaks w n low high = peaks net lent ok n low high (run w)
+
+  -- T-parts: so is an SW's latch the first step at which it parts
+  pub mixed-breakers : (w : List Call) (i : ℕ) (there : i < length (N .rows)) (b : isBreaker (rowAt N i) ≡ true) → Breaker net lent ok i there b (run w)
+  mixed-breakers w i there b = breakers net lent ok i there b (run w)
