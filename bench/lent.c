@@ -39,11 +39,11 @@ static bool all_in(const whole *words, int count, whole least, whole most) {
 
 static whole count_at(const whole *records, int node) { return records[COUNTS + area_of[node]]; }
 
-// A latch that is set is a step at which its SW may have parted, and its area has taken it.
+// A latch that is set is that of an SW, and a step at which it may have parted and that its area has taken.
 static bool latch_formed(int r, const whole *records) {
     const struct branch *b = &branches[r];
     whole step = records[LATCHES + r];
-    return step >= b->open - 1 && step > b->close && step <= count_at(records, b->from ? b->from : b->to);
+    return r < places && b->kind == SW && step >= b->open - 1 && step > b->close && step <= count_at(records, b->from ? b->from : b->to);
 }
 
 static bool well_formed(const whole *records) {
@@ -54,7 +54,7 @@ static bool well_formed(const whole *records) {
         enum kind kind = r < places ? branches[r].kind : VS;
         whole near = is_source(kind) ? 0 : most_current, to = kind == LINE ? most_current : 0, past = kind == L || kind == C ? FAR : 0;
         if (beyond(records[CURRENTS + r], near) || beyond(records[TO_CURRENTS + r], to) || beyond(records[HISTORIES + r], past)) return false;
-        if (records[LATCHES + r] && !(kind == SW && latch_formed(r, records))) return false;
+        if (records[LATCHES + r] && !latch_formed(r, records)) return false;
     }
     for (int i = 0; i < NODES; i++) {
         whole v = i < node_count ? records[VOLTAGES + i] : 0, most = i < node_count ? HIGHEST : 0, count = i < node_count ? count_at(records, i + 1) : 0;

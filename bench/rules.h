@@ -83,7 +83,7 @@ static const struct {
     [SWT] = {"SWT", 2, 3, {1000, 1, 2}, {OHMS, MOST_STEPS, MOST_STEPS + 1}},
 };
 
-static bool is_source(enum kind kind) { return shapes[kind].nodes == 1; }
+static bool is_source(enum kind kind) { return VS <= kind && kind <= VC; }
 static bool is_switch(enum kind kind) { return kind == SW || kind == SWT; }
 static bool fixes(enum kind kind) { return kind == VS || kind == VC; }
 
@@ -122,24 +122,23 @@ static int take(enum kind kind, const whole *n, int place) {
         fixed[n[0]] |= fixes(kind);
         if (kind == VC) plain = false, fill_cosines();
     } else {
-        struct branch b = {.kind = kind, .from = (int)n[0], .to = (int)n[1], .g = conductance(kind, n[2])};
-        whole slots = 0;
+        struct branch *b = &branches[place];
+        *b = (struct branch){.kind = kind, .from = (int)n[0], .to = (int)n[1], .g = conductance(kind, n[2])};
         if (is_switch(kind)) {
             if (n[3] >= n[4]) return VALUE;
-            b.close = n[3], b.open = n[4];
+            b->close = n[3], b->open = n[4];
+            plain &= kind != SW;
         }
-        if (!in(b.g, 1, 1000000000)) return VALUE;
+        if (!in(b->g, 1, 1000000000)) return VALUE;
         if (kind == LINE) {
             if (n[3] < step_length) return TRAVEL;
-            b.d = (uint32_t)(n[3] / step_length), b.rest = n[3] % step_length, b.slot = slot_count;
-            slots = 2 * (n[3] / step_length) + (b.rest != 0);
-            b.slots = (uint32_t)slots;
+            b->d = (uint32_t)(n[3] / step_length), b->rest = n[3] % step_length, b->slot = slot_count;
+            b->slots = 2 * b->d + (b->rest != 0);
+            plain &= !b->rest;
         }
-        if (branch_count == BRANCHES || slot_count + slots > SLOTS) return FULL;
-        slot_count += (uint32_t)slots;
+        if (branch_count == BRANCHES || slot_count + b->slots > SLOTS) return FULL;
+        slot_count += b->slots;
         branch_count++;
-        plain &= kind != SW && !b.rest;
-        branches[place] = b;
         places = place + 1;
     }
     for (int i = 0; i < nodes; i++)
