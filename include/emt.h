@@ -33,7 +33,8 @@ extern "C" {
 #endif
 
 /* ---- Version. A program may be linked to a library of another version if the first two numbers are those of the header it was compiled with. The
- * first is 0 while lent words may still move; the second goes up where a length, a word's place, a call or an answer changes, the third for all else.
+ * first is 0 while lent words may still move; the second goes up where a length, a word's place, a kind of row, a call or an answer changes, the third for
+ * all else. 0.6: an SW parts at a current zero and has a latch; EMT_SWT is the switch that SW was.
  * (A length that has changed is refused by EMT_STORE.) */
 #define EMT_VERSION_MAJOR 0
 #define EMT_VERSION_MINOR 6
@@ -87,7 +88,7 @@ enum { EMT_R = 1, EMT_L = 2, EMT_C = 3, EMT_LINE = 4, EMT_SW = 5, EMT_VS = 6, EM
 #define EMT_HISTORY_OF(row) (224 + (row))    /* of L and C */
 #define EMT_PEAK(node) (304 + (node) - 1)    /* the voltage's largest magnitude over all steps of the node's area */
 #define EMT_PEAK_STEP(node) (336 + (node) - 1) /* the first step where it came; 0 before any step */
-#define EMT_LATCH(row) (368 + (row))         /* of an SW the step after which it parted, 0 while it has not; 0 of any other row */
+#define EMT_LATCH(r) (368 + (r))             /* of an SW the step after which it parted, 0 while it has not; 0 of any other row */
 
 /* ---- Answers. Reading: 9, 7, then 1 to 6; resetting: 9, 8; advancing: 9, 8, then 10 to 17; listing: 9, 8, 10; writing: 9, 8; asking
  * for a node: 9, 8, 10, 2; asking how a network is laid out: 9, 8, 2. */
