@@ -67,7 +67,7 @@ extern "C" {
 #define EMT_NANOHENRY_MOST INT64_C(1000000000000)         /* the least is 1 */
 #define EMT_PICOFARAD_MOST INT64_C(1000000000)            /* the least is 1 */
 #define EMT_TRAVEL_MOST INT64_C(1000000000)               /* ns; the least is 1 */
-#define EMT_OPEN_MOST INT64_C(1000001)                    /* a switch that stays closed to the last step */
+#define EMT_OPEN_MOST INT64_C(1000001)                    /* an SW or SWT that stays closed to the last step */
 #define EMT_RISE_MOST INT64_C(1000)                       /* steps */
 #define EMT_FREQUENCY_MOST INT64_C(100000)                /* mHz, of a VC; from 1 */
 

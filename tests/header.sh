@@ -1,6 +1,7 @@
 #!/usr/bin/env bash
 # Every number of include/emt.h is the definitions' own: limits and lengths (crates/paper/specs/Limits), where the records have their words (Where), the
-# numbers of the answers (Answers, Looking, Pieces), the size of the lent room (crates/emt/specs/Numbered). The version has one spelling. Closing line: N passed, M failed.
+# numbers of the answers (Answers, Looking, Pieces), the size of the lent room (crates/emt/specs/Numbered). The version has one spelling, also in desk/emt/library.py, and goes up
+# with the declarations: tests/header.sum has their sum and the version's first two numbers. Closing line: N passed, M failed.
 set -u
 cd "$(dirname "$0")/.." || exit 1
 
@@ -86,6 +87,22 @@ if cc -std=c11 -Wall -Wextra -Werror -Iinclude -o "$work/header" "$work/header.c
     failed=$(("$(wc -l <"$work/expected")" - passed))
 else
     failed=1
+fi
+
+# the declarations, without comments, the version and spaces: where they have changed, callers that were compiled before may not be linked any more
+version=$(sed -nE 's/^#define EMT_VERSION "([0-9]+\.[0-9]+)\..*"$/\1/p' include/emt.h)
+sum=$(sed -E ':more; s@/\*[^*]*\*+([^/*][^*]*\*+)*/@@g; /\/\*/ { N; b more }' include/emt.h | grep -v EMT_VERSION | tr -d ' \t\n' | sha256sum | cut -c1-16)
+if [ "$version $sum" = "$(cat tests/header.sum)" ]; then
+    passed=$((passed + 1))
+else
+    echo "the declarations of include/emt.h are not those of version $(cut -d' ' -f1 tests/header.sum): raise EMT_VERSION's second number where callers must be compiled anew, and put '$version $sum' into tests/header.sum"
+    failed=$((failed + 1))
+fi
+if [ "$(sed -nE "s/^VERSION = '(.*)'.*/\1/p" desk/emt/library.py)" = "$(sed -nE 's/^#define EMT_VERSION "(.*)"$/\1/p' include/emt.h)" ]; then
+    passed=$((passed + 1))
+else
+    echo "desk/emt/library.py has another version than include/emt.h"
+    failed=$((failed + 1))
 fi
 
 echo "$passed passed, $failed failed"

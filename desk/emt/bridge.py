@@ -16,16 +16,33 @@ ASKED = ('emt_advance', 'emt_node', 'emt_area', 'emt_row')  # calls that are giv
 HEAD = 16
 
 
+class Gone(Exception):
+    """The program has ended."""
+
+
 class Bridge:
     """As a library of ctypes, as far as it is called here: lent arrays with their lengths, numbers, and references to answers."""
 
     def __init__(self, command):
+        self._name = command
         self.process = subprocess.Popen(shlex.split(command), stdin=subprocess.PIPE, stdout=subprocess.PIPE)
 
     def __getattr__(self, name):
         if name not in NUMBERS:
             raise AttributeError(name)
         return lambda *given: self.call(name, given)
+
+    def exchanged(self, sent, length):
+        """What comes back of what is sent; a program that is gone says nothing."""
+        try:
+            self.process.stdin.write(sent)
+            self.process.stdin.flush()
+        except BrokenPipeError:
+            pass
+        back = self.process.stdout.read(length)
+        if len(back) != length:
+            raise Gone(f'{self._name} has ended, with status {self.process.wait()}')
+        return back
 
     def call(self, name, given):
         pieces = LENT[name]
@@ -37,10 +54,7 @@ class Bridge:
             places[which], block[6 + 2 * which], block[7 + 2 * which] = len(block), len(block), length
             bytes_ = bytes(held)
             block.frombytes(bytes_ + bytes(-len(bytes_) % 8))
-        self.process.stdin.write(array('Q', [len(block)]).tobytes() + block.tobytes())
-        self.process.stdin.flush()
-        back = array('q')
-        back.frombytes(self.process.stdout.read(8 * len(block)))
+        back = array('q', self.exchanged(array('Q', [len(block)]).tobytes() + block.tobytes(), 8 * len(block)))
         for which, held in zip(pieces, lent[::2]):
             ctypes.memmove(held, back[places[which]:].tobytes(), ctypes.sizeof(held))
         for word, answer in enumerate(answers, 2):

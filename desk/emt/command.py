@@ -3,7 +3,7 @@ import argparse
 import os
 import sys
 
-from . import clone, curves, library, places, plot, quantities, report, verbs
+from . import bridge, clone, curves, library, places, plot, quantities, report, verbs
 from .verbs import DONE, FAILED, tell, tell_refused
 from .words import Refused
 
@@ -11,7 +11,7 @@ HONEST = ('Every voltage and current comes from the proved calls of Zanguremi (l
           'It works out, changes and invents no number of a solution; time constants and other hints of `emt check` are estimates of its own.')
 STATUS = ('Exit status: 0 done, 1 the run stopped, 2 the text is refused, 3 emt itself could not do it (no such file, a missing package, '
           'wrong arguments).')
-PROBLEMS = (verbs.Failed, clone.NotMade, library.NoLibrary, places.NoPlace, plot.NoPicture, report.NoReport, curves.NoSuchCurve, quantities.NotAQuantity)
+PROBLEMS = (verbs.Failed, bridge.Gone, clone.NotMade, library.NoLibrary, places.NoPlace, plot.NoPicture, report.NoReport, curves.NoSuchCurve, quantities.NotAQuantity)
 
 
 class Parser(argparse.ArgumentParser):

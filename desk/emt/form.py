@@ -2,7 +2,6 @@
 import re
 
 from .kinds import KINDS, STUDY
-from .library import SAMPLES
 from .quantities import UNITS, WRITTEN, counted, exact, written
 from .textline import Fault, form_of, units_of
 
@@ -69,7 +68,7 @@ def wrong_fields(line):
     if have < want:
         missing = ', '.join(field.name for field in line.kind.fields[have:])
         return Fault(len(line.bytes), 0, f'{counted(want - have, "field")} missing: {missing}', form_)
-    return line.fault(0, f'this library does not know {line.kind.word}', 'it is of an older version') if line.kind.word in SAMPLES else None
+    return None
 
 
 def spelling(field, text):

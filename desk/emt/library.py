@@ -11,9 +11,11 @@ from ctypes import POINTER, byref, c_int64, c_size_t, c_uint8, c_uint64
 
 from . import bridge
 
+VERSION = '0.6.0'  # of include/emt.h; a library must have the first two numbers
 NETWORK_WORDS, RECORD_WORDS, STORE_WORDS, TEXT_BYTES, WRITE_BYTES = 1024, 1024, 4096, 65536, 8192
 LIST_BYTES = 1 << 20  # of one piece of a listing
 NONE, MORE, STOPPED = 2, 100, 101  # of the answers: there is no such node or branch; emt_list's own two
+LATCHES = 368  # where the records have a word for each row: of a breaker the step after which it parted
 
 WORDS, BYTES, NUMBER = (POINTER(c_int64), c_size_t), (POINTER(c_uint8), c_size_t), (POINTER(c_uint64),)
 SIGNATURES = {
@@ -65,10 +67,14 @@ def load():
         library = ctypes.CDLL(path)
     except OSError as problem:
         raise NoLibrary(f'{path} cannot be loaded: {problem}') from None
+    tell = getattr(library, 'emt_version', None)
+    if tell is None:
+        raise NoLibrary(f'{path} is no libemt.so: it has no emt_version')
+    tell.restype = ctypes.c_char_p
+    if tell().decode().split('.')[:2] != VERSION.split('.')[:2]:
+        raise NoLibrary(f'{path} is of version {tell().decode()}, and this is emt {VERSION}: words, calls or kinds of lines differ')
     for name, types in SIGNATURES.items():
-        call = getattr(library, name, None)
-        if call is None:
-            raise NoLibrary(f'{path} has no {name}: it is of another version')
+        call = getattr(library, name)
         call.argtypes, call.restype = types, c_uint64
     return library
 
@@ -122,6 +128,10 @@ class Memory:
         answer = calls().emt_node(self.network, NETWORK_WORDS, self.records, RECORD_WORDS, node, byref(voltage), byref(peak), byref(step))
         return answer, voltage.value, peak.value, step.value
 
+    def parted(self, place):
+        """Of the row in this place, from 0, the step after which it parted: a word of the records, 0 but of a breaker that has."""
+        return self.records[LATCHES + place]
+
     def areas(self):
         """The number, and how many areas the network has."""
         return self._layout(calls().emt_areas)
@@ -144,18 +154,6 @@ class Memory:
         return answer, bytes(out[:written.value])
 
 
-SAMPLES = {'VC': 'VC\t1\t1\t1\t50000', 'SWT': 'SWT\t1\t0\t1000\t1\t2'}
-
-
-def knows(word):
-    """Whether the library's reader takes lines of a word that older ones have not. Those without SWT have an SW that opens whatever its current is."""
-    return Memory().read(f'study\t1\t1\t0\n{SAMPLES[word]}\n'.encode())[0] == 0
-
-
 def version():
-    """The library's file and, where it tells it, its version."""
-    call = getattr(calls(), 'emt_version', None)
-    if call is None:
-        return f'emt over {getattr(calls(), "_name", "a bridge")}'
-    call.restype = ctypes.c_char_p
-    return f'emt {call().decode()} over {calls()._name}'
+    """The version, and the library's or the bridge's file."""
+    return f'emt {VERSION} over {calls()._name}'
