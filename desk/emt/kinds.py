@@ -30,7 +30,7 @@ KINDS = (
     Kind(2, 'L', 'inductor', True, (FROM, TO, Field('inductance', INDUCTANCE, 1, 10 ** 12))),
     Kind(3, 'C', 'capacitor', True, (FROM, TO, Field('capacitance', CAPACITANCE, 1, 10 ** 9))),
     Kind(4, 'LINE', 'line', True, (FROM, TO, OHMS._replace(name='surge impedance'), Field('travel time', TIME, 1, 10 ** 9))),
-    Kind(5, 'SW', 'switch', True, (FROM, TO, OHMS._replace(name='closed resistance'), CLOSE, OPEN)),
+    Kind(5, 'SW', 'breaker', True, (FROM, TO, OHMS._replace(name='closed resistance'), CLOSE, OPEN._replace(name='opening step'))),
     Kind(6, 'VS', 'voltage source', False, (NODE, VOLTS, START, RISE)),
     Kind(7, 'IS', 'current source', False, (NODE, AMPERES, START, RISE)),
     Kind(8, 'VC', 'power-frequency source', False, (NODE, VOLTS, START, Field('frequency', FREQUENCY, 1, 10 ** 5))),
@@ -39,6 +39,7 @@ KINDS = (
 BY_NUMBER = {kind.number: kind for kind in KINDS}
 BY_WORD = {kind.word: kind for kind in KINDS + (STUDY,)}
 SWITCHES = ('SW', 'SWT')
+BREAKER = 'SW'  # of these the one that waits for a current zero
 HOLDING = ('VS', 'VC')  # sources that fix the voltage of their node
 
 

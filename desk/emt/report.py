@@ -157,7 +157,7 @@ def of_run(result, names, path, texts):
         f'<h1>{escape(title)}</h1><p class="from">{escape(path)}</p>',
         ending('stopped' if result.stop else 'done', stops.ended(result, names)),
         '<h2>What was understood</h2>', ''.join(f'<p>{escape(line)}</p>' for line in understood.head(network)),
-        table(('branch', '', ''), understood.rows(network, names)), listed(watch.step_facts(network, names) + rounded(names)),
+        table(('branch', '', ''), understood.rows(network, names, result)), listed(watch.step_facts(network, names, result) + rounded(names)),
         '<h2>What to watch</h2>', listed(watch.watch(network, names, result)),
         '<h2>Waveforms</h2>', waveforms(result, data),
         '<h2>Peaks</h2>', peaks(result, names) if result.peaks else '<p>None.</p>',

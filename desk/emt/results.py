@@ -5,6 +5,7 @@ The arrays hold the listing's own whole numbers (0.1 V, 0.1 nA), step k at place
 from array import array
 
 from . import library
+from .kinds import BREAKER
 from .study import read
 from .words import Refusal, Stopped
 
@@ -34,11 +35,12 @@ class Run:
     .v[node], .i[branch]: arrays of whole numbers of 0.1 V and 0.1 nA. .i_to[branch]: of a line, the current that leaves its to node into it.
     .steps: how many full steps were taken; .time: their times in ns.
     .peaks[node]: its largest voltage without sign and the first step where it came, as the compiled call tells it.
+    .parted[branch]: of each breaker (SW) the step after which it parted, 0 where it did not; a word of the records.
     .stop: None, or the Stopped that ended the run. volts(), amperes() and seconds() give doubles, for programs that draw.
     """
 
     def __init__(self, network):
-        self.network, self.stop, self.steps, self.peaks = network, None, 0, {}
+        self.network, self.stop, self.steps, self.peaks, self.parted = network, None, 0, {}, {}
         self.v = {node: array('q') for node in range(1, network.nodes + 1)}
         self.i = {row.branch: array('q') for row in network.branches}
         self.i_to = {row.branch: array('q') for row in network.branches if row.word == 'LINE'}
@@ -89,6 +91,7 @@ def run(study):
         if answer:
             raise Refusal(answer)
         result.peaks[node] = (peak, step)
+    result.parted = {row.branch: listing.memory.parted(row.line - 2) for row in network.branches if row.word == BREAKER}
     result.stop = listing.stop
     result.steps = result.stop.step - 1 if result.stop else network.steps
     if result.stop:

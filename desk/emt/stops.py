@@ -5,8 +5,8 @@ from .understood import at, value_words
 
 
 def floating(stop, network, names):
-    here = [row for row in network.branches if row.word in SWITCHES and not network.closed(row, stop.step) and network.area(max(row.ends)) == stop.area]
-    why = f'Open, or told to open, at this step: {", ".join(names.branch(row) for row in here)}. ' if here else ''
+    here = [row for row in network.branches if row.word in SWITCHES and not network.closed(row, stop.step, stop.run.parted) and network.area(max(row.ends)) == stop.area]
+    why = f'Open at this step: {", ".join(names.branch(row) for row in here)}. ' if here else ''
     if not network.meeting(stop.place):
         return f'{why}No branch leads to node {names.node(stop.place)} at all'
     return f'{why}Put in what holds the node, as its stray capacitance: C→{stop.place}→0→200 is 200 pF to ground'

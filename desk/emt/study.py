@@ -3,7 +3,7 @@ import os
 from collections import namedtuple
 
 from . import library
-from .kinds import BY_NUMBER, HOLDING, SWITCHES, conductance
+from .kinds import BREAKER, BY_NUMBER, HOLDING, STEPS_MOST, SWITCHES, conductance
 from .words import Refusal, Refused
 
 
@@ -74,9 +74,17 @@ class Network:
         """What the rounding of voltages to 0.1 V may leave over at a node, at most: the sum of the conductances that meet there, in 0.1 nA."""
         return sum(map(self.conductance, self.meeting(node)))
 
-    def closed(self, row, step):
-        """Whether a switch is closed at a step by its two steps; a breaker may part later than that."""
-        return row.word not in SWITCHES or row.fields[3] <= step < row.fields[4]
+    def closed(self, row, step, parted=None):
+        """Whether a branch conducts at a step: a switch that is closed then, and any other branch always."""
+        return row.word not in SWITCHES or row.fields[3] <= step < self.opens(row, parted)
+
+    def opens(self, row, parted=None):
+        """From which step on a switch is open again. parted is a run's: of a breaker the step after which it parted, 0 where it did not. Without a run it is the first
+        step at which the breaker may be open."""
+        if row.word != BREAKER:
+            return row.fields[4]
+        after = may_part(row) if parted is None else parted[row.branch]
+        return after + 1 if after else STEPS_MOST + 1
 
     def area(self, node):
         """The number of a node's area, from 1."""
@@ -92,6 +100,11 @@ class Network:
         if answer:
             raise Refusal(answer)
         return text
+
+
+def may_part(row):
+    """The first step after which a breaker parts, if its current is zero there or has turned: one before its opening step, but later than its closing one."""
+    return max(row.fields[4] - 1, row.fields[3] + 1)
 
 
 def accepted(answered):

@@ -40,9 +40,9 @@ def seen(joins, first, second):
 class State:
     """A network with its switches as at one step, as R, L and C between nodes; nodes with a voltage source are as ground."""
 
-    def __init__(self, network, step):
+    def __init__(self, network, step, parted=None):
         self.network = network
-        closed = [row for row in network.branches if network.closed(row, step)]
+        closed = [row for row in network.branches if network.closed(row, step, parted)]
         self.resistors = self._pieces(closed, ('R',) + SWITCHES, 1e-3, True)
         for row in closed:
             if row.word == 'LINE':
@@ -112,18 +112,19 @@ class State:
         return f'{own} that sees {about(value, other.unit)}'
 
 
-def states(network):
-    """The network at each step where its switches differ from what they were, a few at most."""
-    changes = {1} | {step for row in network.branches if row.word in SWITCHES for step in row.fields[3:5] if step <= network.steps}
+def states(network, parted=None):
+    """The network at each step where its switches differ from what they were, a few at most; parted as of a run, by which breakers are open."""
+    switches = [row for row in network.branches if row.word in SWITCHES]
+    changes = {1} | {step for row in switches for step in (row.fields[3], network.opens(row, parted)) if step <= network.steps}
     found = {}
     for step in sorted(changes):
-        closed = tuple(network.closed(row, step) for row in network.branches)
+        closed = tuple(network.closed(row, step, parted) for row in network.branches)
         if closed not in found and len(found) < STATES_MOST:
-            found[closed] = (step, State(network, step))
+            found[closed] = (step, State(network, step, parted))
     return list(found.values())
 
 
-def shortest(network):
+def shortest(network, parted=None):
     """The shortest time constant over all switch positions, and the first step from which it is there; None where there is none."""
-    found = [(constant, step) for step, state in states(network) for constant in state.constants()]
+    found = [(constant, step) for step, state in states(network, parted) for constant in state.constants()]
     return min(found, key=lambda one: one[0].seconds, default=None)

@@ -1,7 +1,7 @@
 """What was understood of a study, in engineering units: one line for each row, and the head."""
-from . import library
-from .kinds import STEPS_MOST
+from .kinds import BREAKER, STEPS_MOST
 from .quantities import CURRENT, FREQUENCY, TIME, VOLTAGE, count, counted, decimal, said
+from .study import may_part
 
 
 def in_steps(time, step):
@@ -18,14 +18,18 @@ def at(step, network):
     return f'step {count(step)} ({said(step * network.step, TIME)})'
 
 
-def switch_words(row, network):
+def switch_words(row, network, result=None):
     closes, opens = row.fields[3], row.fields[4]
     words = f'closed from {at(closes, network)}'
     if opens > STEPS_MOST:
         return words + ' on'
-    if row.word == 'SW' and library.knows('SWT'):
-        return f'{words}, told to open at {at(opens, network)}: it parts at its next current zero'
-    return f'{words}, open from {at(opens, network)}'
+    if row.word != BREAKER:
+        return f'{words}, open from {at(opens, network)} whatever its current is'
+    words += f', told to open at {at(opens, network)}: it parts at the first current zero from step {count(may_part(row))} on'
+    after = result.parted[row.branch] if result else 0
+    if after:
+        return f'{words}, here after {at(after, network)}'
+    return words + (', here not at all' if result and may_part(row) <= result.steps else '')
 
 
 def source_words(row, network):
@@ -38,14 +42,14 @@ def source_words(row, network):
     return words + (f', rising over {in_steps(last * network.step, network.step)}' if last else ', at once')
 
 
-def value_words(row, network):
+def value_words(row, network, result=None):
     """What stands behind the places of a row."""
     if not row.kind.branch:
         return source_words(row, network)
     words = said(row.value, row.kind.fields[2].quantity)
     if row.word == 'LINE':
         return f'{words}, {in_steps(row.fields[3], network.step)}'
-    return words if row.word in ('R', 'L', 'C') else f'{words}, {switch_words(row, network)}'
+    return words if row.word in ('R', 'L', 'C') else f'{words}, {switch_words(row, network, result)}'
 
 
 def head(network):
@@ -55,11 +59,11 @@ def head(network):
             ', '.join(counted(*thing) for thing in things)]
 
 
-def rows(network, names):
-    """For each row: branch number or '', what and where, and its values. Equal branches side by side are one."""
+def rows(network, names, result=None):
+    """For each row: branch number or '', what and where, and its values; with a run, when its breakers parted. Equal branches side by side are one."""
     found = []
     for group in network.groups():
         first, last = group[0].branch or '', group[-1].branch
         many = f'{len(group)} side by side, each ' if len(group) > 1 else ''
-        found.append((f'{first}–{last}' if many else str(first), names.place(group[0]), many + value_words(group[0], network)))
+        found.append((f'{first}–{last}' if many else str(first), names.place(group[0]), many + value_words(group[0], network, result)))
     return found

@@ -71,8 +71,8 @@ def check(asked):
         return tell_refused(refused, study.shown, sys.stdout)
     result = outcome(network)
     print(f'{study.shown}' + (f': {study.names.title}' if study.names.title else ''))
-    print('\n'.join('  ' + line for line in understood.head(network) + watch.step_facts(network, study.names) + report.rounded(study.names)) + '\n')
-    rows = understood.rows(network, study.names)
+    print('\n'.join('  ' + line for line in understood.head(network) + watch.step_facts(network, study.names, result) + report.rounded(study.names)) + '\n')
+    rows = understood.rows(network, study.names, result)
     widths = [max((len(row[place]) for row in rows), default=0) for place in (0, 1)]
     for row in rows:
         print(f'  {row[0]:>{widths[0]}}  {row[1]:<{widths[1]}}  {row[2]}')

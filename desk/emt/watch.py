@@ -1,13 +1,14 @@
 """What to watch in a study that is taken: where its results are coarser, or other, than a reader may think.
 
-Each function looks at one thing and answers sentences, none where there is nothing to say. They judge values, not results, but for the grain of currents,
-which is held against the largest current of the run.
+Each function looks at one thing and answers sentences, none where there is nothing to say. They judge values; of the run they look at what only it tells: how large
+currents are beside their grains, when breakers parted, and what current a switch cut off.
 """
 from math import exp, pi, sqrt
 
 from . import times
-from .kinds import SWITCHES
+from .kinds import BREAKER, STEPS_MOST, SWITCHES
 from .quantities import CONDUCTANCE, CURRENT, TIME, about, count, said
+from .study import may_part
 from .understood import at, in_steps
 
 RINGS, COARSE = 2, 0.2     # a step over so many time constants rings; over so many is coarse
@@ -21,9 +22,9 @@ def constant_words(constant, network, names, from_step):
     return f'{about(constant.seconds, "s")}, {constant.rule} of {names.branch(constant.row)}: {constant.words}{since}'
 
 
-def step_facts(network, names):
+def step_facts(network, names, result):
     """The shortest time constant and the shortest travel time, in steps: told always."""
-    facts, found = [], times.shortest(network)
+    facts, found = [], times.shortest(network, result.parted)
     if found:
         facts.append(f'shortest time constant {constant_words(found[0], network, names, found[1])}; {found[0].seconds / (network.step * 1e-9):.3g} steps')
     lines = [row for row in network.branches if row.word == 'LINE']
@@ -38,7 +39,7 @@ def times_words(share):
 
 
 def step_length(network, names, result):
-    found = times.shortest(network)
+    found = times.shortest(network, result.parted)
     if not found:
         return []
     constant, from_step = found
@@ -61,9 +62,9 @@ def undamped(network, names, result):
             told.append(f'{names.branch(group[0])}: between held nodes its current swings from step to step for good, once their voltage changes. '
                         'A resistor before it ends that')
     found, driven = {}, {row.ends[0] for row in network.sources if row.word == 'IS' and row.value}
-    for step, _ in times.states(network):
+    for step, _ in times.states(network, result.parted):
         for node in set(range(1, network.nodes + 1)) - fixed:
-            words = {row.word for row in network.meeting(node) if network.closed(row, step)}
+            words = {row.word for row in network.meeting(node) if network.closed(row, step, result.parted)}
             if words == {'L'} and node in driven:
                 found.setdefault(node, step)
             elif words != {'L'}:
@@ -83,7 +84,7 @@ def travel_times(network, names, result):
 def one_ohm(network, names, result):
     """1 Ω in the path of an L and C with a small √(L/C) damps what is not damped in the ideal circuit."""
     worst = {}
-    for step, state in times.states(network):
+    for step, state in times.states(network, result.parted):
         for piece, capacitance, small in state.swinging():
             for resistor in small:
                 rows = [row for row in resistor.rows if row.word != 'LINE' and row.value == ONE_OHM]
@@ -118,25 +119,51 @@ def about_current(number):
     return about(number * 1e-10, 'A', 4)
 
 
-def jump_at(row):
-    """The step at which a row jumps, 0 where it does not: a switch that closes on a network no longer at rest, a source that is there at once."""
+def cut_off(row, result):
+    """The current that a timed switch cuts off when it opens; 0 where there is none, or the run does not come so far."""
+    opens = row.fields[4] if row.word in SWITCHES and row.word != BREAKER else STEPS_MOST + 1
+    return result.i[row.branch][opens - 2] if opens <= min(result.network.steps, result.steps + 1) else 0
+
+
+def jumps_of(row, result):
+    """The steps at which a row jumps, with a word for it: a switch that closes on a network no longer at rest or cuts off a current, a source that is there at once."""
     if row.word in SWITCHES:
-        return row.fields[3] if row.fields[3] > 1 else 0
+        found = [('closing', row.fields[3])] if row.fields[3] > 1 else []
+        return found + ([('opening', row.fields[4])] if cut_off(row, result) else [])
     at_once = row.word == 'VC' or (row.word in ('VS', 'IS') and row.fields[3] == 0)
-    return row.fields[2] if at_once and row.value else 0
+    return [('', row.fields[2])] if at_once and row.value else []
 
 
 def jumps(network, names, result):
     """A jump at step k is a rise over the step before it, so that L and C feel it half a step early."""
     areas = {network.area(max(row.ends)) for row in network.branches if row.word in ('L', 'C')}
     stirred = {node for node in range(1, network.nodes + 1) if network.area(node) in areas}
-    found = [f'{names.place(group[0])} at {at(jump_at(group[0]), network)}' for group in network.groups()
-             if 0 < jump_at(group[0]) <= network.steps and set(group[0].ends) & stirred]
+    found = [f'{names.place(group[0])}{word and " " + word} at {at(step, network)}' for group in network.groups() if set(group[0].ends) & stirred
+             for word, step in jumps_of(group[0], result) if step <= network.steps]
     if not found:
         return []
     what, acts = ('a jump', 'It acts') if len(found) == 1 else ('jumps', 'Each acts')
     half = said(network.step * 5, TIME._replace(exponent=-10))
     return [f'{what} into L or C: {", ".join(found)}. {acts} as a rise over the step before, so half a step, {half}, early: beside a formula, count its time from there']
+
+
+def breakers(network, names, result):
+    """An SW that was told to open and did not part; one that parted at a zero of grains."""
+    told = []
+    for row in (group[0] for group in network.groups() if group[0].word == BREAKER):
+        after, grain = result.parted[row.branch], network.conductance(row)
+        if not after and may_part(row) <= result.steps:
+            told.append(f'{names.branch(row)}: told to open at {at(row.fields[4], network)}, it was still closed when the run {"stopped" if result.stop else "ended"}: its current '
+                        f'has no zero from step {count(may_part(row))} on. An SWT opens whatever its current is')
+        elif 1 < after <= result.steps and result.i[row.branch][after - 1] == 0 != result.i[row.branch][after - 2]:
+            told.append(f'{names.branch(row)}: it parted after {at(after, network)}, where its current was listed as 0, which is below half a grain of {said(grain, CURRENT)}: '
+                        'the zero itself comes a little later')
+    return told
+
+
+def chopping(network, names, result):
+    return [f'{names.branch(row)}: it opens at {at(row.fields[4], network)} on {about_current(abs(cut_off(row, result)))}, which it cuts off. An SW waits for the zero of its current'
+            for row in (group[0] for group in network.groups()) if cut_off(row, result)]
 
 
 def limit(network, names, result):
@@ -164,10 +191,12 @@ def stairs(network, names, result):
 def past_the_end(network, names, result):
     found = [f'{names.place(row)} ({at(row.fields[3 if row.word in SWITCHES else 2], network)})' for row in network.rows
              if row.word not in ('R', 'L', 'C', 'LINE') and row.fields[3 if row.word in SWITCHES else 2] > network.steps]
-    return [f'the run ends with step {count(network.steps)}, before these begin: {", ".join(found)}'] if found else []
+    opening = [f'{names.place(row)} ({at(row.fields[4], network)})' for row in network.branches
+               if row.word in SWITCHES and row.fields[3] <= network.steps < row.fields[4] <= STEPS_MOST]
+    return [f'the run ends with step {count(network.steps)}, before these {what}: {", ".join(rows)}' for what, rows in (('begin', found), ('open', opening)) if rows]
 
 
-LOOKS = (step_length, undamped, travel_times, one_ohm, grains, jumps, stairs, limit, past_the_end)
+LOOKS = (step_length, undamped, travel_times, one_ohm, grains, jumps, breakers, chopping, stairs, limit, past_the_end)
 
 
 def watch(network, names, result):

@@ -64,7 +64,8 @@ def random_study(dice):
         start = dice.randint(1, 30)
         lines.append(dice.choice([
             f'R {one} {other} {dice.randint(1000, 10 ** 7)}', f'L {one} {other} {dice.randint(step, 10 ** 8)}', f'C {one} {other} {dice.randint(1, max(1, 400 * step))}',
-            f'LINE {far[0]} {far[1]} {dice.randint(10 ** 4, 10 ** 6)} {dice.randint(step, 20 * step)}', f'SW {one} {other} 1000 {start} {start + dice.randint(1, 20)}',
+            f'LINE {far[0]} {far[1]} {dice.randint(10 ** 4, 10 ** 6)} {dice.randint(step, 20 * step)}', f'{dice.choice(["SW", "SWT"])} {one} {other} 1000 {start} {start + dice.randint(1, 20)}',
+            f'VC {far[0]} {dice.randint(-10 ** 6, 10 ** 6)} {start} {dice.randint(1, 10 ** 5)}',
             f'VS {far[0]} {dice.randint(-10 ** 6, 10 ** 6)} {start} {dice.randint(0, 5)}', f'IS {far[0]} {dice.randint(-10 ** 12, 10 ** 12)} {start} {dice.randint(0, 5)}']))
     return text('\n'.join(lines))
 

@@ -6,7 +6,7 @@ from math import sqrt
 from common import STUDIES, emt as command, saved, studies, text
 
 import emt
-from emt import library, names, quantities, stops, times, understood, watch
+from emt import names, quantities, stops, times, understood, watch
 
 NONE = names.Names()
 
@@ -44,11 +44,27 @@ class Written(unittest.TestCase):
     def test_earthed(self):
         self.assertEqual(understood.rows(emt.read(text('study 1000 9 0\nVS 3 0 1 0')), NONE), [('', 'VS 3', '0 V: the node is earthed')])
 
+    def opening(self, given):
+        network = emt.read(text(given))
+        return [understood.rows(network, NONE, result)[-1][2] for result in (None, emt.outcome(network))]
+
     def test_opening(self):
-        network = emt.read(text('study 1000 9 0\nSW 1 0 1000 2 7'))
-        words = understood.rows(network, NONE)[0][2]
-        self.assertTrue(words.startswith('1 Ω, closed from step 2 (2 µs), '))
-        self.assertIn('step 7 (7 µs)', words)
+        """A breaker: when it may part and, by the run's records, after which step it did. A timed switch opens at its step."""
+        swings = 'study 1000 9 1000000000000\nVC 1 1000 1 100000\n'
+        told = '1 Ω, closed from step 2 (2 µs), told to open at step 7 (7 µs): it parts at the first current zero from step 6 on'
+        self.assertEqual(self.opening('study 1000 9 1000000000000\nVS 2 1000 1 0\nVS 1 1000 1 0\nSW 1 2 1000 2 7'), [told, told + ', here after step 6 (6 µs)'])
+        self.assertEqual(self.opening(swings + 'SW 1 0 1000 2 7'), [told, told + ', here not at all'])
+        self.assertEqual(self.opening(swings + 'SW 1 0 1000 2 11'), [told.replace('7 (7', '11 (11').replace('6', '10')] * 2)
+        self.assertIn('it parts at the first current zero from step 3 on', self.opening(swings + 'SW 1 0 1000 2 3')[0])  # never at its closing step
+        self.assertEqual(self.opening(swings + 'SWT 1 0 1000 2 7'), ['1 Ω, closed from step 2 (2 µs), open from step 7 (7 µs) whatever its current is'] * 2)
+        self.assertEqual(self.opening(swings + 'SWT 1 0 1000 2 1000001'), ['1 Ω, closed from step 2 (2 µs) on'] * 2)
+
+    def test_a_breaker_of_the_studies(self):
+        network = emt.read(os.path.join(STUDIES, 'recovery.txt'))
+        result = emt.run(network)
+        self.assertEqual(result.parted, {4: 4688})
+        self.assertIn('here after step 4,688 (9.376 ms)', understood.rows(network, NONE, result)[-1][2])
+        self.assertTrue(result.i[4][4686] > 0 > result.i[4][4687] and set(result.i[4][4688:]) == {0})
 
 
 class Constants(unittest.TestCase):
@@ -86,6 +102,13 @@ class Constants(unittest.TestCase):
     def test_switches(self):
         self.expect('study 1000 9 0\nVS 1 1 1 0\nR 1 2 1000000\nSW 2 3 1000 5 8\nC 3 0 1000\nR 3 0 1000000000', 1.0e-6, 'R·C', step=5)
 
+    def test_a_breaker_that_does_not_part(self):
+        """Its open position is looked at where it comes: by an SWT, by an SW after its current's zero, and not by one whose current only grows."""
+        for word, source, steps in (('SWT', 'VS 1 1000 1 9', [1, 5]), ('SW', 'VS 1 1000 1 9', [1]), ('SW', 'VS 1 0 1 0', [1, 5]), ('SW', 'VC 1 1000 1 100000', [1])):
+            network = emt.read(text(f'study 1000 9 1000000000000\n{source}\n{word} 1 2 1000 1 5\nC 2 0 100\nR 2 0 10000'))
+            self.assertEqual([step for step, _ in times.states(network, emt.run(network).parted)], steps, (word, source))
+            self.assertEqual([step for step, _ in times.states(network)], [1, 5])
+
     def test_a_switch_between_a_coil_and_a_bank(self):
         self.expect('study 1000 9 0\nVS 1 1 1 0\nL 1 2 100000\nSW 2 3 1000 1 1000001' + '\nC 3 0 495185' * 27, sqrt(100e-6 * 13.369995e-6), '√(L·C)')
 
@@ -122,9 +145,10 @@ class Watching(unittest.TestCase):
     def test_undamped(self):
         self.due('study 1000 4 0\nVS 1 1000 1 0\nC 1 0 1000', 'C 1–ground, branch 1: between held nodes its current swings')
         self.due('study 1000 4 0\nIS 1 1000 1 0\nL 1 0 1000000', 'node 1 has nothing but L: its voltage swings')
-        opened = 'study 1000 9 1000000000000\nVS 1 1000000 1 5\nSW 1 2 1000 1 6\nL 2 0 1000000'
+        opened = 'study 1000 9 1000000000000\nVS 1 1000000 1 5\nSWT 1 2 1000 1 6\nL 2 0 1000000'
         self.due(opened, 'node 2 has nothing but L from step 6 (6 µs) on')
         self.due(opened + '\nC 2 0 1000', 'nothing but L', 0)
+        self.due(opened.replace('SWT', 'SW'), 'nothing but L', 0)  # a breaker whose current only grows does not part
 
     def test_travel(self):
         self.due(self.QUIET.replace('400000 3000', '400000 3050'), 'travel times between steps: LINE 2–3, branch 2 (3.05 µs = 30.5 steps)')
@@ -144,9 +168,34 @@ class Watching(unittest.TestCase):
         words = self.due('study 100 50 1000000000\nVS 1 1000 3 0\nR 1 2 400000\nC 2 0 10000', 'a jump into L or C: VS 1 at step 3 (300 ns)')
         self.assertIn('half a step, 50 ns, early', words)
         two = 'study 100 50 1000000000\nVS 1 1000 1 40\nR 1 2 400000\nSW 2 3 400000 7 1000001\nSW 2 3 400000 7 1000001\nC 3 0 10000\nR 3 0 1000000\nIS 3 5 9 0'
-        self.due(two, 'jumps into L or C: SW 2–3 at step 7 (700 ns), IS 3 at step 9 (900 ns)')
+        self.due(two, 'jumps into L or C: SW 2–3 closing at step 7 (700 ns), IS 3 at step 9 (900 ns)')
 
-    @unittest.skipUnless(library.knows('VC'), 'power-frequency sources: this library has none')
+    CUT = 'study 1000 9 1000000000000\nVS 1 1000000 1 9\nSWT 1 2 1000 1 6\nL 2 3 1000000\nR 3 0 400000\nC 2 0 1000\nR 2 0 1000000'
+
+    def test_cut_off(self):
+        """A timed switch that opens on a current cuts it off, which is a jump; on none it does not, and a breaker never."""
+        current = emt.run(text(self.CUT)).i[1][4]
+        self.assertIn(f'SWT 1–2, branch 1: it opens at step 6 (6 µs) on {quantities.about(current * 1e-10, "A", 4)}, which it cuts off', self.due(self.CUT, 'cuts off'))
+        self.due(self.CUT, 'a jump into L or C: SWT 1–2 opening at step 6 (6 µs)')
+        self.due(self.CUT.replace('VS 1 1000000', 'VS 1 0'), 'cuts off', 0)
+        self.due(self.CUT.replace('SWT', 'SW'), 'cuts off', 0)
+        self.due(self.CUT.replace('SWT', 'SW'), 'a jump into', 0)
+        stopped = 'study 1000 1100 1100000000\nVS 1 100000 1 0\nSWT 1 2 1000 1 1001\nL 2 0 1000000000'
+        self.due(stopped, 'it opens at step 1,001 (1.001 ms) on 10 A, which it cuts off')  # the step that the run stopped before
+
+    def test_breakers(self):
+        words = self.due(self.CUT.replace('SWT', 'SW'), 'it was still closed when the run ended')
+        self.assertIn('SW 1–2, branch 1: told to open at step 6 (6 µs)', words)
+        self.assertIn('no zero from step 5 on', words)
+        small = 'study 100000 120 1000000000000\nVC 1 1000 1 50000\nSW 1 2 1000 1 20\nR 2 0 200000'
+        words = self.due(small, 'where its current was listed as 0')
+        result = emt.run(text(small))
+        self.assertIn(f'it parted after {understood.at(result.parted[1], result.network)}', words)
+        self.assertIn('half a grain of 100 mA', words)
+        for path, piece in (('recovery', 'parted after'), ('reclosing', 'parted after'), ('breaker', 'still closed')):
+            network = emt.read(os.path.join(STUDIES, path + '.txt'))
+            self.assertEqual([one for one in watch.breakers(network, NONE, emt.run(network)) if piece in one], [], path)
+
     def test_stairs(self):
         given = 'study {} 50 1000000000\nVC 1 1000000 1 50000\nR 1 2 400000\nC 2 0 1000000'
         self.assertIn('VC 1: its voltage moves in 1,024 stairs a period, one each 19.5 µs and of up to 614 V', self.due(given.format(10000), 'stairs'))
@@ -159,11 +208,13 @@ class Watching(unittest.TestCase):
 
     def test_past_the_end(self):
         self.due(self.QUIET + '\nSW 3 0 400000 51 1000001', 'before these begin: SW 3–ground (step 51 (5.1 µs))')
+        self.due(self.QUIET + '\nSWT 3 0 400000 1 52', 'before these open: SWT 3–ground (step 52 (5.2 µs))')
 
     def test_all_studies(self):
         for path in studies():
             network = emt.read(path)
-            for words in watch.watch(network, NONE, emt.outcome(network)) + watch.step_facts(network, NONE):
+            result = emt.outcome(network)
+            for words in watch.watch(network, NONE, result) + watch.step_facts(network, NONE, result):
                 self.assertNotRegex(words, r'\bnan\b|\binf\b|e[+-][0-9]')
 
 
@@ -175,7 +226,10 @@ class Stops(unittest.TestCase):
         self.assertIn('done: 1 step taken, to 1 µs', self.ended('study 1000 1 0\nVS 1 1000 1 0\nR 1 0 1000'))
         words = self.ended('study 1000 9 0\nVS 1 1000 1 0\nSW 1 2 1000 5 8')
         self.assertIn('stopped before step 1 (1 µs) by FLOATING (14) at node 2, area 1', words)
-        self.assertIn('Open, or told to open, at this step: SW 1–2, branch 1', words)
+        self.assertIn('Open at this step: SW 1–2, branch 1', words)
+        parted = 'study 1000 9 1000000000000\nVS 1 0 1 0\n{} 1 2 1000 1 4\nSWT 2 0 1000 1 6'
+        self.assertIn('Open at this step: SW 1–2, branch 1, SWT 2–ground, branch 2', self.ended(parted.format('SW')))
+        self.assertIn('done', self.ended(parted.format('SW').replace('VS 1 0', 'VS 1 5').replace('1000 9', '1000 5')))  # a breaker with a current is told to open and goes on
         self.assertIn('No branch leads to node 2', self.ended('study 1000 9 0\nIS 2 5 1 0\nR 1 0 1000'))
         self.assertIn('One step before, it had 0 V', self.ended('study 1000 8 0\nIS 1 2000000000000000 1 4\nR 1 0 1000000000000'))
         self.assertIn('2 full steps before it are as listed', self.ended('study 1000 8 0\nVS 1 20000000 1 0\nL 1 0 500'))

@@ -7,10 +7,9 @@ from math import floor, log10
 from common import COUNT, WORK, dice, emt as command, saved
 
 import emt
-from emt import friendly, kinds, library, make
+from emt import friendly, kinds, make
 
 SOURCES = ('VS', 'IS', 'VC')
-KNOWN = [word for word in ('VC', 'SWT') if library.knows(word)]
 
 # SI units of one unit of the text; the test's own table
 UNIT = {'Ω': Fraction(1, 10 ** 3), 'H': Fraction(1, 10 ** 9), 'F': Fraction(1, 10 ** 12), 's': Fraction(1, 10 ** 9), 'V': Fraction(1, 10), 'A': Fraction(1, 10 ** 10), 'Hz': Fraction(1, 10 ** 3)}
@@ -59,7 +58,7 @@ class Asked:
             self.add(roll, step, names, f'b{number}' if roll.random() < 0.6 else '')
 
     def add(self, roll, step, names, name):
-        word = roll.choice(['R', 'L', 'C', 'LINE', 'SW', 'VS', 'IS'] + KNOWN)
+        word = roll.choice(['R', 'L', 'C', 'LINE', 'SW', 'VS', 'IS', 'VC', 'SWT'])
         nodes = roll.sample(names + (['ground', '0', 'gnd'] if word not in ('LINE',) + SOURCES else []), 2 if word not in SOURCES else 1)
         if len(nodes) == 2 and {'ground', '0', 'gnd'} >= set(nodes):
             nodes[1] = 'bus'
@@ -188,14 +187,9 @@ class Rules(unittest.TestCase):
         self.assertEqual(self.rows('VS a 115kV\nIS a -30 kA at 2us rise 1.2us\nR a b 1kohm\nSW b gnd 1 Ω close 10us open 1ms\nSW b gnd 1ohm\nLINE a b 280ohm 300us\nL b 0 1mH\nC b earth 2nF'), [
             'VS 1 1150000 1 0', 'IS 1 -300000000000000 2 1', 'R 1 2 1000000', 'SW 2 0 1000 10 1000', 'SW 2 0 1000 1 1000001', 'LINE 1 2 280000 300000', 'L 2 0 1000000', 'C 2 0 2000'])
 
-    def test_kinds_that_come_later(self):
-        """VC and SWT are written; a library that does not know them says so by the friendly text's line."""
-        for text, rows in (('VC a 163kV 50Hz at 3us', ['VC 1 1630000 3 50000']), ('VS b 1V\nSWT b a 1ohm close 5us open 9us', ['VS 1 10 1 0', 'SWT 1 2 1000 5 9'])):
-            try:
-                self.assertEqual(self.rows(text), rows)
-            except friendly.NotUnderstood as problem:
-                self.assertIn('does not know', problem.words)
-                self.assertEqual(problem.line, 2 + len(rows))
+    def test_supplies_and_switches(self):
+        self.assertEqual(self.rows('VC a 163kV 50Hz at 3us\nvc b -163kV 16.7Hz'), ['VC 1 1630000 3 50000', 'VC 2 -1630000 1 16700'])
+        self.assertEqual(self.rows('VS b 1V\nSWT b a 1ohm close 5us open 9us\nswt b a 0.5ohm'), ['VS 1 10 1 0', 'SWT 1 2 1000 5 9'] + ['SWT 1 2 1000 1 1000001'] * 2)
 
     def test_numbers_of_nodes_stay(self):
         self.assertEqual(self.rows('R 2 x 1kohm\nR x 1 1kohm\nR y 0 1kohm'), ['R 2 3 1000000', 'R 3 1 1000000', 'R 4 0 1000000'])

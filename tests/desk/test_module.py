@@ -1,13 +1,16 @@
 """The module: reading, runs as arrays, refusals as exceptions, and what it shares with the C header."""
 import os
 import re
+import subprocess
+import tempfile
 import unittest
+from unittest import mock
 
-from common import COUNT, STUDIES, TOP, dice, random_study, studies, text
+from common import COUNT, STUDIES, TOP, WORK, dice, random_study, studies, text
 
 import emt
 from emt import kinds, library, words
-from emt.bridge import Bridge
+from emt.bridge import Bridge, Gone
 
 
 def header():
@@ -133,6 +136,24 @@ class Running(unittest.TestCase):
         self.assertEqual(list(emt.outcome(text('study 1 9 0\nIS 1 5 1 0')).v[1]), [])
         self.assertEqual(list(emt.run(text('study 1 3 0\nVS 1 5 2 0')).v[1]), [0, 5, 5])
 
+    def test_parted(self):
+        """Of breakers by dice, what the listing shows: no current from the step after the one it parted after on, and there a zero or a change of sign."""
+        roll, seen = dice(11), {'parted': 0, 'not': 0}
+        for _ in range(2 * COUNT):
+            load = roll.choice([f'R 2 0 {roll.randint(10 ** 5, 10 ** 8)}', f'L 2 0 {roll.randint(10 ** 6, 10 ** 9)}', f'C 2 0 {roll.randint(10 ** 3, 10 ** 6)}\nR 2 0 1000000'])
+            closes = roll.randint(1, 9)
+            result = emt.outcome(text(f'study {roll.choice([10000, 200000, 10 ** 6])} 60 {10 ** 15}\nVC 1 {roll.randint(-10 ** 5, 10 ** 5)} {roll.randint(1, 5)} {roll.randint(10000, 10 ** 5)}\n'
+                                      f'SW 1 2 1000 {closes} {closes + roll.randint(1, 40)}\n{load}'))
+            self.assertEqual(set(result.parted), {row.branch for row in result.network.branches if row.word == 'SW'})
+            for branch, after in result.parted.items():
+                closes, opens = result.network.branches[branch - 1].fields[3:5]
+                current = [0] + list(result.i[branch])
+                zeros = [step for step in range(max(opens - 1, closes + 1), result.steps + 1) if current[step] == 0 or current[step] * current[step - 1] < 0]
+                if after <= result.steps:
+                    self.assertEqual(after, min(zeros, default=0))
+                seen['parted' if after else 'not'] += 1
+        self.assertTrue(min(seen.values()) > 10, seen)
+
     def test_a_study_alone(self):
         result = emt.run(text('study 5 3 0'))
         self.assertEqual((result.steps, list(result.time), result.v), (3, [5, 10, 15], {}))
@@ -162,14 +183,23 @@ class Bridged(unittest.TestCase):
             bridge.process.wait()
 
 
+    def test_a_bridge_that_has_ended(self):
+        for command in ('true', 'sh -c "exit 7"'):
+            with self.assertRaises(Gone) as caught:
+                Bridge(command).emt_areas((library.c_int64 * 1024)(), 1024)
+            self.assertIn('has ended, with status', str(caught.exception))
+
+
 class Tables(unittest.TestCase):
     """The tables of kinds, limits, lengths and words are those of the C header."""
 
     def test_kinds(self):
         found = dict(re.findall(r'EMT_([A-Z]+) = ([0-9]+)', re.search(r'enum \{ EMT_R[^}]*\}', header()).group()))
-        mine = {kind.word: str(kind.number) for kind in kinds.KINDS}
-        self.assertEqual({word: number for word, number in mine.items() if word in found}, found)
-        self.assertLessEqual(set(mine) - set(found), {'VC', 'SWT'})
+        self.assertEqual({kind.word: str(kind.number) for kind in kinds.KINDS}, found)
+        self.assertEqual({kind.word: kind.branch for kind in kinds.KINDS}, {word: word not in ('VS', 'IS', 'VC') for word in found})
+
+    def test_latches(self):
+        self.assertIn(f'#define EMT_LATCH(r) ({library.LATCHES} + (r))', header())
 
     def test_numbers(self):
         macros = dict(re.findall(r'#define EMT_([A-Z_]+) +(?:INT64_C\()?([0-9]+)\)?', header()))
@@ -181,7 +211,7 @@ class Tables(unittest.TestCase):
                 ('STEPS_MOST', fields['study', 'steps'].high), ('LIMIT_MOST', fields['study', 'balance limit'].high), ('MILLIOHM_LEAST', kinds.OHMS.low),
                 ('MILLIOHM_MOST', kinds.OHMS.high), ('NANOHENRY_MOST', fields['L', 'inductance'].high), ('PICOFARAD_MOST', fields['C', 'capacitance'].high),
                 ('TRAVEL_MOST', fields['LINE', 'travel time'].high), ('OPEN_MOST', kinds.OPEN.high), ('RISE_MOST', kinds.RISE.high), ('VOLTAGE_MOST', kinds.VOLTS.high),
-                ('INJECTION_MOST', kinds.AMPERES.high)):
+                ('INJECTION_MOST', kinds.AMPERES.high), ('FREQUENCY_MOST', fields['VC', 'frequency'].high)):
             self.assertEqual(int(macros[name]), number, name)
         self.assertGreaterEqual(library.LIST_BYTES, int(macros['LIST_BYTES']))
 
@@ -189,12 +219,10 @@ class Tables(unittest.TestCase):
         """Each field at its ends is taken, and one past them is refused: by the reader itself."""
         samples = {'R': 'R 1 0 {}', 'L': 'L 1 0 {}', 'C': 'C 1 0 {}', 'LINE': 'LINE 1 2 {} {}', 'SW': 'SW 1 0 {} {} {}', 'VS': 'VS 1 {} {} {}', 'IS': 'IS 1 {} {} {}',
                    'VC': 'VC 1 {} {} {}', 'SWT': 'SWT 1 0 {} {} {}'}
-        middle = {'travel time': 10 ** 6, 'first closed step': 1, 'first open step': 2, 'first step': 1, 'steps of rise': 0, 'peak': 1, 'frequency': 50000}
+        middle = {'travel time': 10 ** 6, 'first closed step': 1, 'first open step': 2, 'opening step': 2, 'first step': 1, 'steps of rise': 0, 'peak': 1, 'frequency': 50000}
         for kind in kinds.KINDS:
             fields = [field for field in kind.fields if field.name not in ('from', 'to', 'node')]
             good = [middle.get(field.name, 10 ** 6) for field in fields]
-            if library.Memory().read(text('study 1000000 1 0\n' + samples[kind.word].format(*good)))[0] == 1:
-                continue  # a word that this library does not know
             for place, field in enumerate(fields):
                 for number, taken in ((field.low, True), (field.high, True), (field.low - 1, False), (field.high + 1, False)):
                     if number < 0 and field.low >= 0 or kind.word in 'LC' and taken or field.name == 'travel time' and number < 10 ** 6:
@@ -219,17 +247,21 @@ class Tables(unittest.TestCase):
             found = re.findall(r'\{EMT_([A-Z]+), "([A-Z]+)", "([a-z]*)", "([^"]*)"\}', file.read())
         self.assertEqual([(row.name, row.name, row.place, row.words) for row in words.TABLE], [row for row in found if 1 <= named.get(row[0], 0) <= 17])
 
-    @unittest.skipIf(os.environ.get('EMT_BRIDGE'), 'loading a library: it is for another processor')
+    def refused_library(self, path):
+        """What is said of a library that is not taken."""
+        with mock.patch.dict(os.environ, EMT_LIBRARY=path), mock.patch.object(library, 'bridge_path', lambda: None), self.assertRaises(emt.NoLibrary) as caught:
+            library.load()
+        return str(caught.exception)
+
     def test_no_library(self):
-        kept, library._library = library._library, None
-        before = os.environ.get('EMT_LIBRARY')
-        os.environ['EMT_LIBRARY'] = '/no/such/libemt.so'
-        try:
-            with self.assertRaises(emt.NoLibrary):
-                emt.read(b'')
-        finally:
-            library._library = kept
-            if before is None:
-                del os.environ['EMT_LIBRARY']
-            else:
-                os.environ['EMT_LIBRARY'] = before
+        self.assertIn('cannot be loaded', self.refused_library('/no/such/libemt.so'))
+
+    def test_another_library(self):
+        """One of another version, whose words or kinds of lines differ, and one that is something else."""
+        for source, said in (('const char *emt_version(void) { return "0.5.9"; }', f'is of version 0.5.9, and this is emt {library.VERSION}'), ('int other;', 'it has no emt_version')):
+            path = os.path.join(tempfile.mkdtemp(dir=WORK), 'libemt.so')
+            subprocess.run(['cc', '-shared', '-fPIC', '-x', 'c', '-o', path, '-'], input=source, text=True, check=True)
+            self.assertIn(said, self.refused_library(path))
+
+    def test_version(self):
+        self.assertEqual(library.VERSION, re.search(r'#define EMT_VERSION "(.*)"', header()).group(1))

@@ -197,7 +197,7 @@ class Seen(unittest.TestCase):
     def test_stopped(self):
         self.assertEqual(self.open(os.path.join(STUDIES, 'floating.txt')), 1)
         words = self.browser.tell('document.getElementById("end").innerText')
-        for piece in ('stopped before step 101 (101 µs) by FLOATING (14) at node 3', 'Open, or told to open, at this step: SW 2–3', 'stray capacitance'):
+        for piece in ('stopped before step 101 (101 µs) by FLOATING (14) at node 3', 'Open at this step: SW 2–3', 'stray capacitance'):
             self.assertIn(piece, words)
         self.assertGreater(self.coloured('voltage', (0x8a, 0x4f, 0xb0)), 100)
 

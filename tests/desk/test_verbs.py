@@ -69,7 +69,7 @@ class Run(unittest.TestCase):
         self.assertEqual(started('emt run /dev/null')[:2], (2, 'bad\t1\t1\n'))
         self.assertEqual(started('emt ')[0], 3)
         self.assertEqual(started('LC_ALL=C emt check ' + STUDIES + '/steep.txt')[1], started(f'emt check {STUDIES}/steep.txt')[1])
-        self.assertIn('a bridge' if os.environ.get('EMT_BRIDGE') else 'libemt.so', started('emt --version')[1])
+        self.assertEqual(started('emt --version'), (0, f'emt {library.VERSION} over {os.environ.get("EMT_BRIDGE") or os.environ["EMT_LIBRARY"]}\n', ''))
 
 
 class Csv(unittest.TestCase):
