@@ -1,7 +1,8 @@
 #!/usr/bin/env bash
-# tools/install into a folder of its own, moved once, and what is built from it: programs in C, by pkg-config, static and shared, in C++, in Rust and in Python; emtrun and, where it is there, the
-# command emt; the manual pages, which must name every call, verb and option. Then the archive of tools/release: its checksums, version and kit, and that making it twice gives the same bytes.
-# What needs an x86-64 processor or a missing package is left out, and said. EMTRUN=PATH and LIBEMT=PATH take this program and this archive and make none. Closing line: N passed, M failed.
+# tools/install into a folder of its own, moved once, and what is built from it: programs in C, by pkg-config, static and shared, in C++, in Rust and in Python; emtrun and the command emt; the
+# manual pages, which must name every call, verb, option and kind of line. Then the archive of tools/release: its checksums, version and kit, and that making it twice gives the same bytes.
+# What needs an x86-64 processor or a missing package is left out, and said: on Arm programs in C are linked by the kit's linker, and Python asks the calls over a pipe (tools/bridge).
+# EMTRUN=PATH and LIBEMT=PATH take this program and this archive and make none. Closing line: N passed, M failed.
 set -u
 cd "$(dirname "$0")/.." || exit 1
 
@@ -30,15 +31,15 @@ check() { # what it is, what came, what was to come
 left_out() { echo "left out: $1"; }
 have() { command -v "$1" >/dev/null 2>&1; }
 
-for tool in rt $compiler rustc; do
+for tool in rt $compiler rustc python3; do
     have $tool || stop "tests/install.sh needs '$tool'"
 done
 [ -n "${EMTRUN:-}" ] || tools/emtrun >"$work/rt" 2>&1 || { tail -n 5 "$work/rt"; stop "emtrun is not made"; }
 [ -n "${LIBEMT:-}" ] || tools/libemt >"$work/rt" 2>&1 || { tail -n 5 "$work/rt"; stop "libemt.a is not made"; }
 emtrun=${EMTRUN:-target/bin/emtrun}
 libemt=${LIBEMT:-target/staticlib/libemt.a}
-kit="proved and compiled by: $(rt version)"
-[ -z "${EMTRUN:-}${LIBEMT:-}" ] || kit="the program or the archive was given, and not proved here"
+proved="proved and compiled by: $(rt version)"
+[ -z "${EMTRUN:-}${LIBEMT:-}" ] || proved="the program or the archive was given, and not proved here"
 version=$(sed -n 's/^#define EMT_VERSION "\(.*\)"$/\1/p' include/emt.h)
 
 # ---- into a folder with a file of somebody else's; twice, as for a later version; then the folder is moved
@@ -66,7 +67,7 @@ for member in $(ar t "$libemt"); do
     check "the archive's $member" $? 0
 done
 check "the archive's members" "$(ar t "$prefix/lib/libemt.a" | tr '\n' ' ')" "$(ar t "$libemt" | tr '\n' ' ')emt_words.o "
-check "the kit" "$(tail -n 1 "$prefix/share/doc/emt/VERSION")" "$kit"
+check "the kit" "$(tail -n 1 "$prefix/share/doc/emt/VERSION")" "$proved"
 run "$prefix/bin/emtrun" <studies/floating.txt >"$work/listing"
 tail -n "$(wc -l <studies/floating.end)" "$work/listing" | cmp -s - studies/floating.end
 check "the program's listing" $? 0
@@ -80,15 +81,29 @@ check "C, the archive" "$(run "$work/in_c")" "$fifty"
 compile "$work/told" tests/install/told.c "$prefix/lib/libemt.a" || stop "tests/install/told.c does not compile"
 check "C, the words" "$(run "$work/told")" "$refused"
 
+for library in "$prefix/lib/libemt.so" "$prefix/lib/libemt.so.${version%.*}" "$prefix/lib/libemt.so.$version"; do
+    check "$library is there" "$(test -s "$library"; echo $?)" 0
+done
+nm=nm
+[ "$(uname -m)" = x86_64 ] || for nm in x86_64-linux-gnu-nm llvm-nm; do ! have $nm || break; done
+$nm -D --defined-only "$prefix/lib/libemt.so" | sed -n 's/.* T //p' | grep -vxE '_init|_fini' | sort >"$work/exported"
+{ $nm --defined-only "$libemt" 2>/dev/null | sed -n 's/.* T //p'; printf '%s\n' emt_answer_name emt_answer_words emt_answer_place emt_version; } | sort | cmp -s - "$work/exported"
+check "the shared library has the archive's calls and the words" $? 0
+asks() { readelf -d "$1" | grep -c "libemt.so.${version%.*}]"; }
+
 if [ "$(uname -m)" != x86_64 ]; then
-    left_out "all that is linked by the system's own tools or loaded into a program, on $(uname -m)"
-else
-    for library in "$prefix/lib/libemt.so" "$prefix/lib/libemt.so.${version%.*}" "$prefix/lib/libemt.so.$version"; do
-        check "$library is there" "$(test -s "$library"; echo $?)" 0
+    lib=$kit/toolchain/lib
+    for source in examples/caller.c:"$fifty" tests/install/told.c:"$refused"; do
+        object "$work/shared.o" "${source%%:*}" || stop "${source%%:*} does not compile"
+        "$kit/toolchain/bin/ld.lld" -pie -dynamic-linker /lib64/ld-linux-x86-64.so.2 -o "$work/shared" "$lib"/{Scrt1,crti,crtbeginS}.o "$work/shared.o" -L "$prefix/lib" -lemt "$lib"/{libc.so.6,libc_nonshared.a,libgcc.a} \
+            "$lib"/{crtendS,crtn}.o || stop "${source%%:*} does not link to the shared library"
+        check "C, the shared library, ${source%%:*}" "$("${emulator[@]}" "${loader[0]}" --library-path "$lib:$prefix/lib" "$work/shared")" "${source#*:}"
+        check "it asks for the shared library, ${source%%:*}" "$(asks "$work/shared")" 1
     done
-    nm -D --defined-only "$prefix/lib/libemt.so" | sed -n 's/.* T //p' | sort >"$work/exported"
-    { nm --defined-only "$libemt" 2>/dev/null | sed -n 's/.* T //p'; printf '%s\n' emt_answer_name emt_answer_words emt_answer_place emt_version; } | sort | cmp -s - "$work/exported"
-    check "the shared library has the archive's calls and the words" $? 0
+    LIBEMT=$prefix/lib/libemt.a tools/bridge "$work/bridge/emt-bridge" || stop "the bridge is not made"
+    export EMT_BRIDGE=$work/bridge/emt-bridge
+    left_out "C++ and Rust from the installed library, and Python that loads it, on $(uname -m); Python asks the calls over a pipe"
+else
     linked=("-I$prefix/include" "-L$prefix/lib" -lemt)
     if have pkg-config; then
         export PKG_CONFIG_PATH=$prefix/lib/pkgconfig
@@ -101,7 +116,7 @@ else
     for source in examples/caller.c:"$fifty" tests/install/told.c:"$refused"; do
         gcc -std=c11 -Wall -Wextra -Werror -o "$work/shared" "${source%%:*}" "${linked[@]}" "-Wl,-rpath,$prefix/lib" || stop "${source%%:*} does not link to the shared library"
         check "C, the shared library, ${source%%:*}" "$("$work/shared")" "${source#*:}"
-        check "it asks for the shared library, ${source%%:*}" "$(readelf -d "$work/shared" | grep -c "libemt.so.${version%.*}]")" 1
+        check "it asks for the shared library, ${source%%:*}" "$(asks "$work/shared")" 1
     done
     if have g++; then
         g++ -x c++ -Wall -Wextra -Werror -o "$work/in_cpp" tests/install/told.c "${linked[@]}" "-Wl,-rpath,$prefix/lib" || stop "tests/install/told.c does not compile as C++"
@@ -113,24 +128,19 @@ else
         rustc -L "$prefix/lib" -l $kind=emt -C "link-arg=-Wl,-rpath,$prefix/lib" -o "$work/in_rust" examples/caller.rs || stop "examples/caller.rs does not compile"
         check "Rust, $kind" "$("$work/in_rust")" "$fifty"
     done
-    if have python3; then
-        check "Python" "$(python3 tests/install/caller.py "$prefix/lib/libemt.so")" "$fifty"
-    else
-        stop "tests/install.sh needs 'python3'"
-    fi
+    check "Python, the library alone" "$(python3 tests/install/caller.py "$prefix/lib/libemt.so")" "$fifty"
 fi
 
-# ---- the command emt and its module, where they are installed
-if [ -x "$prefix/bin/emt" ]; then
-    run "$prefix/bin/emtrun" <studies/energisation.txt >"$work/listing"
-    (cd / && "$prefix/bin/emt" run "$OLDPWD/studies/energisation.txt" 2>/dev/null) | cmp -s - "$work/listing"
-    check "emt run" $? 0
-    check "emt --version" "$(cd / && "$prefix/bin/emt" --version | cut -d' ' -f1-2)" "emt $version"
-    check "the module" "$(cd / && PYTHONPATH=$prefix/lib/python3/dist-packages python3 -c 'import emt, sys; print(emt.run(sys.argv[1]).v[5][-1])' "$OLDPWD/studies/energisation.txt")" \
-        "$(awk -F'\t' '$1 == "v" && $3 == 5 { last = $4 } END { print last }' "$work/listing")"
-else
-    left_out "the command emt: desk/emt and tools/emt are not here"
-fi
+# ---- the command emt and its module
+run "$prefix/bin/emtrun" <studies/energisation.txt >"$work/listing"
+(cd / && "$prefix/bin/emt" run "$OLDPWD/studies/energisation.txt" 2>/dev/null) | cmp -s - "$work/listing"
+check "emt run" $? 0
+check "emt --version" "$(cd / && "$prefix/bin/emt" --version | cut -d' ' -f1-2)" "emt $version"
+export PYTHONPATH=$prefix/lib/python3/dist-packages
+check "the module" "$(cd / && python3 -c 'import emt, sys; print(emt.run(sys.argv[1]).v[5][-1])' "$OLDPWD/studies/energisation.txt")" \
+    "$(awk -F'\t' '$1 == "v" && $3 == 5 { last = $4 } END { print last }' "$work/listing")"
+check "Python" "$(python3 examples/caller.py)" "$fifty
+$refused"
 
 # ---- manual pages: read without a warning, and nothing is missing from them
 page() { sed 's/\\-/-/g; s/\\f[A-Z]//g' "$prefix/share/man/man${1##*.}/$1"; }
@@ -151,11 +161,13 @@ for file in "$prefix"/share/man/man?/*; do
 done
 names emt.3 $(grep -hoE '\bemt_[a-z_]+\(' include/emt.h include/emt_words.h | tr -d '(' | grep -v _tables | sort -u)
 names emtrun.1 study R L C LINE SW SWT VS IS VC done stop bad $(sed -nE 's/^\| ([1-7]|1[4-7]) \| ([A-Z]+) \|.*/\2/p' README.md)
-if [ -x "$prefix/bin/emt" ]; then
-    verbs=$("$prefix/bin/emt" --help | sed -nE 's/^    ([a-z]+) .*/\1/p')
-    check "emt has verbs" "$([ "$(echo "$verbs" | wc -l)" -ge 6 ]; echo $?)" 0
-    names emt.1 $verbs $(for verb in "" $verbs; do "$prefix/bin/emt" $verb --help; done | grep -oE -e '--[a-z-]+' | sort -u)
-fi
+verbs=$("$prefix/bin/emt" --help | sed -nE 's/^    ([a-z]+) .*/\1/p')
+check "emt has verbs" "$([ "$(echo "$verbs" | wc -l)" -ge 6 ]; echo $?)" 0
+names emt.1 $verbs $(for verb in "" $verbs; do "$prefix/bin/emt" $verb --help; done | grep -oE -e '--[a-z-]+' | sort -u)
+# what a line of emt make may begin with, its options, and what the command looks for in the environment
+names emt.1 $(python3 -c 'from emt import friendly, kinds
+print(*friendly.HEADS, *(kind.word for kind in kinds.KINDS), *(field.option for kind in kinds.KINDS for field in kind.fields if field.option))') \
+    $(grep -ohE "environ(\.get\(|\[)'EMT_[A-Z]+" desk/emt/*.py | grep -oE 'EMT_[A-Z]+' | sort -u)
 
 # ---- a release
 for time in one two; do
@@ -172,8 +184,11 @@ cd "$work/unpacked/${archive%.tar.gz}" || stop "the archive has no folder ${arch
 sha256sum --status -c SHA256SUMS
 check "every file's checksum" $? 0
 check "every file has a checksum" "$(find . -type f ! -name SHA256SUMS | wc -l)" "$(wc -l <SHA256SUMS)"
-check "the release's kit" "$(tail -n 1 share/doc/emt/VERSION)" "$kit"
+check "the release's kit" "$(tail -n 1 share/doc/emt/VERSION)" "$proved"
 check "the release's version" "$(head -n 1 share/doc/emt/VERSION | cut -d, -f1)" "Zanguremi $version"
+for file in bin/emt lib/libemt.so lib/libemt.a include/emt.h share/man/man1/emt.1 lib/python3/dist-packages/emt/__init__.py; do
+    check "the release has $file" "$([ -s "$file" ]; echo $?)" 0
+done
 check "the release's program" "$(run bin/emtrun <share/doc/emt/studies/bank.txt | tail -n 1)" "$(printf 'done\t4000')"
 
 echo "$passed passed, $failed failed"

@@ -21,6 +21,7 @@ NAME = re.compile(r'[A-Za-z_][A-Za-z0-9_.]*')
 TAKEN = re.compile(r'[vi][0-9]+(to)?|' + '|'.join(GROUND), re.IGNORECASE)  # names that `emt plot` would read as something else
 UNIT = re.compile('[pnuµμmkMG]?(' + '|'.join(UNITS) + ')')
 HEAD = {'step': TIME, 'time': TIME, 'limit': CURRENT}
+HEADS = ('title', 'step', 'time', 'steps', 'limit')
 
 # values and options in SI units, by the fields' places in the kind's row
 Element = namedtuple('Element', 'line name kind nodes values')
@@ -134,11 +135,11 @@ def understood(lines):
             name, words = a_name(words[0][:-1], number, 'branch'), words[1:]
         if words and words[0].upper() in BY_WORD:
             text.elements.append(element(number, name, words))
-        elif words and not name and words[0].lower() in ('title', 'step', 'time', 'steps', 'limit'):
+        elif words and not name and words[0].lower() in HEADS:
             head(text, number, words)
         else:
-            raise NotUnderstood(number, (f"'{words[0]}'" if words else 'the line') + ' is not understood: a line begins with title, step, time, steps, limit, '
-                                + ', '.join(kind.word for kind in KINDS) + ', or with a name and a colon')
+            raise NotUnderstood(number, (f"'{words[0]}'" if words else 'the line') + ' is not understood: a line begins with '
+                                + ', '.join(HEADS + tuple(kind.word for kind in KINDS)) + ', or with a name and a colon')
     return complete(text, len(lines))
 
 
