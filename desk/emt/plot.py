@@ -3,6 +3,7 @@ import os
 import shutil
 import subprocess
 
+from . import labels
 from .axes import Axis, peak, thinned
 from .quantities import CURRENT, TIME, VOLTAGE
 
@@ -10,6 +11,8 @@ POINTS_MOST = 6000  # of one curve in a picture; more cannot be told apart
 TERMINALS = {'.svg': "svg size {w},{h} font ',14' background '#ffffff'", '.png': "pngcairo size {w},{h} font ',12'",
              '.pdf': "pdfcairo size {wcm}cm,{hcm}cm font ',11'"}
 LABELS_MOST = 4
+LABEL_POINTS = 500   # of a curve, to keep labels off
+LOWEST, HIGHEST = 0.12, 0.88  # where curves lie in a panel with labels, about
 COLOURS = ('#0060a8', '#c8391e', '#1b8a4b', '#8a4fb0', '#b07a00', '#00868a', '#a83268', '#4d4d4d')
 
 
@@ -48,22 +51,30 @@ class Panel:
     def titles(self, time, marked):
         return [curve.label + (f' ({self.words(place, time)})' if marked and not self.labelled else '') for place, (curve, _) in enumerate(self.curves)]
 
-    def marks(self, time):
-        """A point at each peak, with a label where there are few; labels of peaks that are close stand above one another. And how many stand so at most."""
-        lines, placed, most = [], [], 0
+    def labels(self, time):
+        """Where the words of each peak stand, of all curves' points as shares of the panel."""
         span = max(1, len(self.window) - 1)
-        height = max(abs(value) for value, _ in self.peaks) or 1
+        ends = [(min(part), max(part)) for part in (values[self.window.first - 1:self.window.last] for _, values in self.curves)]
+        low, high = min(low for low, _ in ends), max(high for _, high in ends)
+
+        def share(step, value):
+            return (step - self.window.first) / span, LOWEST + (HIGHEST - LOWEST) * ((value - low) / (high - low) if high > low else 0.5)
+
+        points = [point for _, values in self.curves
+                  for point in labels.filled([share(step, values[step - 1]) for step in thinned(values, self.window, LABEL_POINTS)], labels.LINE / 2)]
+        return labels.placed([(*share(step, value), len(self.words(place, time)), value >= 0) for place, (value, step) in enumerate(self.peaks)], points)
+
+    def marks(self, time):
+        """A point at each peak, with a label where there are few. And how far labels stand above and below the curves, in shares of these' height."""
+        lines, placed = [], self.labels(time) if self.labelled else []
         for place, (value, step) in enumerate(self.peaks):
-            near = sum(abs(step - other) < 0.3 * span and abs(value - at) < 0.15 * height for at, other in placed)
-            placed.append((value, step))
-            most = max(most, near)
-            side, shift = ('right', -1) if (step - self.window.first) / span > 0.7 else ('left', 1)
-            up = (0.8 + 1.1 * near) * (1 if value >= 0 else -1)
+            side, up = (placed[place].side, placed[place].up) if placed else ('left', 0)
             colour = COLOURS[place % len(COLOURS)]
-            words = quoted(self.words(place, time) if self.labelled else '')
+            words = quoted(self.words(place, time) if placed else '')
             lines.append(f"set label {place + 1} {words} at {time.written(step * self.result.network.step)},{self.axis.written(value)} {side} "
-                         f"offset {shift},{up:.1f} textcolor rgb '{colour}' point pt 7 ps 0.5 lc rgb '{colour}' noenhanced front")
-        return lines, most
+                         f"offset {-1 if side == 'right' else 1},{up:.1f} textcolor rgb '{colour}' point pt 7 ps 0.5 lc rgb '{colour}' noenhanced front boxed")
+        above, below = max([one.high - HIGHEST for one in placed], default=0), max([LOWEST - one.low for one in placed], default=0)
+        return lines, max(0, above) / (HIGHEST - LOWEST), max(0, below) / (HIGHEST - LOWEST)
 
 
 def stroke(place):
@@ -73,12 +84,11 @@ def stroke(place):
 
 def drawn(panel, number, time, marked):
     """The commands of one panel, its blocks of data being $pNcM."""
-    marks, most = panel.marks(time) if marked else ([], 0)
+    marks, above, below = panel.marks(time) if marked else ([], 0, 0)
     curves = ', '.join(f'$p{number}c{place} using 1:2 with lines lw 1.6 {stroke(place)} title {quoted(title)} noenhanced'
                        for place, title in enumerate(panel.titles(time, marked)))
-    room = 0.1 + 0.08 * most if marked and panel.labelled else 0
-    above, below = (0.05 + room * any((value >= 0) == up for value, _ in panel.peaks) for up in (True, False))
-    return [f'set ylabel {quoted(panel.axis.title)} noenhanced', f'set offsets 0, 0, graph {above:.2f}, graph {below:.2f}', 'unset label', *marks, f'plot {curves}']
+    return [f'set ylabel {quoted(panel.axis.title)} noenhanced', f'set offsets 0, 0, graph {0.05 + above:.2f}, graph {0.05 + below:.2f}', 'unset label', *marks,
+            f'plot {curves}']
 
 
 def script(panels, time, window, step, title, path, size, marked):
@@ -89,9 +99,11 @@ def script(panels, time, window, step, title, path, size, marked):
         raise NoPicture(f'a picture ends in {", ".join(TERMINALS)}, not in {ending or "nothing"}')
     terminal = TERMINALS[ending].format(w=width, h=height, wcm=round(width / 50, 2), hcm=round(height / 50, 2))
     widest = max(len(one) for panel in panels for one in panel.titles(time, marked))
-    ends = [time.written(one * step) for one in window] if len(window) > 1 else []
+    first = 0 if window.first == 1 else window.first  # a run begins at rest, one step before its first
+    ends = [time.written(one * step) for one in (first, window.last)] if len(window) > 1 else []
     lines = ['set encoding utf8', f'set terminal {terminal}', f'set output {quoted(path)}', 'set grid lt 1 lc rgb "#d4d4d4"', 'set key outside right top',
-             f'set xlabel {quoted(time.title)}', f'set lmargin 12; set rmargin {11 + widest * 7 // 8}', f'set xrange [{":".join(ends)}]']
+             f'set xlabel {quoted(time.title)}', f'set lmargin 12; set rmargin {11 + widest * 7 // 8}',
+             'set style textbox opaque noborder fillcolor rgb "#ffffff" margins 0.4,0.4', f'set xrange [{":".join(ends)}]']
     for number, panel in enumerate(panels):
         lines += [f'$p{number}c{place} << EOD\n{block}\nEOD' for place, block in enumerate(panel.data(time))]
     lines.append(f'set multiplot layout {len(panels)},1' + (f' title {quoted(title)} noenhanced' if title else ''))

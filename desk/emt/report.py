@@ -41,10 +41,11 @@ def own(name):
         return file.read()
 
 
-def table(head, rows, numbers=()):
-    """An HTML table of texts; numbers are the columns set to the right."""
+def table(head, rows, numbers=(), tight=()):
+    """An HTML table of texts; numbers are the columns set to the right, tight those that stay on one line."""
     def cells(tag, texts):
-        return ''.join(f'<{tag}{" class=number" if place in numbers else ""}>{escape(text)}</{tag}>' for place, text in enumerate(texts))
+        classes = {place: ' class=number' for place in numbers} | {place: ' class=tight' for place in tight}
+        return ''.join(f'<{tag}{classes.get(place, "")}>{escape(text)}</{tag}>' for place, text in enumerate(texts))
     return '<table>' + (f'<tr>{cells("th", head)}</tr>' if head else '') + ''.join(f'<tr>{cells("td", row)}</tr>' for row in rows) + '</table>'
 
 
@@ -157,7 +158,7 @@ def of_run(result, names, path, texts):
         f'<h1>{escape(title)}</h1><p class="from">{escape(path)}</p>',
         ending('stopped' if result.stop else 'done', stops.ended(result, names)),
         '<h2>What was understood</h2>', ''.join(f'<p>{escape(line)}</p>' for line in understood.head(network)),
-        table(('branch', '', ''), understood.rows(network, names, result)), listed(watch.step_facts(network, names, result) + rounded(names)),
+        table(('branch', 'what and where', 'value'), understood.rows(network, names, result), tight=(0, 1)), listed(watch.step_facts(network, names, result) + rounded(names)),
         '<h2>What to watch</h2>', listed(watch.watch(network, names, result)),
         '<h2>Waveforms</h2>', waveforms(result, data),
         '<h2>Peaks</h2>', peaks(result, names) if result.peaks else '<p>None.</p>',

@@ -179,6 +179,14 @@ class Seen(unittest.TestCase):
             self.assertAlmostEqual(back[1] - back[0], span, delta=0.001 * span)
         self.assertEqual(browser.problems(), [])
 
+    def test_places_stay_on_one_line(self):
+        """Beside the long words of a breaker 'C 3–ground' is not broken in two."""
+        self.assertEqual(self.open(os.path.join(STUDIES, 'breaker.txt')), 0)
+        lines = self.browser.tell('Array.from(document.querySelectorAll("td.tight")).map((cell) => { const all = document.createRange(); all.selectNodeContents(cell); '
+                                  'return new Set(Array.from(all.getClientRects()).map((one) => one.top)).size; })')
+        self.assertEqual((len(lines), max(lines)), (16, 1))
+        self.assertIn('it parts at the first current zero from step 4,500 on, here after step 4,995 (9.99 ms)', self.browser.tell('document.body.innerText'))
+
     def test_choosing_curves(self):
         browser = self.browser
         self.open(os.path.join(STUDIES, 'energisation.txt'))

@@ -9,7 +9,7 @@ from decimal import Decimal
 from common import COUNT, STUDIES, TOP, WORK, dice, emt as command, random_study, saved, started, studies, text
 
 import emt
-from emt import clone, curves, library, names, places, plot
+from emt import clone, curves, labels, library, names, places, plot
 from emt.axes import Window, peak, thinned
 
 EMTRUN = os.environ['EMTRUN']
@@ -150,6 +150,35 @@ class Curves(unittest.TestCase):
         self.assertEqual(thinned(values, Window(5, 60), 100), list(range(5, 61)))
 
 
+class Labels(unittest.TestCase):
+    """Words beside peaks: in the frame, off one another, and off the curves where there is room."""
+
+    def covered(self, label, points):
+        return [point for point in points if label.left <= point[0] <= label.right and label.low <= point[1] <= label.high]
+
+    def test_off_a_curve(self):
+        """A flat curve through the peak's usual place: the words go elsewhere."""
+        points = [(part / 100, 0.56) for part in range(101)]
+        usual, label = next(labels.tried(0.3, 0.5, 20)), labels.placed([(0.3, 0.5, 20, True)], points)[0]
+        self.assertNotEqual(self.covered(usual, points), [])
+        self.assertEqual((self.covered(label, points), label.side), ([], 'left'))
+
+    def test_by_dice(self):
+        roll = dice(12)
+        for _ in range(COUNT):
+            peaks = [(roll.random(), roll.uniform(0.1, 0.9), roll.randint(8, 24), roll.random() < 0.5) for _ in range(roll.randint(1, plot.LABELS_MOST))]
+            found = labels.placed(peaks, [])
+            for place, one in enumerate(found):
+                self.assertTrue(0 <= one.left and one.right <= 1, (peaks, one))
+                self.assertTrue(all(labels.apart(one, other) for other in found[:place]), peaks)
+
+    def test_a_steep_front(self):
+        """Points that are far apart in height are joined: a label between them is covered."""
+        points = labels.filled([(0, 0), (0.5, 0), (0.5, 1), (1, 1)], 0.05)
+        self.assertLessEqual(max(abs(after[1] - before[1]) for before, after in zip(points, points[1:])), 0.05 + 1e-9)
+        self.assertEqual((points[0], points[-1]), ((0, 0), (1, 1)))
+
+
 @unittest.skipUnless(shutil.which('gnuplot'), 'pictures: gnuplot is not installed (apt-get install gnuplot-nox)')
 class Plot(unittest.TestCase):
     ENERGISATION = os.path.join(STUDIES, 'energisation.txt')
@@ -172,6 +201,17 @@ class Plot(unittest.TestCase):
         for piece in ('voltage, kV', 'current, kA', 'time, ms', 'open end', 'v3-v4', '661.13 kV at 4.09 ms', '281.7 kV at 0.01 ms', '-1.0992 kA at 5.18 ms', 'a_b^c'):
             self.assertIn(piece, words)
         self.assertIn('open end: 661.127 kV at 4.09 ms', out)
+
+    def test_from_rest(self):
+        """A run is drawn from the time 0 on, a window from its first step on; words have a ground of their own, so that a curve behind them does not cross them out."""
+        result = emt.run(self.ENERGISATION)
+        for start, ends in ((1, '[0:12]'), (101, '[1.01:12]')):
+            window = Window(start, result.steps)
+            panel = plot.Panel(result, [curves.curve('v5', result.network, NONE)], window, None)
+            told = plot.script([panel], plot.Axis.of(plot.TIME, 12 * 10 ** 6), window, result.network.step, '', 'x.svg', None, True)
+            self.assertIn(f'set xrange {ends}', told)
+            self.assertIn('set style textbox opaque', told)
+            self.assertRegex(told, "set label 1 '661.13 kV at 4.09 ms' .* boxed")
 
     def test_other_kinds(self):
         self.assertTrue(self.drawn(self.ENERGISATION, 'v5', ending='.png')[0].startswith(b'\x89PNG'))
