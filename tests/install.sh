@@ -186,7 +186,7 @@ check "every file's checksum" $? 0
 check "every file has a checksum" "$(find . -type f ! -name SHA256SUMS | wc -l)" "$(wc -l <SHA256SUMS)"
 check "the release's kit" "$(tail -n 1 share/doc/emt/VERSION)" "$proved"
 check "the release's version" "$(head -n 1 share/doc/emt/VERSION | cut -d, -f1)" "Zanguremi $version"
-for file in bin/emt lib/libemt.so lib/libemt.a include/emt.h share/man/man1/emt.1 lib/python3/dist-packages/emt/__init__.py; do
+for file in bin/emt lib/libemt.so lib/libemt.a include/emt.h share/man/man1/emt.1 lib/python3/dist-packages/emt/__init__.py share/doc/emt/docs/DESK.md; do
     check "the release has $file" "$([ -s "$file" ]; echo $?)" 0
 done
 check "the release's program" "$(run bin/emtrun <share/doc/emt/studies/bank.txt | tail -n 1)" "$(printf 'done\t4000')"

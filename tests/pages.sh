@@ -45,7 +45,7 @@ for page in README.md docs/MODELLING.md; do
         check "$name: it ends in '$last'" $?
     done
 done
-[ "$passed" -ge 24 ]
+[ "$passed" -ge 27 ]
 check "only $passed comparisons" $?
 
 for page in README.md CONTRIBUTING.md docs/*.md studies/*.md; do

@@ -43,7 +43,7 @@ def value(line, text):
             return line.fault(place, wrong, small_resistance(field, line.number_at(place)))
     if line.kind.word in SWITCHES and line.number_at(4) >= line.number_at(5):
         return line.fault(5, f'it opens at step {count(line.number_at(5))}, not after it closes at step {count(line.number_at(4))}',
-                          'the first open step is above the first closed one; 1000001 never opens')
+                          f'the {line.kind.fields[4].name} is above the {line.kind.fields[3].name}; 1000001 never opens')
     return conducting(line, text) if line.kind.word in ('L', 'C') else None
 
 

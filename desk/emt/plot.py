@@ -2,6 +2,7 @@
 import os
 import shutil
 import subprocess
+import tempfile
 
 from . import labels
 from .axes import Axis, peak, thinned
@@ -112,8 +113,8 @@ def script(panels, time, window, step, title, path, size, marked):
     return '\n'.join(lines + ['unset multiplot', ''])
 
 
-def picture(result, curves, window, path, title='', bases=None, size=None, marked=True):
-    """Draws the curves into a file; bases: per unit of these, by quantity."""
+def picture(result, curves, window, ending, title='', bases=None, size=None, marked=True):
+    """The bytes of a picture of the curves, of the kind that its ending says; bases: per unit of these, by quantity. And its panels and the axis of time."""
     if not shutil.which('gnuplot'):
         raise NoPicture('pictures need gnuplot: apt-get install gnuplot-nox (tools/setup does it)')
     if not len(window):
@@ -121,7 +122,10 @@ def picture(result, curves, window, path, title='', bases=None, size=None, marke
     panels = [Panel(result, chosen, window, (bases or {}).get(quantity)) for quantity in (VOLTAGE, CURRENT)
               for chosen in [[curve for curve in curves if curve.quantity is quantity]] if chosen]
     time = Axis.of(TIME, window.last * result.network.step)
-    told = subprocess.run(['gnuplot'], input=script(panels, time, window, result.network.step, title, path, size, marked), text=True, capture_output=True)
-    if told.returncode or not os.path.exists(path):
-        raise NoPicture(f'gnuplot: {told.stderr.strip()}')
-    return panels, time
+    with tempfile.TemporaryDirectory() as folder:
+        path = os.path.join(folder, 'picture' + ending)
+        told = subprocess.run(['gnuplot'], input=script(panels, time, window, result.network.step, title, path, size, marked), text=True, capture_output=True)
+        if told.returncode or not os.path.exists(path):
+            raise NoPicture(f'gnuplot: {told.stderr.strip()}')
+        with open(path, 'rb') as file:
+            return file.read(), panels, time

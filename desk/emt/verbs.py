@@ -175,7 +175,9 @@ def plotted(asked):
     title = study.names.title if asked.title is None else asked.title
     if result.stop:
         title += f'{" – " if title else ""}stopped before step {result.stop.step} by {result.stop.name}'
-    panels, time = plot.picture(result, chosen, window_of(asked, result), path, title, bases_of(asked), asked.size, not asked.no_peaks)
+    ending = os.path.splitext(path)[1].lower()
+    drawn, panels, time = plot.picture(result, chosen, window_of(asked, result), ending, title, bases_of(asked), asked.size, not asked.no_peaks)
+    write(path, drawn)
     print(path)
     for panel in panels:
         for (curve, _), (value, step) in zip(panel.curves, panel.peaks):

@@ -246,6 +246,8 @@ class Plot(unittest.TestCase):
             told = command('plot', self.ENERGISATION, *(words if '-o' in words else words + ('-o', 'x.svg')))
             self.assertEqual(told[0], 3, words)
             self.assertIn(piece, told[2])
+        told = command('plot', self.ENERGISATION, 'v1', '-o', '/no/such/folder/x.svg')
+        self.assertEqual((told[0], told[2]), (3, 'emt: /no/such/folder/x.svg: No such file or directory\n'))
         self.assertIn('no full step was taken', command('plot', saved('none.txt', text('study 1 1 0\nIS 1 1 1 0')), '-o', 'x.svg')[2])
 
     def test_options_anywhere(self):
