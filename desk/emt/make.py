@@ -176,19 +176,21 @@ class Maker:
             raise NotUnderstood(line, f'{refused.name} ({refused.number}): {words}') from None
 
     def made(self):
-        body, self.lines, branches = [], [self.friendly.step[0]], {}
+        body, self.lines, branches, sources = [], [self.friendly.step[0]], {}, {}
         self.steps_taken = self.steps()
         for one in self.friendly.elements:
             rows = self.rows(one)
             if one.name and one.kind.branch:
                 before = sum(BY_WORD[row.split('\t')[0]].branch for row in body)
                 branches.update({before + place: one.name for place in range(1, len(rows) + 1)})
+            elif one.name:
+                sources.update({len(self.lines) + place: one.name for place in range(1, len(rows) + 1)})
             body += rows
             self.lines += [one.line] * len(rows)
         text = self.study(self.limit(body), body)
         self.read(text, body)
         nodes = {number: word for word, number in self.numbers.items() if number and not word.isdigit()}
-        return Made(text, Names(self.friendly.title, nodes, branches), self.roundings, self.notes, self.lines)
+        return Made(text, Names(self.friendly.title, nodes, branches, sources), self.roundings, self.notes, self.lines)
 
 
 def make(friendly):

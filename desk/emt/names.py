@@ -4,10 +4,11 @@ import os
 
 
 class Names:
-    """.title, .nodes and .branches: name by number. Branches side by side share a name. .rounded: what was rounded when the study was made, in words."""
+    """.title, .nodes and .branches: name by number; .sources: by the line of the study. Branches side by side share a name. .rounded: what was rounded when the
+    study was made, in words."""
 
-    def __init__(self, title='', nodes=None, branches=None):
-        self.title, self.nodes, self.branches, self.rounded = title, nodes or {}, branches or {}, []
+    def __init__(self, title='', nodes=None, branches=None, sources=None):
+        self.title, self.nodes, self.branches, self.sources, self.rounded = title, nodes or {}, branches or {}, sources or {}, []
 
     def node(self, node):
         return 'ground' if node == 0 else self.nodes.get(node, str(node))
@@ -15,7 +16,8 @@ class Names:
     def place(self, row):
         """'LINE 2–3', and its name where it has one."""
         ends = '–'.join(map(self.node, row.ends)) if row.kind.branch else self.node(row.ends[0])
-        return f'{row.word} {ends}' + (f' ({self.branches[row.branch]})' if row.branch in self.branches else '')
+        name = self.branches.get(row.branch) if row.kind.branch else self.sources.get(row.line)
+        return f'{row.word} {ends}' + (f' ({name})' if name else '')
 
     def branch(self, row):
         """As place, and by its number too where it is a branch."""
@@ -46,6 +48,7 @@ def written(names, text, maker, roundings):
     lines += [f'title\t{names.title}'] if names.title else []
     lines += [f'node\t{number}\t{name}' for number, name in sorted(names.nodes.items())]
     lines += [f'branch\t{number}\t{name}' for number, name in sorted(names.branches.items())]
+    lines += [f'source\t{line}\t{name}' for line, name in sorted(names.sources.items())]
     return '\n'.join(lines + [f'rounded\t{words}' for words in roundings]) + '\n'
 
 
@@ -84,6 +87,6 @@ def read(path):
                 names.title = fields[1]
             elif fields[0] == 'rounded':
                 names.rounded.append(fields[1])
-            elif fields[0] in ('node', 'branch'):
-                (names.nodes if fields[0] == 'node' else names.branches)[int(fields[1])] = fields[2]
+            elif fields[0] in ('node', 'branch', 'source'):
+                {'node': names.nodes, 'branch': names.branches, 'source': names.sources}[fields[0]][int(fields[1])] = fields[2]
     return names, of_text

@@ -108,7 +108,9 @@ class ReadBack(unittest.TestCase):
         for row in own:
             self.assertEqual((row.word, self.lines[row.line - 1]), (word, line))
             self.assertEqual([self.called(end) for end in row.ends[:len(nodes)]], [{'ground': '0', 'gnd': '0'}.get(node, node) for node in nodes])
-            self.assertEqual(self.made.names.branches.get(row.branch, ''), name if row.branch else '')
+            called = self.made.names.branches.get(row.branch, '') if row.branch else self.made.names.sources.get(row.line, '')
+            self.assertEqual(called, name)
+            self.assertIn(f'({name})' if name else row.word, self.made.names.place(row))
         unit = {'L': 'H', 'C': 'F', 'VS': 'V', 'VC': 'V', 'IS': 'A'}.get(word, 'Ω')
         self.value(line, unit, values[0], [row.value for row in own], word in ('C', 'IS'))
         if word == 'LINE':
@@ -236,7 +238,7 @@ class Rules(unittest.TestCase):
 
 
 class Command(unittest.TestCase):
-    TEXT = 'title A bank\nstep 1us\ntime 2ms\nVS bus 93.9kV\nfeeder: L bus cap 0.5mH\nbank: C cap ground 13.37uF\nR cap 0 1Mohm\n'
+    TEXT = 'title A bank\nstep 1us\ntime 2ms\nsupply: VS bus 93.9kV\nfeeder: L bus cap 0.5mH\nbank: C cap ground 13.37uF\nR cap 0 1Mohm\n'
 
     def test_files(self):
         saved('bank.emt', self.TEXT)
@@ -246,10 +248,11 @@ class Command(unittest.TestCase):
             self.assertIn(piece, out.decode())
         with open(os.path.join(WORK, 'bank.names'), encoding='utf-8') as file:
             names = file.read()
-        for piece in ('title\tA bank\n', 'node\t1\tbus\n', 'branch\t2\tbank\n', 'branch\t28\tbank\n', 'rounded\tline 6, bank'):
+        for piece in ('title\tA bank\n', 'node\t1\tbus\n', 'source\t2\tsupply\n', 'branch\t2\tbank\n', 'branch\t28\tbank\n', 'rounded\tline 6, bank'):
             self.assertIn(piece, names)
         _, out, err = command('check', 'bank')
         self.assertIn('2–28  C cap–ground (bank)  27 side by side, each 495.185 nF', out.decode())
+        self.assertIn('VS bus (supply)', out.decode())
         self.assertIn('rounded when the study was made: line 6, bank: 13.37 µF asked', out.decode())
         self.assertEqual(err, '')
         self.assertEqual(command('make', 'bank.emt')[0], 0)  # what was made may be made again
