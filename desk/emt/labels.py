@@ -1,44 +1,48 @@
-"""Where the labels of a picture's peaks stand: beside their points, off the curves and off one another as far as there is room.
+"""Where the labels of a picture's peaks stand: beside their points, in the frame, off one another and off the curves as far as there is room.
 
-Everything is in shares of the panel: x and y from 0 to 1. A label begins behind its point ('left', as gnuplot calls the side that is fixed) or ends before it ('right'), above or
+Everything is in shares of the panel, x and y from 0 to 1. A label begins behind its point ('left', as gnuplot calls the side that is fixed) or ends before it ('right'), above or
 below it by some lines of text.
 """
 from collections import namedtuple
 
-CHARACTER, LINE = 0.0135, 0.07  # width of a character and height of a line of text
-LEVELS = 4                      # so many lines up or down are tried
+LEVELS = 4  # so many lines up or down are tried
 
+# how much of the panel a character is wide and a line of text is high
+Type = namedtuple('Type', 'character line')
+# of a peak its point, the length of its words, and whether they are usually above it
+Peak = namedtuple('Peak', 'x y length above')
 # the side that is fixed, lines up (negative: down), and the box that the words fill
 Label = namedtuple('Label', 'side up left right low high')
 
 
-def tried(x, y, length):
-    """The places for words of a length beside a point, the usual ones first."""
-    width = length * CHARACTER
+def tried(peak, type_):
+    """The places for a peak's words, the usual ones first."""
+    width = peak.length * type_.character
     for level in range(LEVELS):
-        for way in (1, -1):
+        for way in (1, -1) if peak.above else (-1, 1):
             for side in ('left', 'right'):
                 up = way * (0.8 + 1.1 * level)
-                left = x + CHARACTER if side == 'left' else x - CHARACTER - width
-                yield Label(side, up, left, left + width, y + up * LINE - LINE / 2, y + up * LINE + LINE / 2)
+                left = peak.x + type_.character if side == 'left' else peak.x - type_.character - width
+                middle = peak.y + up * type_.line
+                yield Label(side, up, left, left + width, middle - type_.line / 2, middle + type_.line / 2)
 
 
 def apart(one, other):
     return one.right < other.left or other.right < one.left or one.high < other.low or other.high < one.low
 
 
-def cost(label, order, above, others, points):
-    """What speaks against a place: to pass the frame's sides, to cover another label, to cover curves, to lie on the point's far side, and the later ones."""
-    outside = label.left < 0 or label.right > 1
+def cost(label, others, points):
+    """What speaks against a place: to pass the frame, to cover another label, to cover curves."""
+    outside = label.left < 0 or label.right > 1 or label.low < 0 or label.high > 1
     covered = sum(label.left <= x <= label.right and label.low <= y <= label.high for x, y in points)
-    return 10000 * outside + 2000 * sum(not apart(label, other) for other in others) + 10 * covered + 6 * ((label.up > 0) != above) + order
+    return 10000 * outside + 2000 * sum(not apart(label, other) for other in others) + 10 * covered
 
 
-def placed(peaks, points):
-    """The labels of peaks, each x, y, the length of its words and whether it is usually above its point; points are those of all curves."""
+def placed(peaks, points, type_):
+    """The labels of peaks; points are those of all curves. Of places that are as good the first is taken."""
     found = []
-    for x, y, length, above in peaks:
-        found.append(min(enumerate(tried(x, y, length)), key=lambda one: cost(one[1], one[0], above, found, points))[1])
+    for peak in peaks:
+        found.append(min(enumerate(tried(peak, type_)), key=lambda one: cost(one[1], found, points) + 2 * one[0])[1])
     return found
 
 

@@ -3,6 +3,7 @@ import os
 import shutil
 import subprocess
 import tempfile
+from math import ceil, floor
 
 from . import labels
 from .axes import Axis, peak, thinned
@@ -13,7 +14,8 @@ TERMINALS = {'.svg': "svg size {w},{h} font ',14' background '#ffffff'", '.png':
              '.pdf': "pdfcairo size {wcm}cm,{hcm}cm font ',11'"}
 LABELS_MOST = 4
 LABEL_POINTS = 500   # of a curve, to keep labels off
-LOWEST, HIGHEST = 0.12, 0.88  # where curves lie in a panel with labels, about
+MARGIN, LABELS_SHARE = 0.06, 0.25  # of a panel's height: free above and below curves, and for labels on each side at most
+LETTER, LINE, MARGIN_LETTER, AROUND = 8.5, 21, 10, 88  # in a picture's pixels: a letter's width, a line's height, a margin's letter, and what lies around a panel's frame
 COLOURS = ('#0060a8', '#c8391e', '#1b8a4b', '#8a4fb0', '#b07a00', '#00868a', '#a83268', '#4d4d4d')
 
 
@@ -52,30 +54,45 @@ class Panel:
     def titles(self, time, marked):
         return [curve.label + (f' ({self.words(place, time)})' if marked and not self.labelled else '') for place, (curve, _) in enumerate(self.curves)]
 
-    def labels(self, time):
-        """Where the words of each peak stand, of all curves' points as shares of the panel."""
-        span = max(1, len(self.window) - 1)
-        ends = [(min(part), max(part)) for part in (values[self.window.first - 1:self.window.last] for _, values in self.curves)]
-        low, high = min(low for low, _ in ends), max(high for _, high in ends)
+    def scale(self, type_=None):
+        """The two ends of the axis of values, in the listing's unit: room for the curves, and with labels of a type for those that usually stand above and below."""
+        parts = [values[self.window.first - 1:self.window.last] for _, values in self.curves]
+        low, high = min(map(min, parts)), max(map(max, parts))
+        if low == high:  # a tenth to both sides, or one unit
+            room = abs(high) // 10 or 10 ** (self.axis.prefix - self.axis.quantity.exponent)
+            return low - room, high + room
+        ups = [value >= 0 for value, _ in self.peaks] if type_ and self.labelled else []
+        above, below = (MARGIN + min(LABELS_SHARE, type_.line * ups.count(way)) if ups else MARGIN for way in (True, False))
+        height = (high - low) / (1 - above - below)
+        return floor(low - below * height), ceil(high + above * height)
 
-        def share(step, value):
-            return (step - self.window.first) / span, LOWEST + (HIGHEST - LOWEST) * ((value - low) / (high - low) if high > low else 0.5)
+    def labels(self, time, type_):
+        """Where the words of each peak stand."""
+        first, (bottom, top) = started(self.window), self.scale(type_)
+        span = max(1, self.window.last - first)
 
-        points = [point for _, values in self.curves
-                  for point in labels.filled([share(step, values[step - 1]) for step in thinned(values, self.window, LABEL_POINTS)], labels.LINE / 2)]
-        return labels.placed([(*share(step, value), len(self.words(place, time)), value >= 0) for place, (value, step) in enumerate(self.peaks)], points)
+        def point(step, value):
+            return (step - first) / span, (value - bottom) / (top - bottom)
 
-    def marks(self, time):
-        """A point at each peak, with a label where there are few. And how far labels stand above and below the curves, in shares of these' height."""
-        lines, placed = [], self.labels(time) if self.labelled else []
+        points = [one for _, values in self.curves
+                  for one in labels.filled([point(step, values[step - 1]) for step in thinned(values, self.window, LABEL_POINTS)], type_.line / 2)]
+        peaks = [labels.Peak(*point(step, value), len(self.words(place, time)), value >= 0) for place, (value, step) in enumerate(self.peaks)]
+        return labels.placed(peaks, points, type_)
+
+    def marks(self, time, type_):
+        """A point at each peak, with a label where there are few."""
+        placed = self.labels(time, type_) if self.labelled else []
         for place, (value, step) in enumerate(self.peaks):
             side, up = (placed[place].side, placed[place].up) if placed else ('left', 0)
             colour = COLOURS[place % len(COLOURS)]
             words = quoted(self.words(place, time) if placed else '')
-            lines.append(f"set label {place + 1} {words} at {time.written(step * self.result.network.step)},{self.axis.written(value)} {side} "
-                         f"offset {-1 if side == 'right' else 1},{up:.1f} textcolor rgb '{colour}' point pt 7 ps 0.5 lc rgb '{colour}' noenhanced front boxed")
-        above, below = max([one.high - HIGHEST for one in placed], default=0), max([LOWEST - one.low for one in placed], default=0)
-        return lines, max(0, above) / (HIGHEST - LOWEST), max(0, below) / (HIGHEST - LOWEST)
+            yield (f"set label {place + 1} {words} at {time.written(step * self.result.network.step)},{self.axis.written(value)} {side} "
+                   f"offset {-1 if side == 'right' else 1},{up:.1f} textcolor rgb '{colour}' point pt 7 ps 0.5 lc rgb '{colour}' noenhanced front boxed")
+
+
+def started(window):
+    """Where the axis of time begins: a run at rest, one step before its first."""
+    return 0 if window.first == 1 else window.first
 
 
 def stroke(place):
@@ -83,13 +100,12 @@ def stroke(place):
     return f"lc rgb '{COLOURS[place % len(COLOURS)]}'" + (' dt 2' if place // len(COLOURS) % 2 else '')
 
 
-def drawn(panel, number, time, marked):
+def drawn(panel, number, time, type_):
     """The commands of one panel, its blocks of data being $pNcM."""
-    marks, above, below = panel.marks(time) if marked else ([], 0, 0)
     curves = ', '.join(f'$p{number}c{place} using 1:2 with lines lw 1.6 {stroke(place)} title {quoted(title)} noenhanced'
-                       for place, title in enumerate(panel.titles(time, marked)))
-    return [f'set ylabel {quoted(panel.axis.title)} noenhanced', f'set offsets 0, 0, graph {0.05 + above:.2f}, graph {0.05 + below:.2f}', 'unset label', *marks,
-            f'plot {curves}']
+                       for place, title in enumerate(panel.titles(time, bool(type_))))
+    ends = ':'.join(map(panel.axis.written, panel.scale(type_)))
+    return [f'set ylabel {quoted(panel.axis.title)} noenhanced', f'set yrange [{ends}]', 'unset label', *(panel.marks(time, type_) if type_ else []), f'plot {curves}']
 
 
 def script(panels, time, window, step, title, path, size, marked):
@@ -99,17 +115,17 @@ def script(panels, time, window, step, title, path, size, marked):
     if ending not in TERMINALS:
         raise NoPicture(f'a picture ends in {", ".join(TERMINALS)}, not in {ending or "nothing"}')
     terminal = TERMINALS[ending].format(w=width, h=height, wcm=round(width / 50, 2), hcm=round(height / 50, 2))
-    widest = max(len(one) for panel in panels for one in panel.titles(time, marked))
-    first = 0 if window.first == 1 else window.first  # a run begins at rest, one step before its first
-    ends = [time.written(one * step) for one in (first, window.last)] if len(window) > 1 else []
+    margins = 12, 11 + max(len(one) for panel in panels for one in panel.titles(time, marked)) * 7 // 8  # of the frame, left and right, in gnuplot's characters
+    type_ = labels.Type(LETTER / max(LETTER, width - MARGIN_LETTER * sum(margins)), LINE / max(LINE, height / len(panels) - AROUND))
+    ends = [time.written(one * step) for one in (started(window), window.last)] if len(window) > 1 else []
     lines = ['set encoding utf8', f'set terminal {terminal}', f'set output {quoted(path)}', 'set grid lt 1 lc rgb "#d4d4d4"', 'set key outside right top',
-             f'set xlabel {quoted(time.title)}', f'set lmargin 12; set rmargin {11 + widest * 7 // 8}',
+             f'set xlabel {quoted(time.title)}', f'set lmargin {margins[0]}; set rmargin {margins[1]}',
              'set style textbox opaque noborder fillcolor rgb "#ffffff" margins 0.4,0.4', f'set xrange [{":".join(ends)}]']
     for number, panel in enumerate(panels):
         lines += [f'$p{number}c{place} << EOD\n{block}\nEOD' for place, block in enumerate(panel.data(time))]
     lines.append(f'set multiplot layout {len(panels)},1' + (f' title {quoted(title)} noenhanced' if title else ''))
     for number, panel in enumerate(panels):
-        lines += drawn(panel, number, time, marked)
+        lines += drawn(panel, number, time, type_ if marked else None)
     return '\n'.join(lines + ['unset multiplot', ''])
 
 

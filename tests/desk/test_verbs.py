@@ -153,23 +153,25 @@ class Curves(unittest.TestCase):
 class Labels(unittest.TestCase):
     """Words beside peaks: in the frame, off one another, and off the curves where there is room."""
 
+    TYPE = labels.Type(0.0135, 0.075)
+
     def covered(self, label, points):
         return [point for point in points if label.left <= point[0] <= label.right and label.low <= point[1] <= label.high]
 
     def test_off_a_curve(self):
         """A flat curve through the peak's usual place: the words go elsewhere."""
-        points = [(part / 100, 0.56) for part in range(101)]
-        usual, label = next(labels.tried(0.3, 0.5, 20)), labels.placed([(0.3, 0.5, 20, True)], points)[0]
+        points, mark = [(part / 100, 0.56) for part in range(101)], labels.Peak(0.3, 0.5, 20, True)
+        usual, label = next(labels.tried(mark, self.TYPE)), labels.placed([mark], points, self.TYPE)[0]
         self.assertNotEqual(self.covered(usual, points), [])
         self.assertEqual((self.covered(label, points), label.side), ([], 'left'))
 
     def test_by_dice(self):
         roll = dice(12)
         for _ in range(COUNT):
-            peaks = [(roll.random(), roll.uniform(0.1, 0.9), roll.randint(8, 24), roll.random() < 0.5) for _ in range(roll.randint(1, plot.LABELS_MOST))]
-            found = labels.placed(peaks, [])
+            peaks = [labels.Peak(roll.random(), roll.uniform(0.1, 0.9), roll.randint(8, 24), roll.random() < 0.5) for _ in range(roll.randint(1, plot.LABELS_MOST))]
+            found = labels.placed(peaks, [], self.TYPE)
             for place, one in enumerate(found):
-                self.assertTrue(0 <= one.left and one.right <= 1, (peaks, one))
+                self.assertTrue(0 <= one.left and one.right <= 1 and 0 <= one.low and one.high <= 1, (peaks, one))
                 self.assertTrue(all(labels.apart(one, other) for other in found[:place]), peaks)
 
     def test_a_steep_front(self):
@@ -212,6 +214,19 @@ class Plot(unittest.TestCase):
             self.assertIn(f'set xrange {ends}', told)
             self.assertIn('set style textbox opaque', told)
             self.assertRegex(told, "set label 1 '661.13 kV at 4.09 ms' .* boxed")
+
+    def test_scale(self):
+        """The axis of values has room for the curves and for labels above or below them, and is none of zero height."""
+        def scale(given, type_=labels.Type(0.01, 0.08)):
+            result = emt.run(text('study 1000 9 0\n' + given))
+            return plot.Panel(result, [curves.curve('v1', result.network, NONE)], Window(1, 9), None).scale(type_)
+        self.assertEqual(scale('VS 1 1000 1 0'), (900, 1100))
+        self.assertEqual(scale('VS 1 0 1 0'), (-10, 10))
+        low, high = scale('VS 1 1000 1 5')
+        self.assertTrue(-100 < low < 0 and 1100 < high < 1200, (low, high))
+        self.assertLess(scale('VS 1 1000 1 5', None)[1], high)
+        self.assertLess(high, scale('VS 1 1000 1 5', labels.Type(0.02, 0.16))[1])
+        self.assertEqual(scale('VS 1 -1000 1 5'), (-high, -low))
 
     def test_other_kinds(self):
         self.assertTrue(self.drawn(self.ENERGISATION, 'v5', ending='.png')[0].startswith(b'\x89PNG'))
