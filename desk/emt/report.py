@@ -7,7 +7,7 @@ import json
 import os
 from html import escape
 
-from . import curves, faults, shown, stops, understood, watch
+from . import curves, faults, library, shown, stops, understood, watch
 from .axes import Axis, Window, peak, thinned
 from .quantities import CURRENT, TIME, VOLTAGE, count, said
 
@@ -141,7 +141,7 @@ def page(title, body, script=''):
 </head>
 <body>
 {body}
-<footer>{escape(HONEST)}</footer>
+<footer>{escape(HONEST)} Made by emt {library.VERSION}.</footer>
 {script}
 </body>
 </html>
@@ -163,9 +163,9 @@ def of_run(result, names, path, texts):
         '<h2>Waveforms</h2>', waveforms(result, data),
         '<h2>Peaks</h2>', peaks(result, names) if result.peaks else '<p>None.</p>',
         study_text(network.text)])
-    library, style = dygraphs()
+    script, style = dygraphs()
     held = json.dumps(data, separators=(',', ':'), ensure_ascii=False).replace('</', '<\\/')
-    return page(title, body, f'<style>\n{style}\n</style>\n<script>\n{library}\n</script>\n<script type="application/json" id="data">{held}</script>\n'
+    return page(title, body, f'<style>\n{style}\n</style>\n<script>\n{script}\n</script>\n<script type="application/json" id="data">{held}</script>\n'
                 f'<script>\n{own("report.js")}</script>')
 
 

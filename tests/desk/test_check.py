@@ -24,7 +24,7 @@ def watched(given):
 
 class Written(unittest.TestCase):
     def test_exact(self):
-        for number, quantity, words in ((280000, quantities.RESISTANCE, '280 Ω'), (13370000, quantities.CAPACITANCE, '13.37 µF'), (1, quantities.CURRENT, '0.1 nA'[:0] + '100 pA'),
+        for number, quantity, words in ((280000, quantities.RESISTANCE, '280 Ω'), (13370000, quantities.CAPACITANCE, '13.37 µF'), (1, quantities.CURRENT, '100 pA'),
                                         (-2817000, quantities.VOLTAGE, '-281.7 kV'), (0, quantities.TIME, '0 s'), (123456789, quantities.INDUCTANCE, '123.456789 mH'),
                                         (10 ** 12, quantities.RESISTANCE, '1 GΩ'), (50000, quantities.FREQUENCY, '50 Hz'), (999, quantities.TIME, '999 ns')):
             self.assertEqual(quantities.said(number, quantity), words)

@@ -10,7 +10,7 @@ from browser import Browser
 from common import STUDIES, WORK, emt as command, saved, text
 
 import emt
-from emt import names, report
+from emt import library, names, report
 
 DYGRAPHS = os.path.exists('/usr/share/javascript/dygraphs/dygraph.min.js')
 NO_DYGRAPHS = 'reports: dygraphs is not installed (apt-get install libjs-dygraphs)'
@@ -51,7 +51,7 @@ class File(unittest.TestCase):
     def test_words(self):
         _, page, status = made(self.ENERGISATION, '--title', 'A <line> & its end')
         self.assertEqual(status, 0)
-        for piece in ('A &lt;line&gt; &amp; its end', 'done: 1,200 steps taken', '280 Ω, 1 ms = 100 steps', 'grains of 100 mA', '661.127 kV', '4.09 ms', 'works out no number of the solution',
+        for piece in (f'Made by emt {library.VERSION}.', 'A &lt;line&gt; &amp; its end', 'done: 1,200 steps taken', '280 Ω, 1 ms = 100 steps', 'grains of 100 mA', '661.127 kV', '4.09 ms', 'works out no number of the solution',
                       'LINE\t4\t5\t280000\t1000000'):
             self.assertIn(piece, page)
 

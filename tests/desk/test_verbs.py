@@ -278,8 +278,10 @@ class Places(unittest.TestCase):
             self.assertEqual(status, 3)
             self.assertIn('say where by -o', err)
         self.assertFalse(os.path.exists(os.path.join(STUDIES, 'steep.svg')) or os.path.exists(os.path.join(STUDIES, 'steep.html')))
-        saved('friendly.emt', 'step 1us\ntime 1ms\nVS a 1V\n')
-        self.assertIn('-o', command('make', os.path.join(STUDIES, 'none.emt'), folder=TOP)[2] + '-o')
+        status, _, err = command('make', os.path.join(TOP, 'examples', 'bank.emt'), folder=TOP)
+        self.assertEqual(status, 3)
+        self.assertIn('say where by -o', err)
+        self.assertEqual([name for name in os.listdir(os.path.join(TOP, 'examples')) + os.listdir(TOP) if name.startswith('bank.') and name != 'bank.emt'], [])
 
     def test_beside_the_study(self):
         self.assertEqual(places.beside('/some/where/bank.txt', '.svg', None), '/some/where/bank.svg')
