@@ -58,6 +58,20 @@ check "no folder" "$(tools/install 2>&1; echo $?)" "usage: tools/install PREFIX
 prefix=$work/moved
 mv "$work/first" "$prefix"
 
+# ---- from a clone with a file of the user's in it, and from one with a change
+if commit=$(git rev-parse HEAD 2>/dev/null) && git clone -q . "$work/clone" 2>/dev/null; then
+    source_of() { (cd "$work/clone" && EMTRUN=$1 LIBEMT=$2 tools/install "$work/other" >/dev/null 2>"$work/said" && sed -n 2p "$work/other/share/doc/emt/VERSION"); }
+    cp tools/install "$work/clone/tools/install"
+    (cd "$work/clone" && git add -A && git -c user.name=x -c user.email=x commit -q --allow-empty -m x)
+    commit=$(cd "$work/clone" && git rev-parse HEAD)
+    echo mine >"$work/clone/energisation.lst"
+    check "a listing in the clone" "$(source_of "$(readlink -f "$emtrun")" "$(readlink -f "$libemt")")" "source: $commit"
+    echo '# mine' >>"$work/clone/desk/emt/axes.py"
+    check "a change in the clone" "$(source_of "$(readlink -f "$emtrun")" "$(readlink -f "$libemt")")" "source: $commit, changed since"
+else
+    left_out "which commit is told: this is no clone"
+fi
+
 # ---- what is installed is what was proved, with the words beside it
 cmp -s "$emtrun" "$prefix/bin/emtrun"
 check "the program" $? 0

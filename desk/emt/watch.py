@@ -173,7 +173,7 @@ def limit(network, names, result):
         return []
     needed = network.rounding(worst)
     return [f'the balance limit, {said(network.limit, CURRENT)}, is below what the rounding of voltages to 0.1 V may leave over: {said(needed, CURRENT)} at node '
-            f'{names.node(worst)}. A run may stop by UNBALANCED with nothing wrong; {needed} in the first line is always enough']
+            f'{names.node(worst)}. A run may stop by UNBALANCED with nothing wrong; {needed} in the first line is enough for that']
 
 
 def stairs(network, names, result):

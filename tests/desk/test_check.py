@@ -204,6 +204,7 @@ class Watching(unittest.TestCase):
     def test_limit(self):
         given = 'study 1000 1 499999999\nVS 1 1000 1 0\nR 1 2 1000\nR 2 0 2000'
         self.assertIn('150 mA at node 2', self.due(given, 'is below what the rounding'))
+        self.assertIn('1500000000 in the first line is enough for that', self.due(given, 'is below what the rounding'))
         self.due(given.replace('499999999', '1500000000'), 'is below what the rounding', 0)
 
     def test_past_the_end(self):
