@@ -3,7 +3,8 @@ import os
 import unittest
 from math import sqrt
 
-from common import STUDIES, emt as command, saved, studies, text
+from common import COUNT, STUDIES, dice, emt as command, saved, studies, text
+from modes import Random
 
 import emt
 from emt import names, quantities, stops, times, understood, watch
@@ -111,6 +112,17 @@ class Constants(unittest.TestCase):
 
     def test_a_switch_between_a_coil_and_a_bank(self):
         self.expect('study 1000 9 0\nVS 1 1 1 0\nL 1 2 100000\nSW 2 3 1000 1 1000001' + '\nC 3 0 495185' * 27, sqrt(100e-6 * 13.369995e-6), '√(L·C)')
+
+    def test_beside_the_fastest_mode(self):
+        """Of networks by dice the shortest time constant is that of the fastest mode, within a factor of 3."""
+        roll = dice(13)
+        for word in 'CL':
+            ratios = []
+            for _ in range(COUNT // 3):
+                network = Random(roll, word)
+                ratios.append(shortest(network.text)[0] / network.seconds)
+                self.assertTrue(1 / 3 < ratios[-1] < 3, (ratios[-1], network.text))
+            self.assertTrue(0.9 < sorted(ratios)[len(ratios) // 2] < 1.1, sorted(ratios)[len(ratios) // 2])
 
     def test_none(self):
         self.assertIsNone(shortest('study 1000 1 0\nVS 1 1 1 0\nR 1 0 1000'))
