@@ -2,6 +2,7 @@
 -- and T-one, that each contract leaves nothing open. Assumes nothing.
 use Rattle.whole.specs.Plain.{ℕ, _+_, _*_, _≡_, sym, _∙_, cond, eqb, eq-eqb, ne-eqb, List, _++_, ℤ, length, drop, Words}
 use Rattle.paper.specs.declared.Advance.the-variants.{Store}
+use Rattle.paper.specs.Limits as Limits
 use Rattle.paper.specs.Answers.{readingNumber, readingLine, resettingNumber, advanceNumber, advancePlace, advanceCount}
 use Rattle.paper.specs.Answers.{writingNumber, writingBytes}
 use Rattle.paper.specs.Reading.{readOf}
@@ -38,9 +39,9 @@ pub advance-by-one : (net : Words) (a : ℕ) (m : Memory) {x y l k : ℕ} {v w :
     → AdvancesBy net a m x l v → AdvancesBy net a m y k w → (x ≡ y) × ((l ≡ k) × (v ≡ w))
 advance-by-one net a m p q = (p .answer ∙ sym (q .answer), (p .place-of ∙ sym (q .place-of), p .memory ∙ sym (q .memory)))
 
--- the bytes of the lent room: a plan of 80 rows with 14 words each, 160 legs with 9 each, and 32 times 32 doubles
+-- the bytes of the lent room: a plan of all rows with 14 words each, two legs a row with 9 each, and a square of doubles by nodes
 abbrev pub roomBytes : ℕ
-roomBytes = 8 * (80 * 14 + 160 * 9 + 32 * 32)
+roomBytes = 8 * (Limits.rowEnd * 14 + 2 * Limits.rowEnd * 9 + Limits.nodeEnd * Limits.nodeEnd)
 
 -- 9 for a room of another size; else what comes of the call without one
 unfoldable pub advanceIn : ℕ → Words → ℕ → Memory → Advanced

@@ -3,6 +3,7 @@ use Rattle.whole.specs.Plain.{ℕ, Bool, true, false, cond, _&&_, List, leb, eq
 use Rattle.whole.specs.Plain.{every, upTo}
 use lib.Ieee.{Float}
 use Rattle.whole.specs.Rounding.{nearest}
+use Rattle.paper.specs.Limits as Limits
 use Rattle.paper.specs.Doubles.{CheckedVoltage, Good, Refused}
 use Rattle.step_factors.specs.Factored.{factored, substituted}
 
@@ -29,4 +30,4 @@ rounded old Refused = out false old
 
 -- the solution where n rows fit, from the factors of the matrix
 unfoldable pub solution : List (List Float) → List Float → ℕ → List Float → Out (List Float)
-solution a rights n old = cond (leb n 32) (out true (substituted 0 n (factored 0 n a) rights)) (out false old)
+solution a rights n old = cond (leb n Limits.nodeEnd) (out true (substituted 0 n (factored 0 n a) rights)) (out false old)

@@ -4,7 +4,7 @@ ghost use Rattle.num_cosine.specs.Quarter.{entry};
 ghost use Rattle.num_cosine.specs.Rows.{rowOf};
 ghost use Rattle.num_cosine.specs.Cosine.{half, folded, cosine};
 
-pub mod quarter;
+mod quarter;
 
 // Row r of the table, four entries.
 fn row_at(r: usize) -> [u32; 4]

@@ -2,6 +2,7 @@
 use Rattle.whole.specs.Plain.{ℕ, _+_, false, List, [], pos, getD, set, replicate}
 use lib.Ieee as Ieee
 use lib.Ieee.{Float, fin, nan, binary64}
+use Rattle.paper.specs.Limits as Limits
 use Rattle.paper.specs.declared.Equation.{Equation}
 use Rattle.whole.specs.Turns.{turns, downs}
 
@@ -60,7 +61,7 @@ unfoldable pub rowSolved : ℕ → System → ℕ → List Float → List Float
 rowSolved n s p x = set x p (quotient (rest n p (line (s .lines) p) x (row (s .rows) p .right)) (row (s .rows) p .pivot))
 
 unfoldable pub solved : ℕ → System → List Float
-solved n s = downs n (rowSolved n s) (replicate 32 (fin false 0 (pos 0)))
+solved n s = downs n (rowSolved n s) (replicate Limits.nodeEnd (fin false 0 (pos 0)))
 
 -- the voltages, from the matrix and the right sides
 unfoldable pub voltages : ℕ → System → List Float

@@ -109,7 +109,7 @@ impl Room {
     pub const STUDY_BYTES: usize = 8_192;
 }
 
-pub fn quantities_agree()
+fn quantities_agree()
     ensures { λ _. do ⌜ (← ⟦Voltage::MIN⟧ .entry) ≡ negℤ (pos Limits.voltageEnd) ⌝ }
     ensures { λ _. do ⌜ (← ⟦Voltage::MAX⟧ .entry) ≡ pos Limits.voltageEnd ⌝ }
     ensures { λ _. do ⌜ (← ⟦History::MIN⟧ .entry) ≡ negℤ (pos Limits.historyEnd) ⌝ }
@@ -131,7 +131,7 @@ pub fn quantities_agree()
     ensures { λ _. do ⌜ (← ⟦Balance::MAX⟧ .entry) ≡ pos Limits.limitEnd ⌝ }
 {}
 
-pub fn fields_agree()
+fn fields_agree()
     ensures { λ _. do ⌜ (← ⟦Ohms::MIN⟧ .entry) ≡ pos Limits.ohmsLow ⌝ }
     ensures { λ _. do ⌜ (← ⟦Ohms::MAX⟧ .entry) ≡ pos Limits.ohmsEnd ⌝ }
     ensures { λ _. do ⌜ (← ⟦Henries::MIN⟧ .entry) ≡ pos Limits.henryLow ⌝ }
@@ -150,7 +150,7 @@ pub fn fields_agree()
     ensures { λ _. do ⌜ (← ⟦Frequency::MAX⟧ .entry) ≡ pos Limits.frequencyEnd ⌝ }
 {}
 
-pub fn room_agrees()
+fn room_agrees()
     ensures { λ _. do ⌜ (← ⟦Room::BRANCHES⟧ .entry) ≡ Limits.branchEnd ⌝ }
     ensures { λ _. do ⌜ (← ⟦Room::SOURCES⟧ .entry) ≡ Limits.sourceEnd ⌝ }
     ensures { λ _. do ⌜ (← ⟦Room::ROWS⟧ .entry) ≡ Limits.rowEnd ⌝ }
