@@ -10,7 +10,7 @@ awk '
         mark = "Rattle·"
         split("numbers meaning promises", words); for (i in words) pure[words[i]] = 1
         # Code is any crate with a function. These four have small ones beside their definitions, which rest on no other: whole tests and divides
-        # single numbers, num_quantity makes a quantity of a number, num_cosine looks one up, and paper says that the limits which code reads are those of its definitions.
+        # single numbers, num_quantity makes a quantity of a number, num_cosine looks one up, and paper tells a kind its class.
         split("whole num_quantity num_cosine paper", words); for (i in words) small[words[i]] = 1
         # The kit: a program lists what io needs too, which no file names. std is never listed.
         split("check libc io os bytes", words); for (i in words) kit[words[i]] = 1

@@ -1,5 +1,2 @@
 pub mod Asked
-pub mod Breakers
-pub mod Peaked
-pub mod Supply
 pub mod Travel

@@ -1,0 +1,3 @@
+pub mod Breakers
+pub mod Peaked
+pub mod Supply
