@@ -41,8 +41,8 @@ fn on_network(
 ) -> Judged
     requires { ⌜ (isNetwork (now net) ≡ true) × Long (now records) (now froms) (now tos) ⌝ }
     requires { ⌜ (length (now areas) ≡ Limits.nodeEnd + 1) × (length (now plan) ≡ Limits.rowEnd) ⌝ }
-    ensures { λ r. ⌜ Judges (OnNet (was net) area (before records froms tos)) (was net) area (before records froms tos) r
-        (is plan) (is areas) ⌝ }
+    ensures { λ r. ⌜ Judges (OnNet (was net) area (before records froms tos)) (was net) area (before records froms tos)
+        r (is plan) (is areas) ⌝ }
 {
     let totals = plan_rows::make(net, areas, plan);
     if !call_state::well_formed(plan, areas, totals, records, froms, tos) {
