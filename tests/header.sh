@@ -12,9 +12,11 @@ work=$(mktemp -d)
 trap 'rm -rf "$work"' EXIT
 
 # the number of a limit, which other limits may be parts of
-limit() {
-    local text name
-    text=$(sed -n "s/^$1 = //p" $specs/Limits.antt)
+limit() { worked "$(sed -n "s/^$1 = //p" $specs/Limits.antt)"; }
+
+# an expression of the definitions, with limits by their names
+worked() {
+    local text=${1//Limits./} name
     while [[ $text =~ [A-Za-z]+ ]]; do
         name=${BASH_REMATCH[0]}
         text=${text//$name/($(sed -n "s/^$name = //p" $specs/Limits.antt))}
@@ -52,9 +54,9 @@ while [ $# -gt 1 ]; do
 done
 
 # the lent room, as it is stated and as C lays it out
-room=$(sed -n 's/^roomBytes = //p' crates/emt/specs/Numbered.antt)
-expect EMT_ROOM_BYTES "$((room))"
-expect 'sizeof(struct emt_room)' "$((room))"
+room=$(worked "$(sed -n 's/^roomBytes = //p' crates/emt/specs/Numbered.antt)")
+expect EMT_ROOM_BYTES "$room"
+expect 'sizeof(struct emt_room)' "$room"
 # and as the comparison lends it: words of plan, legs and factors
 lent=$(sed -nE 's/^ *const ROOM: \[usize; 3\] = \[(.*)\];$/\1/p' second/src/compare/foreign.rs)
 expect 'sizeof(struct emt_room)' "$((8 * (${lent//,/ +})))"
