@@ -105,10 +105,10 @@ pub extern "C" fn emt_node(
     ensures { λ r. ⌜ LooksBy (was network) (was records) node r (is voltage) (is peak) (is step) ⌝ }
 {
     let answer = call_node::node(network, records, node);
-    *voltage = call_answers::told_voltage(answer);
-    *peak = call_answers::told_peak(answer);
-    *step = call_answers::told_step(answer);
-    call_answers::looking_number(answer)
+    *voltage = call_told::told_voltage(answer);
+    *peak = call_told::told_peak(answer);
+    *step = call_told::told_step(answer);
+    call_told::looking_number(answer)
 }
 
 // How a network is laid out: how many areas it has; the area of a node; the row of a branch, from 1, as the study's line one further down has it. 9, 8, or 2
@@ -170,10 +170,10 @@ pub extern "C" fn emt_list(
     let piece = call_list::list(network, records, froms, tos, out);
     let answer = piece.answer;
     *written = piece.count as u64;
-    *area = call_answers::stop_area(answer);
-    *number = call_answers::stop_number(answer);
-    *place = call_answers::stop_place(answer);
-    call_answers::listing_number(answer)
+    *area = call_told::stop_area(answer);
+    *number = call_told::stop_number(answer);
+    *place = call_told::stop_place(answer);
+    call_told::listing_number(answer)
 }
 
 // "from an accepted network record to lines in table order": 9, 8, or how many bytes the study's text has.
@@ -185,6 +185,6 @@ pub extern "C" fn emt_write(network: &[i64], out: &mut [u8], written: &mut u64) 
     ensures { λ r. ⌜ WritesBy (was network) (was out) r (is written) (is out) ⌝ }
 {
     let answer = call_write::write(network, out);
-    *written = call_answers::writing_bytes(answer);
-    call_answers::writing_number(answer)
+    *written = call_told::writing_bytes(answer);
+    call_told::writing_number(answer)
 }

@@ -33,7 +33,7 @@ use Rattle.step_try.specs.declared.At.{At}
 use Rattle.step_try.specs.Outcomes.{Tried, answered}
 use Rattle.step_try.specs.Trying.{Trying, branches, Flowing, Tries}
 use Rattle.step_records.specs.Records.{Recordable, recordsPut, Unparted}
-use Rattle.step_commit.specs.Stores.{Sendable, sentBy, fromEnd, toEnd}
+use Rattle.step_send.specs.Stores.{Sendable, sentBy, fromEnd, toEnd}
 use Rattle.step_commit.specs.Asked.{recordable, sendable}
 use Rattle.step_commit.specs.Paper.{records-are, written-is}
 use Rattle.step_area.specs.declared.Turn.{Turn}

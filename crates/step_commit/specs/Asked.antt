@@ -16,7 +16,7 @@ use Rattle.step_own.specs.Ends.{Kept}
 use Rattle.step_own.specs.Laid.{Laid, end-own, wire-at, conducting-wires}
 use Rattle.step_flow.specs.Flown.{flown, flown-count, wire-stays, wires-stay}
 use Rattle.step_records.specs.Records.{Recordable}
-use Rattle.step_commit.specs.Stores.{Slotted, Sendable}
+use Rattle.step_send.specs.Stores.{Slotted, Sendable}
 
 -- a row's slots, as the plan has them
 module _ {N : Net} {plan : List (List ℕ)} (p : Planned N plan) (i : ℕ) (h : i < length (N .rows)) where

@@ -11,7 +11,7 @@ use Rattle.step_legs.specs.Wires.{legOf, wireIn, currentIn, passedIn, wiresIn}
 use Rattle.step_flow.specs.Flown.{passedBy, flown, flown-wire, flown-current, flown-passed, Long}
 use Rattle.step_latch.specs.Parting.{partsBy, legParts, latchPut}
 use Rattle.step_records.specs.Records.{legPut}
-use Rattle.step_commit.specs.Stores.{fromEnd, toEnd, sentPut}
+use Rattle.step_send.specs.Stores.{fromEnd, toEnd, sentPut}
 
 -- ---- from lines to wires: what a line has is what is found of its wire
 module _ {A : Type 0} (put : Wire → ℤ → ℤ → A → A) (v : Words) where

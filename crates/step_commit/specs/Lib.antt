@@ -1,4 +1,3 @@
-pub mod Stores
 pub mod Reached
 pub mod Ends
 pub mod Asked

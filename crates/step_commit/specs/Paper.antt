@@ -36,7 +36,7 @@ use Rattle.step_own.specs.Pass.{turn, pass}
 use Rattle.step_flow.specs.Flown.{passedBy, flown}
 use Rattle.step_latch.specs.Parting.{legParts, latchPut, parts-paper, latch-again}
 use Rattle.step_records.specs.Records.{legPut, areaPut, linesPut, recordsPut, nodePut, nodesPut, nodes-else}
-use Rattle.step_commit.specs.Stores.{fromEnd, toEnd, sentPut, sentBy}
+use Rattle.step_send.specs.Stores.{fromEnd, toEnd, sentPut, sentBy}
 use Rattle.step_commit.specs.Reached.{fold-keep, fold-reach, fold-first}
 use Rattle.step_commit.specs.Asked.{place-is, slots-is}
 use Rattle.step_commit.specs.Ends.{found, by-wires, EndOf, from-puts, to-puts, from-put}

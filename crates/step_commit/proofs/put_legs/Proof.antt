@@ -7,7 +7,7 @@ use Rattle.whole.specs.Int.{read64}
 use Rattle.paper.specs.Records.{latchAt}
 use Rattle.step_legs.specs.Wires.{wireIn, currentIn, passedIn}
 use Rattle.step_records.specs.Records.{linePut, linesPut, Unparted, leg-latches}
-use Rattle.step_commit.specs.Stores.{fromEnd, toEnd, lineSent, sentBy}
+use Rattle.step_send.specs.Stores.{fromEnd, toEnd, lineSent, sentBy}
 use Rattle.step_commit.proofs.put_legs.Statement.{statement}
 use Rattle.step_commit.proofs.put_legs.Tie as tie
 

@@ -1,10 +1,10 @@
--- `step_commit::put_sent` meets its contract: of the whole store only the one slot changes. Assumes nothing.
+-- `step_send::put_sent` meets its contract: of the whole store only the one slot changes. Assumes nothing.
 use Rattle.whole.specs.Plain.{_+_, _-_, _%_, _≡_, _∙_, ap, set, length, length-take, length-drop, mod-lt, arith}
 use borrow.Rule.Slice.PartMut.{putMid, midOf, set-mid-at}
 use borrow.Author.Needs.{needs}
 use mir.Facts.{toZ-ofZ}
-use Rattle.step_commit.proofs.put_sent.Statement.{statement}
-use Rattle.step_commit.proofs.put_sent.Tie as tie
+use Rattle.step_send.proofs.put_sent.Statement.{statement}
+use Rattle.step_send.proofs.put_sent.Tie as tie
 
 returns : tie.Need-returns
 returns c =

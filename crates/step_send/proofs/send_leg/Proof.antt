@@ -1,12 +1,12 @@
--- `step_commit::send_leg` meets its contract: the row's slots are as the plan has them. Assumes nothing.
+-- `step_send::send_leg` meets its contract: the row's slots are as the plan has them. Assumes nothing.
 use Rattle.whole.specs.Plain.{_+_, _≤_, _<_, refl, eq-eqb, ne-eqb, arith}
 use borrow.Author.Needs.{needs}
 use mir.Facts.{toZ-ofZ}
 use Rattle.paper.specs.Limits as Limits
 use Rattle.paper.specs.Advance.{putIf}
-use Rattle.step_commit.specs.Stores.{sentPut}
-use Rattle.step_commit.proofs.send_leg.Statement.{statement}
-use Rattle.step_commit.proofs.send_leg.Tie as tie
+use Rattle.step_send.specs.Stores.{sentPut}
+use Rattle.step_send.proofs.send_leg.Statement.{statement}
+use Rattle.step_send.proofs.send_leg.Tie as tie
 
 slots : (c : tie.After-row-at) → (c .row-at .result .place + c .row-at .result .slots ≤ Limits.storeWords) × (0 < c .row-at .result .slots)
 slots c =

@@ -1,8 +1,8 @@
--- `call_answers::told_voltage` meets its contract. Assumes nothing.
+-- `call_told::told_voltage` meets its contract. Assumes nothing.
 use borrow.Author.Needs.{needs}
 use Rattle.whole.specs.Int.{read64}
-use Rattle.call_answers.proofs.told_voltage.Statement.{statement}
-use Rattle.call_answers.proofs.told_voltage.Tie as tie
+use Rattle.call_told.proofs.told_voltage.Statement.{statement}
+use Rattle.call_told.proofs.told_voltage.Tie as tie
 
 returns : tie.Need-returns
 returns c = rw (c .before .answer .given .1) (read64 (c .before .answer .given .0 .0) (c .known-told .given .0 .1))

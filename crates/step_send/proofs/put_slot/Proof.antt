@@ -1,8 +1,8 @@
--- `step_commit::put_slot` meets its contract. Assumes nothing.
+-- `step_send::put_slot` meets its contract. Assumes nothing.
 use Rattle.whole.specs.Plain.{_%_, _<_, length, mod-lt, arith}
 use borrow.Author.Needs.{needs}
-use Rattle.step_commit.proofs.put_slot.Statement.{statement}
-use Rattle.step_commit.proofs.put_slot.Tie as tie
+use Rattle.step_send.proofs.put_slot.Statement.{statement}
+use Rattle.step_send.proofs.put_slot.Tie as tie
 
 inside : (c : tie.Start) → c .args .k % length (c .args .ring .now) < length (c .args .ring .now)
 inside c = mod-lt (c .args .k) (c .pre)
