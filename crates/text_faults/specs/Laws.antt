@@ -1,7 +1,7 @@
 -- From a row's words to what its faults ask. Assumes nothing.
 use Rattle.whole.specs.Plain.{ℕ, suc, _+_, _%_, _≤_, _<_, _≡_, refl, sym, _∙_, ap, Bool, true, false, not, cond, _&&_, _||_}
 use Rattle.whole.specs.Plain.{true≢false, false≢true, List, [], _∷_, tail, T, leb, ltb, eqb, ℤ, pos, negsuc, natAbs}
-use Rattle.whole.specs.Plain.{nonNeg, length, ne-eqb, eqb-true, le-trans, div-le-self, arith, Words, word, nat, between}
+use Rattle.whole.specs.Plain.{nonNeg, length, ne-eqb, eqb-true, div-le-self, arith, Words, word, nat, between}
 use Rattle.whole.specs.Plain.{count}
 use Rattle.whole.specs.Folds.{or-left}
 use Rattle.whole.specs.Truths.{or-false, or-true}
@@ -13,8 +13,8 @@ use Rattle.paper.specs.Rows.{bytes, kinds, kind, fieldsOf, branchKind, sourceKi
 use Rattle.paper.specs.Classes.{kind-count}
 use Rattle.paper.specs.Conductance.{conductance, ofOhms, ofHenries, ofFarads}
 use Rattle.paper.specs.Faults.{outside, nodeFault, valueFault, travelFault, depth, slots}
-use Rattle.text_kinds.specs.Table.{namesOf, low, high, outsideFrom}
-use Rattle.text_kinds.specs.Fields.{each, names-few, fields-few, outside-names, outside-values, field-in, in-range}
+use Rattle.text_kinds.specs.Table.{namesOf, low, high, outsideFrom, inRange}
+use Rattle.text_kinds.specs.Fields.{each, outside-names, outside-values, names-out, values-out, field-in, in-range}
 use Rattle.text_faults.specs.declared.Seen.{Seen}
 use Rattle.text_faults.specs.Seen.{headOf, Sized, conductanceOf, seenDouble, seenFull, seenFault, fixedAfter, seenAfter}
 
@@ -63,20 +63,19 @@ module _ (step : ℕ) (l : 1 ≤ step) (h : step ≤ 1000000) where
 -- ---- the faults of one row, of what code has read of it
 
 module _ (w : Words) (few : 6 ≤ length w) (known : kind w < 10) {k : ℕ} (e : k ≡ kind w) where
-  pub names-fit : {n : ℕ} → n ≡ namesOf k → n ≤ 5
-  names-fit p = rw (p, e) (le-trans (names-few (kind w) known) (fields-few (kind w) known))
+  -- by how many fields, from the first on, are in their ranges
+  module _ {n : ℕ} (i : n ≡ inRange (kind w) w) where
+    pub node-is : {m a b : ℕ} {br so : Bool} → a ≡ from w → b ≡ to w → m ≡ namesOf k → br ≡ branchKind k → so ≡ sourceKind k
+        → (((ltb n m || (br && eqb a b)) || (so && eqb a 0)) || (eqb k 4 && (eqb a 0 || eqb b 0))) ≡ nodeFault w
+    unfolding nodeFault
+    node-is p q r t u = rw (p, q, i, r, t, u, e, ← names-out (kind w) known w, outside-names w few (kind w) known)
 
-  pub fields-fit : {n : ℕ} → n ≡ length (fieldsOf k) → n ≤ 5
-  fields-fit p = rw (p, e) (fields-few (kind w) known)
-
-  pub node-is : {n a b : ℕ} {o br so : Bool} → a ≡ from w → b ≡ to w → n ≡ namesOf k → o ≡ outsideFrom k 0 n w → br ≡ branchKind k → so ≡ sourceKind k
-      → (((o || (br && eqb a b)) || (so && eqb a 0)) || (eqb k 4 && (eqb a 0 || eqb b 0))) ≡ nodeFault w
-  unfolding nodeFault
-  node-is p q r s t u = rw (p, q, s, r, t, u, e, outside-names w few (kind w) known)
-
-  -- VALUE: the fields first
-  pub values-are : {n m : ℕ} {o : Bool} → n ≡ namesOf k → m ≡ length (fieldsOf k) → o ≡ outsideFrom k n m w → o ≡ outside false (fieldsOf (kind w)) (tail w)
-  values-are p q r = rw (r, p, q, e) (outside-values w few (kind w) known)
+    -- VALUE: the fields first
+    pub values-are : {m : ℕ} → nodeFault w ≡ false → m ≡ length (fieldsOf k) → ltb n m ≡ outside false (fieldsOf (kind w)) (tail w)
+    unfolding nodeFault
+    values-are f p =
+        let o = outside-names w few (kind w) known ∙ or-left _ _ (or-left _ _ (or-left _ _ f)) in
+        rw (i, p, e) (sym (values-out (kind w) known w o) ∙ outside-values w few (kind w) known)
 
   pub value-out : (step : ℕ) → outside false (fieldsOf (kind w)) (tail w) ≡ true → true ≡ valueFault (headOf step) w
   unfolding valueFault

@@ -4,6 +4,7 @@ ghost use Rattle.whole.specs.Plain.{_≤_, _<_, _+_, _*_, _≡_, false, true, c
 ghost use Rattle.paper.specs.Limits as Limits;
 ghost use Rattle.paper.specs.Rows.{kind, isStudy, stepLength};
 ghost use Rattle.paper.specs.Faults as Faults;
+ghost use Rattle.text_kinds.specs.Table.{inRange};
 ghost use Rattle.text_faults.specs.Seen.{headOf, Held, conductanceOf, seenDouble, seenFull, seenFault};
 ghost use Rattle.text_faults.specs.Seen.{fixedAfter};
 ghost use Rattle.text_faults.specs.Seen.{seenAfter, nothingSeen, Sized};
@@ -50,14 +51,14 @@ pub fn kind_of(row: [i64; 8]) -> usize
 }
 
 // 2 NODE: "node over 32, both ends equal, source or line end on ground"
-fn node_fault(row: [i64; 8]) -> bool
-    requires { ⌜ kind row < 10 ⌝ }
+fn node_fault(row: [i64; 8], passed: usize) -> bool
+    requires { ⌜ (kind row < 10) × (passed ≡ inRange (kind row) row) ⌝ }
     ensures { λ r. ⌜ r ≡ Faults.nodeFault row ⌝ }
 {
     let k = kind_of(row);
     let a = field(row, 1);
     let b = field(row, 2);
-    text_kinds::outside(k, 0, text_kinds::names(k), row)
+    (passed < text_kinds::names(k))
         | (paper::kinds::is_branch(k) & (a == b))
         | (paper::kinds::is_source(k) & (a == 0))
         | ((k == 4) & ((a == 0) | (b == 0)))
@@ -78,12 +79,13 @@ pub fn conductance(step: u64, kind: usize, size: u64) -> u64
 }
 
 // 3 VALUE: "a field, or its conductance, out of range"; SW: "1 ≤ close < open"
-fn value_fault(step: u64, row: [i64; 8]) -> bool
+fn value_fault(step: u64, row: [i64; 8], passed: usize) -> bool
     requires { ⌜ (kind row < 10) × ((Limits.stepLengthLow ≤ step) × (step ≤ Limits.stepLengthEnd)) ⌝ }
+    requires { ⌜ (passed ≡ inRange (kind row) row) × (Faults.nodeFault row ≡ false) ⌝ }
     ensures { λ r. ⌜ r ≡ Faults.valueFault (headOf step) row ⌝ }
 {
     let k = kind_of(row);
-    if text_kinds::outside(k, text_kinds::names(k), text_kinds::fields(k), row) {
+    if passed < text_kinds::fields(k) {
         return true;
     }
     if !paper::kinds::is_branch(k) {
@@ -153,10 +155,12 @@ pub fn line_fault(seen: Seen, row: [i64; 8]) -> u64
     requires { ⌜ (kind row < 10) × Held seen ⌝ }
     ensures { λ r. ⌜ r ≡ seenFault seen row ⌝ }
 {
-    if node_fault(row) {
+    // Once, for NODE and for VALUE: a kind's fields that name a node are its first.
+    let passed = text_kinds::in_range(kind_of(row), row);
+    if node_fault(row, passed) {
         return 2;
     }
-    if value_fault(seen.step, row) {
+    if value_fault(seen.step, row, passed) {
         return 3;
     }
     if travel_fault(seen.step, row) {

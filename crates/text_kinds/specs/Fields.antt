@@ -1,11 +1,12 @@
 -- The paper's test of a row's fields is the loop's, and what a row that passes it has. Assumes nothing.
 use Rattle.whole.specs.Plain.{ℕ, zero, suc, _+_, _-_, _<_, _≤_, _≡_, refl, Bool, true, false, not, [], _∷_, tail, eqb}
-use Rattle.whole.specs.Plain.{leb, ℤ, pos, negsuc, natAbs, length, drop, eqb-true, eqb-false, leb-true, not-false}
-use Rattle.whole.specs.Plain.{arith, Words, word, between, count}
+use Rattle.whole.specs.Plain.{leb, ltb, ℤ, pos, negsuc, natAbs, length, drop, eqb-true, eqb-false, leb-true, not-false}
+use Rattle.whole.specs.Plain.{zero-add, arith, Words, word, between, count}
+use native.Mathlib.Nat.{sub-zero}
 use Rattle.whole.specs.Folds.{and-left, and-right, or-left, or-right}
 use Rattle.paper.specs.Rows.{bytes, kinds, fieldsOf}
 use Rattle.paper.specs.Faults.{outside}
-use Rattle.text_kinds.specs.Table.{namesOf, low, high, anyOutside, outsideFrom}
+use Rattle.text_kinds.specs.Table.{namesOf, low, high, anyOutside, outsideFrom, inRange, any-before, any-after}
 
 -- ---- a law for each kind
 
@@ -54,6 +55,15 @@ module _ (w : Words) (h : 6 ≤ length w) where
   pub outside-values : (k : ℕ) → k < 10 → outsideFrom k (namesOf k) (length (fieldsOf k)) w ≡ outside false (fieldsOf k) (tail w)
   unfolding namesOf fieldsOf kinds bytes count outsideFrom anyOutside outside low high
   outside-values = rw (five w h) (each (λ k. outsideFrom k (namesOf k) (length (fieldsOf k)) w ≡ outside false (fieldsOf k) (word w 1 ∷ word w 2 ∷ word w 3 ∷ word w 4 ∷ word w 5 ∷ drop 6 w)) refl refl refl refl refl refl refl refl refl refl)
+
+-- which the first field out of its range tells: it names a node, or, where those are in their ranges, it is one of the others
+pub names-out : (k : ℕ) → k < 10 → (w : Words) → outsideFrom k 0 (namesOf k) w ≡ ltb (inRange k w) (namesOf k)
+unfolding outsideFrom inRange
+names-out k h w = rw sub-zero (simp zero-add at (any-before k 0 (namesOf k) (length (fieldsOf k)) w (names-few k h)))
+
+pub values-out : (k : ℕ) → k < 10 → (w : Words) → outsideFrom k 0 (namesOf k) w ≡ false → outsideFrom k (namesOf k) (length (fieldsOf k)) w ≡ ltb (inRange k w) (length (fieldsOf k))
+unfolding outsideFrom inRange
+values-out k h w e = simp zero-add at (any-after k 0 (namesOf k) (length (fieldsOf k)) w (names-few k h) (rw sub-zero at e))
 
 -- ---- what a row has whose fields pass
 

@@ -1,7 +1,7 @@
 // The table of kinds: study, R, L, C, LINE, SW, VS, IS, VC, SWT, kinds 0 to 9. A kind's fields that name a node are its first.
-ghost use Rattle.whole.specs.Plain.{_≤_, _<_, _+_, _≡_, length, between};
+ghost use Rattle.whole.specs.Plain.{_<_, _≡_, length, between};
 ghost use Rattle.paper.specs.Rows.{fieldsOf};
-ghost use Rattle.text_kinds.specs.Table.{namesOf, lowsOf, highsOf, outsideFrom};
+ghost use Rattle.text_kinds.specs.Table.{namesOf, lowsOf, highsOf, inRange};
 use paper::Balance;
 use paper::Farads;
 use paper::Frequency;
@@ -113,19 +113,20 @@ fn within(low: i64, high: i64, x: i64) -> bool
     (low <= x) & (x <= high)
 }
 
-// A field of a kind, from the place i below end, out of its range.
-pub fn outside(kind: usize, first: usize, end: usize, row: [i64; 8]) -> bool
-    requires { ⌜ (kind < 10) × (end ≤ 5) ⌝ }
-    ensures { λ r. ⌜ r ≡ outsideFrom kind first end row ⌝ }
+// How many of a kind's fields, from the first on, are in their ranges: all of them, or those before the first that is not.
+pub fn in_range(kind: usize, row: [i64; 8]) -> usize
+    requires { ⌜ kind < 10 ⌝ }
+    ensures { λ r. ⌜ r ≡ inRange kind row ⌝ }
 {
     let low = lows(kind);
     let high = highs(kind);
-    let mut i = first;
+    let end = fields(kind);
+    let mut i = 0;
     while i < end {
         if !within(low[i], high[i], row[1 + i]) {
-            return true;
+            return i;
         }
         i += 1;
     }
-    false
+    end
 }
