@@ -1,13 +1,15 @@
 // What flows once the voltages are known: each leg's current and i + g·u are worked out once and kept in its line. The balance at the free nodes (16)
-// is judged by what is left of the injections, and the values that are passed on (17) by what is kept.
-ghost use Rattle.whole.specs.Plain.{_<_, _≡_, [], map, T, nonNeg, set, length, getD, nat};
+// is judged by the sums of these currents, and the values that are passed on (17) by what is kept.
+ghost use Rattle.whole.specs.Plain.{_<_, _≡_, [], drop, map, T, nonNeg, set, length, getD, nat};
 ghost use Rattle.whole.specs.Loans.{was, is};
+ghost use Rattle.paper.specs.Limits as Limits;
+ghost use Rattle.paper.specs.Legs.{current};
 ghost use Rattle.step_legs.specs.Wires.{Carries, Wires, Sized, legsIn};
 ghost use Rattle.step_legs.specs.Shares.{Volts};
-ghost use Rattle.step_legs.specs.Sums.{Sums};
-ghost use Rattle.step_legs.specs.Free.{Free, InjectsWithin};
+ghost use Rattle.step_legs.specs.Sums.{Sums, Near, none};
+ghost use Rattle.step_legs.specs.Free.{Free};
 ghost use Rattle.step_flow.specs.Flown.{Small, passedBy, foundOf, keeping, flown};
-ghost use Rattle.step_flow.specs.Past.{taken, firstPast};
+ghost use Rattle.step_flow.specs.Past.{firstPast};
 ghost use Rattle.step_flow.specs.Beyond.{firstRow};
 use num_quantity::CheckedHistory;
 use num_quantity::History;
@@ -58,32 +60,42 @@ fn keep(legs: &mut [Line], j: usize, f: Found)
     step_legs::put_word(legs, j, 8, f.passed);
 }
 
-// Each leg's current and what it passes on, into its line. By node, the surplus is what is injected, and then that less the currents that leave.
-pub fn flow(legs: &mut [Line], v: &[i64; Node::PLACES], surplus: &mut [i64; Node::PLACES])
-    requires { ⌜ Sized (now legs) × Volts (now v) × InjectsWithin (now surplus) ⌝ }
-    ensures { λ _. ⌜ Sums (was surplus) (taken (was v)) (legsIn (was legs)) (is surplus) ⌝ }
+// Each leg's current and what it passes on, into its line. The currents that leave each node, summed.
+pub fn flow(legs: &mut [Line], v: &[i64; Node::PLACES]) -> [i64; Node::PLACES]
+    requires { ⌜ Sized (now legs) × Volts (now v) ⌝ }
+    ensures { λ r. ⌜ Sums none (current (was v)) (legsIn (was legs)) r ⌝ }
     ensures { λ _. ⌜ is legs ≡ map (flown (was v)) (was legs) ⌝ }
 {
+    let mut leaving = [0; Node::PLACES];
     let mut j = 0;
     while j < legs.len() {
         let l = step_legs::leg_at(legs, j);
         let f = carried(l, v);
-        step_legs::subtract(surplus, l.near, f.current);
+        step_legs::add(&mut leaving, l.near, f.current);
         keep(legs, j, f);
         j += 1;
     }
+    leaving
 }
 
 // "At each free node the exact whole-number sum of currents leaving, minus injection, has magnitude at most the limit.": the lowest at which it has
-// not, or 0. The surplus is that sum with its sign turned.
-pub fn balance(surplus: &[i64; Node::PLACES], free: &[usize], limit: i64) -> usize
+// not, or 0. What is injected stands by node, that of node 1 in the place `one`.
+pub fn balance(
+    leaving: &[i64; Node::PLACES],
+    injected: &[i64],
+    one: usize,
+    free: &[usize],
+    limit: i64,
+) -> usize
     requires { ⌜ Free (now free) × T (nonNeg limit) ⌝ }
-    ensures { λ r. ⌜ r ≡ firstPast (nat limit) (was surplus) (was free) ⌝ }
+    requires { ⌜ Near Limits.nodeEnd (drop 1 (now leaving)) (drop one (now injected)) ⌝ }
+    ensures { λ r. ⌜ r ≡ firstPast (nat limit) (drop 1 (was leaving)) (drop one (was injected)) (was free) ⌝ }
 {
     let mut i = 0;
     while i < free.len() {
         let p = free[i];
-        let ok = whole::within(surplus[p], limit);
+        let at = one + (p - 1);
+        let ok = whole::within(leaving[p] - injected[at], limit);
         if !ok {
             return p;
         }

@@ -1,5 +1,5 @@
 -- Sums over the legs that leave one node, leg by leg, and why each fits a word: at most 64 legs leave a node. Assumes nothing.
-use Rattle.whole.specs.Plain.{ℕ, suc, _+_, _*_, _≤_, _<_, _≡_, refl, sym, _∙_, ap, Bool, true, false, cond, List, [], _∷_, ℤ, _+ℤ_, negℤ, negℤ-+ℤ}
+use Rattle.whole.specs.Plain.{ℕ, suc, _+_, _*_, _≤_, _<_, _≡_, refl, sym, _∙_, ap, Bool, true, false, cond, List, [], _∷_, ℤ, _+ℤ_}
 use Rattle.whole.specs.Plain.{length, getD, take, length-map, getD-take, length-take-le, mul-le-mul-right, add-mul}
 use Rattle.whole.specs.Plain.{arith, Words, z, count, total}
 use Rattle.whole.specs.Folds.{getD-map}
@@ -30,16 +30,6 @@ unfolding leaving
 leaving-more legs j h p f =
     total-next (λ l. cond (leaves p l) (f l) z) (legsIn legs) j idle (omega (arith, legs-length legs))
     ∙ ap (λ (l : Leg). total (λ l. cond (leaves p l) (f l) z) (take j (legsIn legs)) +ℤ cond (leaves p l) (f l) z) (leg-is legs j h)
-
--- of what is taken away
-pub leaving-less : (p : ℕ) (f : Leg → ℤ) (legs : List Leg) → leaving p (λ l. negℤ (f l)) legs ≡ negℤ (leaving p f legs)
-unfolding leaving total
-leaving-less p f [] = refl
-leaving-less p f (l ∷ legs) = rw (leaving-less p f legs) (by (leaves p l))
-  where
-    by : (t : Bool) → cond t (negℤ (f l)) z +ℤ negℤ (leaving p f legs) ≡ negℤ (cond t (f l) z +ℤ leaving p f legs)
-    by true = sym (negℤ-+ℤ (f l) (leaving p f legs))
-    by false = sym (negℤ-+ℤ z (leaving p f legs))
 
 -- ---- the sum's size
 share : (t : Bool) {x : ℤ} {B : ℕ} → ∣ x ∣≤ B → ∣ cond t x z ∣≤ (cond t 1 0 * B)

@@ -1,7 +1,9 @@
 -- Sums by node, gathered leg by leg onto what was there: a node has the sum over the legs that leave it more. Assumes nothing.
 use Rattle.whole.specs.Plain.{ℕ, suc, _+_, _≤_, _<_, _≡_, refl, sym, ap, _∙_, Bool, true, false, cond, List, eqb, ℤ}
-use Rattle.whole.specs.Plain.{_+ℤ_, +ℤ-assoc, +ℤ-idl, +ℤ-idr, set, take, length, length-set, replicate}
+use Rattle.whole.specs.Plain.{_+ℤ_, _-ℤ_, +ℤ-assoc, +ℤ-idl, +ℤ-idr, set, take, length, length-set, replicate}
 use Rattle.whole.specs.Plain.{getD-set-same, getD-set-other, eqb-true, eqb-false, arith, Words, z, word, total}
+use mir.Syntax.{w64}
+use mir.Val.{SFits}
 use Rattle.whole.specs.Filled.{getD-same}
 use Rattle.paper.specs.Limits as Limits
 use Rattle.paper.specs.Legs.{Leg}
@@ -55,3 +57,19 @@ module _ {start : Words} (f : Leg → ℤ) (legs : List Words) (j : ℕ) (h : j 
   -- the leg's node with the leg added
   pub sum-after : word w near +ℤ f (legAt legs j) ≡ word start near +ℤ leaving near f (take (j + 1) (legsIn legs))
   sum-after = sym (getD-set-same w near _ z (omega (arith, s .long))) ∙ sums-more .at near node
+
+-- the sum at the leg's node, from 0, before the leg and after it
+pub sum-room : (f : Leg → ℤ) (legs : List Words) (j : ℕ) → j < length legs → {w : Words} → Sums none f (take j (legsIn legs)) w → (node : legAt legs j .near ≤ Limits.nodeEnd)
+    → ((i : ℕ) → i ≤ length legs → SFits w64 (leaving (legAt legs j .near) f (take i (legsIn legs))))
+    → (legAt legs j .near < suc Limits.nodeEnd) × SFits w64 (word w (legAt legs j .near)) × SFits w64 (word w (legAt legs j .near) +ℤ f (legAt legs j))
+sum-room f legs j h s node fit =
+    (omega arith, rw (sums-at s _ node) (fit j (omega arith)), rw (sum-after f legs j h s node ∙ from-none (legAt legs j .near) _) (fit (j + 1) (omega arith)))
+
+-- ---- the difference of two, at the first n places
+
+pub record Near (n : ℕ) (a b : Words) : Type 0 where
+  pub long : n ≤ length a
+  pub wide : n ≤ length b
+  pub one : (p : ℕ) → p < n → SFits w64 (word a p)
+  pub other : (p : ℕ) → p < n → SFits w64 (word b p)
+  pub less : (p : ℕ) → p < n → SFits w64 (word a p -ℤ word b p)

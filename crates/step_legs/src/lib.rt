@@ -1,6 +1,6 @@
 // An area's legs as a step keeps them: a line of words for each end of its own, in table order. Of a line the first five words are the network's, g is
 // the position of the switches, h the step; the last two are what the step found: the current, and what the leg passes on to the next step.
-ghost use Rattle.whole.specs.Plain.{_+_, _<_, _≡_, [], _+ℤ_, _-ℤ_, set, length, getD, word};
+ghost use Rattle.whole.specs.Plain.{_+_, _<_, _≡_, [], _+ℤ_, set, length, getD, word};
 ghost use mir.Syntax.{w64};
 ghost use mir.Val.{SFits};
 ghost use Rattle.whole.specs.Loans.{was, is};
@@ -77,12 +77,4 @@ pub fn add(sums: &mut [i64; Node::PLACES], p: usize, x: i64)
     ensures { λ _. ⌜ is sums ≡ set (was sums) p (word (was sums) p +ℤ x) ⌝ }
 {
     sums[p] = sums[p] + x;
-}
-
-// x less at node p
-pub fn subtract(sums: &mut [i64; Node::PLACES], p: usize, x: i64)
-    requires { ⌜ (p < Limits.nodeEnd + 1) × SFits w64 (word (now sums) p) × SFits w64 (word (now sums) p -ℤ x) ⌝ }
-    ensures { λ _. ⌜ is sums ≡ set (was sums) p (word (was sums) p -ℤ x) ⌝ }
-{
-    sums[p] = sums[p] - x;
 }

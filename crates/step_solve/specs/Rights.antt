@@ -1,9 +1,7 @@
 -- The right sides of the free nodes' equations, as doubles. Assumes nothing.
-use Rattle.whole.specs.Plain.{ℕ, _+_, _≤_, _<_, _≡_, refl, _∙_, List, _-ℤ_, getD, set, length, length-set}
+use Rattle.whole.specs.Plain.{ℕ, suc, _+_, _≤_, _<_, _≡_, refl, _∙_, List, _-ℤ_, getD, set, length, length-set}
 use Rattle.whole.specs.Plain.{getD-set-same, getD-set-other, take-length, ℕ-discrete, arith, Words, word}
 use lib.Ieee.{Float, nan}
-use mir.Syntax.{w64}
-use mir.Val.{SFits}
 use Rattle.whole.specs.Size.{∣_∣≤_, sub, fits}
 use Rattle.whole.specs.TurnLaws.{turns-keeps, downs-keeps}
 use Rattle.paper.specs.Limits as Limits
@@ -14,14 +12,8 @@ use Rattle.step_factors.specs.Factored.{rowForward, forward, rowBack, back, sub
 use Rattle.step_legs.specs.Wires.{legsIn, Sized}
 use Rattle.step_legs.specs.Leaving.{leaving, legs-length}
 use Rattle.step_legs.specs.Shares.{Volts, drawn, drawn-sum, right-is}
-use Rattle.step_legs.specs.Sums.{Sums, none, sums-at}
+use Rattle.step_legs.specs.Sums.{Sums, none, sums-at, Near}
 use Rattle.step_legs.specs.Free.{Free, InjectsWithin, inject-size}
-
--- the differences fit a word
-pub record Near (inject drawn : Words) : Type 0 where
-  pub one : (p : ℕ) → p ≤ Limits.nodeEnd → SFits w64 (word inject p)
-  pub other : (p : ℕ) → p ≤ Limits.nodeEnd → SFits w64 (word drawn p)
-  pub less : (p : ℕ) → p ≤ Limits.nodeEnd → SFits w64 (word inject p -ℤ word drawn p)
 
 -- of the first n
 pub record Rights (n : ℕ) (free : List ℕ) (inject drawn : Words) (b : List Float) : Type 0 where
@@ -38,11 +30,13 @@ rights-more {n} {free} {inject} {drawn} {b} h r = record { long = length-set b n
 
 -- ---- of the legs' sums
 module _ {legs : List Words} {still inject d : Words} (s : Sized legs) (u : Volts still) (q : InjectsWithin inject) (a : Sums none (drawn still) (legsIn legs) d) where
-  pub near : Near inject d
+  pub near : Near (suc Limits.nodeEnd) inject d
   near = record {
+    long = omega (arith, q .long);
+    wide = omega (arith, a .long);
     one = λ p l. fits (inject-size q p) tt;
-    other = λ p l. rw (sums-at a p l) (fits (sum p) tt);
-    less = λ p l. rw (sums-at a p l) (fits (sub (inject-size q p) (sum p)) tt);
+    other = λ p l. rw (sums-at a p (omega arith)) (fits (sum p) tt);
+    less = λ p l. rw (sums-at a p (omega arith)) (fits (sub (inject-size q p) (sum p)) tt);
   }
     where
       sum : (p : ℕ) → ∣ leaving p (drawn still) (legsIn legs) ∣≤ 7680000000000000000

@@ -1,18 +1,18 @@
 // One right side for the factors that an area keeps: what its legs draw, the equations' right sides as doubles, and the voltages of its free nodes, or
 // refusal 15 with the lowest node whose double is outside the range.
-ghost use Rattle.whole.specs.Plain.{_+_, _≤_, _<_, _≡_, map, length, word};
+ghost use Rattle.whole.specs.Plain.{suc, _+_, _≤_, _<_, _≡_, map, length, word};
 ghost use Rattle.whole.specs.Loans.{was, is};
 ghost use Rattle.paper.specs.Limits as Limits;
 ghost use Rattle.paper.specs.Doubles.{inRange, nearestOf};
 ghost use Rattle.paper.specs.Solve.{settle, proposed};
 ghost use Rattle.step_legs.specs.Wires.{legsIn, Sized};
 ghost use Rattle.step_legs.specs.Shares.{Volts, drawn};
-ghost use Rattle.step_legs.specs.Sums.{Sums, none};
+ghost use Rattle.step_legs.specs.Sums.{Sums, none, Near};
 ghost use Rattle.step_legs.specs.Free.{Free, InjectsWithin};
 ghost use Rattle.step_factors.specs.Factors.{Serves};
 ghost use Rattle.step_factors.specs.Positions.{bare};
 ghost use Rattle.step_factors.specs.Proposed.{matrixOf};
-ghost use Rattle.step_solve.specs.Rights.{Near, Rights};
+ghost use Rattle.step_solve.specs.Rights.{Rights};
 ghost use Rattle.step_solve.specs.Settling.{Solved, rounded};
 use num_quantity::CheckedVoltage;
 use paper::Node;
@@ -37,11 +37,16 @@ fn draws(legs: &[Line], still: &[i64; Node::PLACES]) -> [i64; Node::PLACES]
 }
 
 // "The right side is injection minus histories .. plus conductance times fixed neighbour voltages, summed in whole numbers"
-fn right_sides(free: &[usize], inject: &[i64; Node::PLACES], drawn: &[i64; Node::PLACES]) -> ByFree
-    requires { ⌜ Free (now free) × Near (now inject) (now drawn) ⌝ }
-    ensures { λ r. ⌜ Rights (length (was free)) (was free) (was inject) (was drawn) r ⌝ }
+fn right_sides(
+    free: &[usize],
+    inject: &[i64; Node::PLACES],
+    drawn: &[i64; Node::PLACES],
+    b: &mut ByFree,
+)
+    requires { ⌜ Free (now free) × Near (suc Limits.nodeEnd) (now inject) (now drawn) ⌝ }
+    requires { ⌜ length (now b) ≡ Limits.nodeEnd ⌝ }
+    ensures { λ _. ⌜ Rights (length (was free)) (was free) (was inject) (was drawn) (is b) ⌝ }
 {
-    let mut b = [0.0; Node::MAX as usize];
     let mut i = 0;
     while i < free.len() {
         let p = free[i];
@@ -49,7 +54,6 @@ fn right_sides(free: &[usize], inject: &[i64; Node::PLACES], drawn: &[i64; Node:
         b[i] = side;
         i += 1;
     }
-    b
 }
 
 // node p's voltage from its double, and whether it is within the range
@@ -102,7 +106,8 @@ pub fn solve(
         (was v) (is v) r ⌝ }
 {
     let drawn = draws(legs, v);
-    let mut b = right_sides(free, inject, &drawn);
+    let mut b = [0.0; Node::MAX as usize];
+    right_sides(free, inject, &drawn, &mut b);
     step_factors::substitute(a, base, &mut b, free.len());
     put_all(&b, free, v)
 }

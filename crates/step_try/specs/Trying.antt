@@ -20,6 +20,7 @@ use Rattle.plan_rows.specs.declared.Row.{Row}
 use Rattle.plan_rows.specs.Planned.{rowIn, rowOf, Planned}
 use Rattle.step_legs.specs.Wires.{legsIn, wiresIn, Wires, Sized}
 use Rattle.step_legs.specs.Shares.{Volts}
+use Rattle.step_legs.specs.Sums.{Near}
 use Rattle.step_legs.specs.Free.{Free}
 use Rattle.step_factors.specs.Factors.{Serves}
 use Rattle.step_factors.specs.Positions.{bare}
@@ -71,9 +72,10 @@ pub record Flowing (N : Net) (a k : ℕ) (recs froms tos v : Words) (lines : Lis
   pub volts : Volts v
 
 -- what 16 and 17 go by
-pub record Judging (legs : List Words) (free : List ℕ) (at : At) : Type 0 where
+pub record Judging (legs : List Words) (free : List ℕ) (out given : Words) (at : At) : Type 0 where
   pub wires : Wires legs
   pub nodes : Free free
+  pub near : Near Limits.nodeEnd out given
   pub limit-sign : T (nonNeg (at .limit))
   pub limit-end : ∣ at .limit ∣≤ 1000000000000000
 

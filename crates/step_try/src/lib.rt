@@ -1,5 +1,5 @@
 // One step of one area tried, on what is kept for its switches' positions: 15, 16 and 17 in turn, or the voltages. Nothing lent for the study is written.
-ghost use Rattle.whole.specs.Plain.{ℕ, _-_, _≡_, nat};
+ghost use Rattle.whole.specs.Plain.{ℕ, drop, _-_, _≡_, nat};
 ghost use Rattle.whole.specs.Loans.{was, is};
 ghost use Rattle.paper.specs.Areas.{Net};
 ghost use Rattle.plan_rows.specs.Planned.{rowIn};
@@ -22,20 +22,23 @@ pub struct At {
     pub limit: i64,
 }
 
-// 16 and 17, from the surplus at the nodes and from what each leg's line has of the step.
+// 16 and 17, from what leaves each node and what is injected, that of node 1 in the place `one`, and from what each leg's line has of the step.
 fn judged(
     plan: &Table,
     legs: &[Line],
     free: &[usize],
-    surplus: &[i64; Node::PLACES],
+    leaving: &[i64; Node::PLACES],
+    injected: &[i64],
+    one: usize,
     at: At,
 ) -> Advance
-    requires { ⌜ Judging (now legs) (now free) at ⌝ }
+    requires { ⌜ Judging (now legs) (now free) (drop 1 (now leaving)) (drop one (now injected)) at ⌝ }
     ensures { λ r. ⌜ r
-        ≡ inFlow (at .k) (firstPast (nat (at .limit)) (was surplus) (was free)) (firstRow (was legs))
+        ≡ inFlow (at .k)
+        (firstPast (nat (at .limit)) (drop 1 (was leaving)) (drop one (was injected)) (was free)) (firstRow (was legs))
         (rowIn (was plan) (firstRow (was legs) - 1) .number) ⌝ }
 {
-    let node = step_flow::balance(surplus, free, at.limit);
+    let node = step_flow::balance(leaving, injected, one, free, at.limit);
     if node != 0 {
         return Advance::Unbalanced(node as u64);
     }
@@ -47,7 +50,7 @@ fn judged(
     Advance::Took(at.k as u64)
 }
 
-// The voltages go into v, by node: they hold where the step can be taken. What is injected, by node, serves twice: to find the voltages, and less the
+// The voltages go into v, by node: they hold where the step can be taken. What is injected, by node, serves twice: to find the voltages, and beside the
 // currents that then leave, to judge them.
 pub fn try_step<'a>(
     plan: &Table,
@@ -68,13 +71,14 @@ pub fn try_step<'a>(
         → Tries N a (at .k) (was records) (was froms) (was tos) (is legs) r (is v)) ⌝ }
     ensures { λ _. ⌜ SameBut (was legs) (is legs) ⌝ }
 {
+    let mut injected = [0; Node::PLACES];
+    step_sources::drive(sources, at.k, v, &mut injected);
     step_histories::hear(plan, legs, records, froms, tos, at.k);
-    let mut surplus = [0; Node::PLACES];
-    step_sources::drive(sources, at.k, v, &mut surplus);
-    let node = step_solve::solve(legs, free, &surplus, factors, at.base, v);
+    let node = step_solve::solve(legs, free, &injected, factors, at.base, v);
     if node != 0 {
         return Advance::Range(node as u64);
     }
-    step_flow::flow(legs, v, &mut surplus);
-    judged(plan, legs, free, &surplus, at)
+    let leaving = step_flow::flow(legs, v);
+    let given = &injected[..];
+    judged(plan, legs, free, &leaving, given, 1, at)
 }

@@ -8,7 +8,7 @@ use Rattle.whole.specs.Size.{fits}
 use Rattle.step_legs.specs.Wires.{wireAt, legAt, legsIn, Sized, carries}
 use Rattle.step_legs.specs.Leaving.{legs-length}
 use Rattle.step_legs.specs.Shares.{Volts, drawn, drawn-size, drawn-sum}
-use Rattle.step_legs.specs.Sums.{Sums, none, from-none, sums-start, sums-at, sums-more, sum-after}
+use Rattle.step_legs.specs.Sums.{Sums, none, sums-start, sums-more, sum-room}
 use Rattle.step_solve.proofs.draws.Statement.{statement}
 use Rattle.step_solve.proofs.draws.Tie as tie
 
@@ -27,9 +27,7 @@ module _ {legs : List Words} {v w : Words} (s : Sized legs) (u : Volts v) (j : �
   leg-fits = fits (drawn-size (carries s j l) u) tt
 
   room : (near < 33) × SFits w64 (word w near) × SFits w64 (word w near +ℤ drawn v (legAt legs j))
-  room =
-      let n = s .wires .wired j l .near-end in
-      (omega arith, rw (sums-at a near n) (fits (drawn-sum s near j (omega arith) u) tt), rw (sum-after (drawn v) legs j l a n ∙ from-none near _) (fits (drawn-sum s near (j + 1) (omega arith) u) tt))
+  room = sum-room (drawn v) legs j l a (s .wires .wired j l .near-end) (λ i h. fits (drawn-sum s near i h u) tt)
 
   after : {w′ : Words} → w′ ≡ set w near (word w near +ℤ drawn v (legAt legs j)) → Sums none (drawn v) (take (j + 1) (legsIn legs)) w′
   after e = rw e (sums-more (drawn v) legs j l a (s .wires .wired j l .near-end))

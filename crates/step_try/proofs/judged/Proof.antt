@@ -1,5 +1,5 @@
 -- `step_try::judged` meets its contract. Assumes nothing.
-use Rattle.whole.specs.Plain.{_≡_, sym, arith, nat}
+use Rattle.whole.specs.Plain.{_≡_, sym, drop, arith, nat}
 use borrow.Author.Needs.{needs}
 use mir.Facts.{toZ-ofZ}
 use Rattle.whole.specs.Size.{fits}
@@ -12,9 +12,9 @@ abbrev start : tie.After-balance → tie.Start
 start b = b .before .before .before
 
 balance-requires : tie.Need-balance-requires
-balance-requires c κs = let p = c .before .before .pre in (p .nodes, simp (toZ-ofZ, fits (p .limit-end) tt) (p .limit-sign))
+balance-requires c κs = let p = c .before .before .pre in ((p .nodes, simp (toZ-ofZ, fits (p .limit-end) tt) (p .limit-sign)), p .near)
 
-node-is : (b : tie.After-balance) → let a = start b .args in b .balance .result ≡ firstPast (nat (a .at .limit)) (a .surplus .now) (a .free .now)
+node-is : (b : tie.After-balance) → let a = start b .args in b .balance .result ≡ firstPast (nat (a .at .limit)) (drop 1 (a .leaving .now)) (drop (a .one) (a .injected .now)) (a .free .now)
 node-is b = simp (toZ-ofZ, fits (start b .pre .limit-end) tt) at (b .balance .ensures)
 
 row-at-requires : tie.Need-row-at-requires
