@@ -20,16 +20,26 @@ stop() {
     exit 1
 }
 
-# Show a comparison and add its closing line; one without has failed.
+# Start a comparison; several go side by side, on as many processors.
+begun=0
+begin() {
+    begun=$((begun + 1))
+    "$@" >"$work/told.$begun" 2>&1 &
+}
+
+# Wait for those that were started, show each and add its closing line; one without has failed.
 add() {
-    local line
-    "$@" >"$work/told" 2>&1
-    grep -avE '^[0-9]+ passed, [0-9]+ failed$' "$work/told"
-    line=$(grep -aE '^[0-9]+ passed, [0-9]+ failed$' "$work/told" | tail -n 1)
-    [ -n "$line" ] || stop "no closing line: $*"
-    passed=$((passed + ${line%% *}))
-    line=${line#*, }
-    failed=$((failed + ${line%% *}))
+    local line told
+    wait
+    for told in "$work"/told.*; do
+        grep -avE '^[0-9]+ passed, [0-9]+ failed$' "$told"
+        line=$(grep -aE '^[0-9]+ passed, [0-9]+ failed$' "$told" | tail -n 1)
+        [ -n "$line" ] || stop "no closing line after: $(tail -n 1 "$told")"
+        passed=$((passed + ${line%% *}))
+        line=${line#*, }
+        failed=$((failed + ${line%% *}))
+        rm "$told"
+    done
 }
 
 for tool in rt $compiler cargo; do
@@ -61,9 +71,12 @@ fi
 cargo build --release --offline -j1 "${build[@]}" --manifest-path second/Cargo.toml >"$work/cargo" 2>&1 || { tail -n 5 "$work/cargo"; stop "second/ does not build"; }
 compare=$CARGO_TARGET_DIR/release/compare
 
-add "$compare" texts --emtrun "$emtrun" "${texts[@]}" --seed "$seed" --jobs 2
-add "$compare" calls --count 2000 --texts 20000 --seed "$seed"
-add "$compare" ends --count 500 --seed "$seed"
+begin "$compare" texts --emtrun "$emtrun" "${texts[@]}" --seed "$seed" --jobs 2
+add
+begin "$compare" calls --count 1000 --texts 20000 --seed "$seed"
+begin "$compare" calls --first 1000 --count 1000 --fixed 0 --edits 0 --texts 0 --seed "$seed"
+begin "$compare" ends --count 500 --seed "$seed"
+add
 
 echo "$passed passed, $failed failed"
 [ "$failed" -eq 0 ]
