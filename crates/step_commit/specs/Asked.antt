@@ -1,12 +1,13 @@
 -- Where an area's legs stand as a step leaves them, all that is asked of a caller holds. Assumes nothing.
-use Rattle.whole.specs.Plain.{ℕ, _/_, _≤_, _<_, _≡_, ap, sym, subst, ⊎-elim, List, map, List·Memᴰ·append-cases, length}
-use Rattle.whole.specs.Plain.{eq-eqb, arith, Words}
-use Rattle.whole.specs.Members.{Among, among-at, keep-among, numbers-among}
+use Rattle.whole.specs.Plain.{ℕ, _/_, _≤_, _<_, _≡_, refl, ap, sym, subst, ⊎-elim, Bool, true, false, List, map, List·Memᴰ·append-cases, Memᴰ·append-left}
+use Rattle.whole.specs.Plain.{Memᴰ·append-right, length, eq-eqb, arith, Words}
+use Rattle.whole.specs.Members.{Among, among-at, among-keep, keep-among}
 use Rattle.paper.specs.Rows.{steps}
 use Rattle.paper.specs.Faults.{slots}
-use Rattle.paper.specs.Areas.{Net, areaCount, nodesOf, freeOf}
+use Rattle.paper.specs.Areas.{Net, areaCount, fixed, nodesOf, freeOf}
 use Rattle.paper.specs.Records.{offset}
 use Rattle.laws_facts.specs.Nets.{NetSound, rowAt, slots-within, area-count-most}
+use Rattle.laws_local.specs.Nodes.{NodeOf, node-of, of-node, free-of, of-free}
 use Rattle.plan_ends.specs.Own.{endAt, fixedOf, ownNodes}
 use Rattle.plan_rows.specs.declared.Row.{Row}
 use Rattle.plan_rows.specs.Planned.{rowIn, rowOf, Planned}
@@ -29,12 +30,18 @@ module _ {N : Net} {plan : List (List ℕ)} (p : Planned N plan) (i : ℕ) (h : 
   slots-is = ap (λ (r : Row). r .slots) (p .row i h)
 
 -- an area's nodes
-nodes-most : (N : Net) (a n : ℕ) → Among n (ownNodes N a) → n ≤ N .nodes
-unfolding freeOf fixedOf nodesOf
-nodes-most N a n m = ⊎-elim (λ l. inside (keep-among _ _ l .among)) (λ l. inside (keep-among _ _ l .among)) (List·Memᴰ·append-cases (freeOf N a) m)
-  where
-    inside : Among n (nodesOf N a) → n ≤ N .nodes
-    inside l = omega (arith, numbers-among 1 (N .nodes) (keep-among _ _ l .among) .1)
+module _ (N : Net) (a n : ℕ) where
+  pub node-of-own : Among n (ownNodes N a) → NodeOf N a n
+  unfolding fixedOf
+  node-of-own m = ⊎-elim (λ l. free-of N a l .0) (λ l. node-of N a (keep-among (fixed N) (nodesOf N a) l .among)) (List·Memᴰ·append-cases (freeOf N a) m)
+
+  pub own-of-node : NodeOf N a n → Among n (ownNodes N a)
+  unfolding fixedOf
+  own-of-node q = go (fixed N n) refl
+    where
+      go : (b : Bool) → fixed N n ≡ b → Among n (ownNodes N a)
+      go true e = Memᴰ·append-right (freeOf N a) (among-keep (fixed N) (nodesOf N a) (of-node N a n q) e)
+      go false e = Memᴰ·append-left (fixedOf N a) (of-free N a n q e)
 
 module _ {N : Net} {a k : ℕ} {recs froms tos : Words} {legs : List Words} (s : NetSound N) (one : 1 ≤ a) (kept : Kept recs froms tos) (l : Laid N a k recs froms tos legs) (v : Words) where
   wires : Wires (map (flown v) legs)
@@ -44,7 +51,7 @@ module _ {N : Net} {a k : ℕ} {recs froms tos : Words} {legs : List Words} (s :
   recordable u am km = record {
     wires = wires;
     volts = u;
-    nodes-end = record { end = λ i h. omega (arith, nodes-most N a _ (among-at (ownNodes N a) i 0 h), s .nodeMost) };
+    nodes-end = record { end = λ i h. omega (arith, node-of-own N a _ (among-at (ownNodes N a) i 0 h) .high, s .nodeMost) };
     long = kept .records-long;
     area-least = one;
     area-most = omega (arith, area-count-most N s, s .nodeMost);

@@ -1,13 +1,16 @@
 -- What an end of a row puts, from what is found of it; what the two put into the stores in turn is what the paper puts for the row. Assumes nothing.
-use Rattle.whole.specs.Plain.{ℕ, suc, _+_, _%_, _≡_, refl, sym, ap, _∙_, Bool, true, false, cond, _&&_, _||_, and-false}
+use Rattle.whole.specs.Plain.{ℕ, suc, _+_, _*_, _%_, _≡_, refl, sym, ap, _∙_, Bool, true, false, cond, _&&_, _||_, and-false}
 use Rattle.whole.specs.Plain.{List, [], _∷_, map, ℤ, pos, set, arith, Words, word, fold}
 use Rattle.paper.specs.Rows.{Row, kind, isLine, isBreaker, isL, isC}
+use Rattle.paper.specs.Areas.{Net}
 use Rattle.paper.specs.Records.{currentAt, toCurrentAt, historyAt, latchAt}
 use Rattle.paper.specs.Legs.{Leg, idle, current, echo, passedOn}
 use Rattle.paper.specs.Advance.{putIf}
+use Rattle.laws_facts.specs.Nets.{rowAt}
 use Rattle.plan_rows.specs.Planned.{rowIn}
 use Rattle.step_legs.specs.declared.Wire.{Wire}
 use Rattle.step_legs.specs.Wires.{legOf, wireIn, currentIn, passedIn, wiresIn}
+use Rattle.step_own.specs.Ends.{wireOf}
 use Rattle.step_flow.specs.Flown.{passedBy, flown, flown-wire, flown-current, flown-passed, Long}
 use Rattle.step_latch.specs.Parting.{partsBy, legParts, latchPut}
 use Rattle.step_records.specs.Records.{legPut}
@@ -34,6 +37,14 @@ pub record EndOf (r : Row) (i e : ℕ) (w : Wire) : Type 0 where
   pub row : w .row ≡ i
   pub side : w .end ≡ e
   pub kind-is : w .kind ≡ kind r
+
+-- the wires of row i are its ends
+module _ (N : Net) (k : ℕ) (recs froms tos : Words) (i : ℕ) where
+  pub from-end : EndOf (rowAt N i) i 1 (wireOf N k recs froms tos (2 * i))
+  from-end = record { row = omega arith; side = omega arith; kind-is = ap (λ (j : ℕ). kind (rowAt N j)) (omega arith) }
+
+  pub to-end : EndOf (rowAt N i) i 2 (wireOf N k recs froms tos (2 * i + 1))
+  to-end = record { row = omega arith; side = omega arith; kind-is = ap (λ (j : ℕ). kind (rowAt N j)) (omega arith) }
 
 -- what it puts into the records: at a from end, where the row is an SW's that parts, its latch first
 abbrev partsAt : List (List ℕ) → ℕ → Row → ℕ → Words → ℤ → Bool

@@ -1,4 +1,8 @@
 pub mod Reached
 pub mod Ends
 pub mod Asked
+pub mod Sent
+pub mod Put
+pub mod Nodes
+pub mod Latches
 pub mod Paper
