@@ -2,6 +2,7 @@
 # The proved program and the proved calls, compiled, against the second program (second/README.md): whole listings of 20,000 random texts, of a fixed list and of one-byte
 # edits; the same and 20,000 texts more through the reader, each that is read written out again; then 2,000 studies with areas advanced in random orders, damaged memory and refused calls
 # among them, their networks, good and damaged, written and read again, their nodes and their layout asked for and their breakers' latches looked at; each place of a power-frequency source's turn; and 500 studies, most with areas that stop, taken to their end by six schedulers each.
+# Beside them the second program's own tests, and the comparison's: slips that are planted in copies of its calls are each found.
 # A seed a day, printed; `tests/compare.sh SEED` repeats one. On a processor that is not x86-64 the calls go through tests/callers/bridge.c, and emtrun is emulated, a start for each
 # text: there a quarter of the texts are listed. EMTRUN=PATH and LIBEMT=PATH take this program and this archive and make none. Closing line: N passed, M failed.
 set -u
@@ -42,6 +43,11 @@ add() {
     done
 }
 
+own_tests() { # one that cannot be built has failed
+    cargo test --release --offline -j1 --target-dir second/target/tests --manifest-path second/Cargo.toml 2>&1 |
+        awk '/^test .* FAILED$|^error/ { print } /^test result:/ { passed += $4; failed += $6 } END { printf "%d passed, %d failed\n", passed, failed + !passed }'
+}
+
 for tool in rt $compiler cargo; do
     command -v $tool >/dev/null 2>&1 || stop "tests/compare.sh needs '$tool'"
 done
@@ -76,6 +82,8 @@ add
 begin "$compare" calls --count 1000 --texts 20000 --seed "$seed"
 begin "$compare" calls --first 1000 --count 1000 --fixed 0 --edits 0 --texts 0 --seed "$seed"
 begin "$compare" ends --count 500 --seed "$seed"
+begin "$compare" self
+begin own_tests
 add
 
 echo "$passed passed, $failed failed"
