@@ -1,3 +1,4 @@
+-- `text_kinds::in_range` meets its contract: from the i-th field on. Assumes nothing.
 use Rattle.whole.specs.Plain.{_<_, _≤_, _-_, _+_, _≡_, _∙_, sym, ap, ℤ, pos, getD, not-true, not-false, arith, between}
 use Rattle.whole.specs.Int.{read64}
 use native.Mathlib.Nat.{sub-zero}
@@ -42,40 +43,10 @@ loop-holds c =
     let s : tie.Start Inv-loop μ-loop = c .before .before .before in
     ((omega arith, rw (c .fields .ensures) (fields-few (s .args .kind) (s .pre))), rw (sub-zero, c .fields .ensures))
 
-mul-within : tie.Need-mul-within Inv-loop μ-loop
-mul-within c = omega arith
-
-array-copy-out-within : tie.Need-array-copy-out-within Inv-loop μ-loop
-array-copy-out-within c = omega arith
-
-mul-within-2 : tie.Need-mul-within-2 Inv-loop μ-loop
-mul-within-2 c = omega arith
-
-array-copy-out-within-2 : tie.Need-array-copy-out-within-2 Inv-loop μ-loop
-array-copy-out-within-2 c = omega arith
-
-add-within : tie.Need-add-within Inv-loop μ-loop
-add-within c = omega arith
-
-mul-within-3 : tie.Need-mul-within-3 Inv-loop μ-loop
-mul-within-3 c = omega arith
-
-array-copy-out-within-3 : tie.Need-array-copy-out-within-3 Inv-loop μ-loop
-array-copy-out-within-3 c = omega arith
-
-within-requires : tie.Need-within-requires Inv-loop μ-loop
-within-requires c κs = tt
-
 returns : tie.Need-returns Inv-loop μ-loop
 returns c =
     let l : tie.At-loop Inv-loop μ-loop = c .before .before .before .before .before .before in
     sym (first-here _ _ _ _ (c .before .before .before .before .before .loop-test .taken) (sym (tested (c .before)) ∙ not-true _ (c .if1 .taken))) ∙ l .loop .inv .1
-
-add-i : tie.Need-add-i Inv-loop μ-loop
-add-i c = omega arith
-
-loop-less : tie.Need-loop-less Inv-loop μ-loop
-loop-less c = omega arith
 
 loop-again : tie.Need-loop-again Inv-loop μ-loop
 loop-again c =
@@ -87,4 +58,25 @@ returns-2 : tie.Need-returns-2 Inv-loop μ-loop
 returns-2 c = let v = c .before .loop .inv in sym (first-done _ _ _ _ (v .0 .0) (c .loop-test .left)) ∙ v .1
 
 pub in-range-spec : {M : Type 1} → statement M
-in-range-spec = tie.close (tie.spec Inv-loop μ-loop lows-requires highs-requires fields-requires loop-holds mul-within array-copy-out-within mul-within-2 array-copy-out-within-2 add-within mul-within-3 array-copy-out-within-3 within-requires returns add-i loop-less loop-again returns-2)
+in-range-spec =
+    tie.close
+    (tie.spec
+    Inv-loop
+    μ-loop
+    lows-requires
+    highs-requires
+    fields-requires
+    loop-holds
+    (λ c. omega arith)
+    (λ c. omega arith)
+    (λ c. omega arith)
+    (λ c. omega arith)
+    (λ c. omega arith)
+    (λ c. omega arith)
+    (λ c. omega arith)
+    (λ c κs. tt)
+    returns
+    (λ c. omega arith)
+    (λ c. omega arith)
+    loop-again
+    returns-2)
