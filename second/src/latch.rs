@@ -32,6 +32,12 @@ impl Breaker {
         chances.find(|step| is_current_zero(current_of(*step), current_of(step - 1))).unwrap_or(0)
     }
 
+    /// By the steps at which its current was zero or had turned, in rising order: the first that has its chance.
+    pub fn latch_among(self, zeros: &[Whole]) -> Whole {
+        let early = zeros.partition_point(|step| *step < self.first_chance());
+        zeros.get(early).copied().unwrap_or(0)
+    }
+
     /// Closed at its closing step and from then on, unless it parted after an earlier step.
     pub fn is_closed(self, latch: Whole, step: Whole) -> bool {
         self.close <= step && (latch == 0 || step <= latch)

@@ -1,7 +1,9 @@
 //! A whole run from rest. Every value that a line end ever sent is kept, so that no ring, no slot and no
-//! remainder stands between a reading and the step it asks for. So is every voltage and every breaker's current: a
-//! peak, or the step after which a breaker parted, is looked for among them when it is asked for.
+//! remainder stands between a reading and the step it asks for. So is every voltage, and every step at which a breaker's
+//! current was zero or had turned: a peak, or the step after which a breaker parted, is looked for among them when it
+//! is asked for.
 
+use crate::latch::is_current_zero;
 use crate::limits::Whole;
 use crate::network::Network;
 use crate::peaks::Peak;
@@ -23,8 +25,8 @@ pub struct Run {
     sent_to: Vec<Vec<Whole>>,
     /// By node, then by step; place 0 is ground's.
     past_voltages: Vec<Vec<Whole>>,
-    /// By branch, then by step; none but of breakers.
-    past_currents: Vec<Vec<Whole>>,
+    /// By branch, the steps at which its current was zero or had turned, whatever its latch; none but of breakers.
+    current_zeros: Vec<Vec<Whole>>,
     pub largest_imbalance: Whole,
 }
 
@@ -40,7 +42,7 @@ impl Run {
             sent_from: vec![Vec::new(); branches],
             sent_to: vec![Vec::new(); branches],
             past_voltages: vec![Vec::new(); network.node_count + 1],
-            past_currents: vec![Vec::new(); branches],
+            current_zeros: vec![Vec::new(); branches],
             largest_imbalance: 0,
             network,
         }
@@ -72,7 +74,7 @@ impl Run {
     /// The step after which a breaker parted; 0 where it has not, and for every other branch.
     pub fn latch(&self, index: usize) -> Whole {
         let breaker = self.network.branches[index].breaker();
-        breaker.map_or(0, |breaker| breaker.latch_of_all(&self.past_currents[index]))
+        breaker.map_or(0, |breaker| breaker.latch_among(&self.current_zeros[index]))
     }
 
     /// A line end's history is what it receives of the values that the far end sent.
@@ -101,11 +103,13 @@ impl Run {
         }
         for done in &taken.branches {
             let index = done.branch;
-            self.from_currents[index] = done.from_current.unwrap_or(self.from_currents[index]);
+            let before = self.from_currents[index];
+            self.from_currents[index] = done.from_current.unwrap_or(before);
             self.to_currents[index] = done.to_current.unwrap_or(self.to_currents[index]);
             self.histories[index] = done.next_history.unwrap_or(self.histories[index]);
             if self.network.branches[index].breaker().is_some() {
-                self.past_currents[index].extend(done.from_current);
+                let zero = done.from_current.filter(|now| is_current_zero(*now, before));
+                self.current_zeros[index].extend(zero.map(|_| self.counts[area]));
             }
             self.sent_from[index].extend(done.from_sent);
             self.sent_to[index].extend(done.to_sent);

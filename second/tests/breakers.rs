@@ -154,11 +154,15 @@ fn latches_by_themselves() {
         let breaker = Breaker { close, open };
         assert_eq!(breaker.latch_of_all(currents), latch, "{breaker:?} {currents:?}");
         let mut kept = 0;
+        let mut zeros = Vec::new();
         for (place, now) in currents.iter().enumerate() {
             let before = if place == 0 { 0 } else { currents[place - 1] };
-            kept = breaker.latch_after(kept, place as i128 + 1, *now, before);
+            let step = place as i128 + 1;
+            kept = breaker.latch_after(kept, step, *now, before);
+            zeros.extend(is_current_zero(*now, before).then_some(step));
         }
         assert_eq!(kept, latch, "{breaker:?} {currents:?}");
+        assert_eq!(breaker.latch_among(&zeros), latch, "{breaker:?} {currents:?}");
     }
     assert!(is_current_zero(0, 0) && is_current_zero(0, 7) && !is_current_zero(7, 0));
     let far = 140_000_000_000_000_000;
