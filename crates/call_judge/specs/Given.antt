@@ -18,9 +18,9 @@ use Rattle.plan_lay.specs.Flags.{Flagged}
 use Rattle.plan_own.specs.Owns.{Given, Ours, Behind, ownIn, wordsOf}
 use Rattle.plan_own.specs.Kept.{own-put}
 use Rattle.step_factors.specs.Factors.{Square}
-use Rattle.step_area.specs.declared.Turn.{Turn}
-use Rattle.step_area.specs.Tabled.{Tables}
-use Rattle.step_area.specs.Stepping.{Stepping}
+use Rattle.step_take.specs.declared.Turn.{Turn}
+use Rattle.step_keep.specs.Tabled.{Tables}
+use Rattle.step_take.specs.Stepping.{Stepping}
 use Rattle.call_state.specs.Judged.{Long, MappedOf}
 use Rattle.call_state.specs.Kept.{kept}
 

@@ -4,7 +4,7 @@ use Rattle.paper.specs.declared.Advance.{Advance}
 use Rattle.paper.specs.Advance.{Memory, advanced, ready, onNet}
 use Rattle.laws_facts.specs.Nets.{netIn}
 use Rattle.plan_rows.specs.declared.Totals.{Totals}
-use Rattle.step_area.specs.Stepping.{Stepping}
+use Rattle.step_take.specs.Stepping.{Stepping}
 use Rattle.call_judge.specs.declared.Judged.{Judged}
 use Rattle.call_judge.specs.Given.{Seen, turnAt}
 

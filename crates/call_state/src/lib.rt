@@ -1,10 +1,11 @@
 // 10 STATE: lent records and line stores, judged exactly, by the plan. No function has the network record: what is said is said of every network that the
 // plan is of.
-ghost use Rattle.whole.specs.Plain.{_+_, _≤_, _<_, _≡_, cond, T, natAbs, nonNeg, length, getD, upTo, word, every, numbers};
+ghost use Rattle.whole.specs.Plain.{_+_, _≤_, _<_, _≡_, _&&_, cond, T, natAbs, nonNeg, length, getD, upTo, word, every, numbers};
 ghost use Rattle.whole.specs.Loans.{was};
 ghost use Rattle.paper.specs.Limits as Limits;
 ghost use Rattle.paper.specs.Areas.{Net};
 ghost use Rattle.paper.specs.Records.{peakFormed, recordsFormed, wellFormed};
+ghost use Rattle.paper.specs.Pieces.{level};
 ghost use Rattle.call_counts.specs.Counts.{CountIn, LineIn, BreakerIn, Counted};
 ghost use Rattle.call_state.specs.Judged.{Long, MappedOf, MappedSome, partFormed, sectionFormed, countsFormed};
 ghost use Rattle.call_state.specs.Judged.{wordsFormed, rowFormed, plannedFormed, tailsFormed, nodesFormed};
@@ -261,4 +262,24 @@ pub fn well_formed(
     let from = section(froms, 0, totals.slots, Room::STORE, History::MAX);
     let to = section(tos, 0, totals.slots, Room::STORE, History::MAX);
     kept & (from & to)
+}
+
+// The same for a listing: and all areas have taken as many steps.
+pub fn in_step(
+    plan: &Table,
+    area: &[usize; Node::PLACES],
+    totals: Totals,
+    records: &[i64],
+    froms: &[i64],
+    tos: &[i64],
+) -> bool
+    requires { ⌜ MappedSome (now plan) (now area) totals × Long (now records) (now froms) (now tos) ⌝ }
+    ensures { λ r. ⌜ ((N : Net) → MappedOf N (was plan) (was area) totals → r
+        ≡ (wellFormed N (was records) (was froms) (was tos) && level N (was records))) ⌝ }
+{
+    if !well_formed(plan, area, totals, records, froms, tos) {
+        return false;
+    }
+    let taken = call_counts::steps_taken(records, totals.areas, totals.steps);
+    call_counts::all_taken(records, totals.areas, taken)
 }

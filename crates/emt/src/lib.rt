@@ -4,7 +4,7 @@ ghost use Rattle.whole.specs.Loans.{was, is};
 ghost use Rattle.paper.specs.Lent.{before, after};
 ghost use Rattle.call_shape.specs.Asked.{areasAsked, areaAsked, rowAsked};
 ghost use Rattle.emt.specs.Numbered.{ReadsBy, ResetsBy, AdvancesBy, AdvancesIn, LooksBy, AsksBy, ListsBy, WritesBy};
-use call_advance::Legs;
+use call_room::Legs;
 use paper::Advance;
 use plan_rows::Table;
 use step_factors::Matrix;
@@ -58,7 +58,7 @@ pub extern "C" fn emt_advance(
 }
 
 // The same with its tables lent, for a caller with little stack: what stands in them before the call counts for nothing, and what is left there is open.
-pub use call_advance::advance_in;
+pub use call_room::advance_in;
 
 // 8 bytes for each word of the plan, of the legs and of the factors.
 const ROOM_BYTES: usize = 28672;
@@ -84,7 +84,7 @@ pub extern "C" fn emt_advance_in_tables(
         *place = 0;
         return call_answers::advance_number(Advance::Store);
     }
-    let told = call_advance::advance_in(network, records, froms, tos, area, plan, legs, factors);
+    let told = call_room::advance_in(network, records, froms, tos, area, plan, legs, factors);
     *place = call_answers::place_or_count(told);
     call_answers::advance_number(told)
 }

@@ -11,7 +11,7 @@ use Rattle.laws_facts.specs.Nets.{netIn}
 use Rattle.plan_rows.specs.declared.Totals.{Totals}
 use Rattle.plan_net.specs.Of.{Of}
 use Rattle.step_factors.specs.Factors.{Square}
-use Rattle.step_area.specs.Tabled.{tables-later}
+use Rattle.step_keep.specs.Tabled.{tables-later}
 use Rattle.call_counts.specs.Counts.{CountsIn}
 use Rattle.call_counts.specs.Level.{takenBy, taken-is}
 use Rattle.call_state.specs.Judged.{Long}

@@ -15,9 +15,10 @@ use Rattle.paper.specs.Rows.{steps}
 use Rattle.paper.specs.Network.{isNetwork}
 use Rattle.paper.specs.Listing.{stopLine}
 use Rattle.laws_facts.specs.Nets.{netIn, area-count-most}
-use Rattle.step_area.specs.declared.Turn.{Turn}
-use Rattle.step_area.specs.Tabled.{Tables}
-use Rattle.step_area.specs.Stepping.{Stepping, Moved, Steps}
+use Rattle.step_take.specs.declared.Turn.{Turn}
+use Rattle.step_keep.specs.Tabled.{Tables}
+use Rattle.step_take.specs.Stepping.{Stepping, Moved}
+use Rattle.step_area.specs.Going.{Steps}
 use Rattle.call_state.specs.Kept.{kept}
 use Rattle.list_round.specs.declared.Step.{Step}
 use Rattle.list_round.specs.declared.Round.the-variants.{Full, Refused}

@@ -12,8 +12,8 @@ use Rattle.paper.specs.Listing.{stopLine}
 use Rattle.paper.specs.Pieces.{Piece, writing, ended, listed, areaPiece}
 use Rattle.laws_facts.specs.Nets.{netIn}
 use Rattle.laws_pieces.specs.Level.{Level}
-use Rattle.step_area.specs.declared.Turn.{Turn}
-use Rattle.step_area.specs.Tabled.{Tables}
+use Rattle.step_take.specs.declared.Turn.{Turn}
+use Rattle.step_keep.specs.Tabled.{Tables}
 use Rattle.list_round.specs.declared.Step.{Step}
 use Rattle.list_round.specs.declared.Round.{Round}
 use Rattle.list_round.specs.declared.Round.the-variants.{Full, Refused}

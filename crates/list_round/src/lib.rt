@@ -7,10 +7,10 @@ ghost use Rattle.list_round.specs.Round.{turnOf, Startable, Runs};
 use paper::Advance;
 use plan_own::Owns;
 use plan_rows::Table;
-use step_area::Turn;
 use step_factors::Matrix;
 use step_legs::Line;
 use step_legs::SourceLine;
+use step_take::Turn;
 
 // All areas took the step; or the first that did not, and its answer.
 pub enum Round {
@@ -70,7 +70,7 @@ pub fn all_areas(
             tos,
             turn,
         );
-        if !step_area::took(answer) {
+        if !step_try::took(answer) {
             return Round::Refused(area as u64, answer);
         }
         area += 1;

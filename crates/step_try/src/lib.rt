@@ -1,6 +1,7 @@
 // One step of one area tried, on what is kept for its switches' positions: 15, 16 and 17 in turn, or the voltages. Nothing lent for the study is written.
 ghost use Rattle.whole.specs.Plain.{ℕ, drop, _-_, _≡_, nat};
 ghost use Rattle.whole.specs.Loans.{was, is};
+ghost use Rattle.paper.specs.Answers.{accepted};
 ghost use Rattle.paper.specs.Areas.{Net};
 ghost use Rattle.plan_rows.specs.Planned.{rowIn};
 ghost use Rattle.step_legs.specs.Sums.{none};
@@ -20,6 +21,25 @@ pub struct At {
     pub base: usize,
     pub k: usize,
     pub limit: i64,
+}
+
+// Whether what is answered accepts the step.
+pub fn took(answer: Advance) -> bool
+    ensures { λ r. ⌜ r ≡ accepted answer ⌝ }
+{
+    match answer {
+        Advance::Took(_) => true,
+        Advance::Network => false,
+        Advance::Store => false,
+        Advance::State => false,
+        Advance::Area => false,
+        Advance::Done => false,
+        Advance::Wait(_) => false,
+        Advance::Floating(_) => false,
+        Advance::Range(_) => false,
+        Advance::Unbalanced(_) => false,
+        Advance::History(_) => false,
+    }
 }
 
 // 16 and 17, from what leaves each node and what is injected, that of node 1 in the place `one`, and from what each leg's line has of the step.

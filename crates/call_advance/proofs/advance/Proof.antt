@@ -27,5 +27,5 @@ returns-2 c =
 pub advance-spec : {M : Type 1} → statement M
 advance-spec =
     tie.close
-    (tie.spec (λ c κs. search needs) (λ c. search needs) (λ c. search needs) (λ c. search needs) (λ c. c .before .before .judge .ensures .refused (c .if1 .taken)) (λ c κs. search needs)
-    (λ c. search needs) alone-requires (λ c. search needs) (λ c. search needs) (λ c. search needs) returns-2)
+    (tie.spec (λ c κs. search needs) (λ c. refl) (λ c. refl) (λ c. refl) (λ c. c .before .before .judge .ensures .refused (c .if1 .taken)) (λ c κs. tt)
+    (λ c. search needs) alone-requires (λ c. c .before .before .before .records .given) (λ c. c .before .before .froms .given) (λ c. c .before .tos .given) returns-2)

@@ -1,10 +1,10 @@
 -- `call_list::list` meets its contract: 9, 8, then what the network says. Assumes nothing.
-use Rattle.whole.specs.Plain.{_≡_, sym, _∙_, true, length, not-true, not-false}
-use borrow.Author.Needs.{needs}
+use Rattle.whole.specs.Plain.{_≡_, sym, _∙_, true, length, not-true, not-false, refl}
 use Rattle.paper.specs.Network.{isNetwork}
 use Rattle.paper.specs.Advance.{Memory, memory, fits}
 use Rattle.call_lent.specs.Lengths.{lengths}
-use Rattle.call_list.specs.Cases.{gives-none, lists, wrong-length, no-room, no-network, on-network}
+use Rattle.call_list.specs.Cases.{lists, wrong-length, no-room, no-network, on-network}
+use Rattle.call_level.specs.Cases.{gives-none}
 use Rattle.call_list.proofs.list.Statement.{statement}
 use Rattle.call_list.proofs.list.Tie as tie
 
@@ -57,6 +57,6 @@ returns-4 c =
 pub list-spec : {M : Type 1} → statement M
 list-spec =
     tie.close
-    (tie.spec (λ c κs. search needs) (λ c. search needs) (λ c. search needs) (λ c. search needs) returns (λ c. search needs) (λ c. search needs) (λ c. search needs) returns-2
-    (λ c κs. lengths _ _ (good (c .before)) .network) (λ c. search needs) (λ c. search needs) (λ c. search needs) returns-3
-    on-network-requires (λ c. search needs) (λ c. search needs) (λ c. search needs) (λ c. search needs) returns-4)
+    (tie.spec (λ c κs. tt) (λ c. refl) (λ c. refl) (λ c. refl) returns (λ c. refl) (λ c. refl) (λ c. refl) returns-2
+    (λ c κs. lengths _ _ (good (c .before)) .network) (λ c. refl) (λ c. refl) (λ c. refl) returns-3
+    on-network-requires (λ c. c .before .before .before .before .records .given) (λ c. c .before .before .before .froms .given) (λ c. c .before .before .tos .given) (λ c. c .before .out .given) returns-4)

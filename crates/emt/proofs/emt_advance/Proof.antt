@@ -1,6 +1,5 @@
 -- `emt::emt_advance` meets its contract: the number of what `advance` answers, and the count or the place. Assumes nothing.
 use Rattle.whole.specs.Plain.{_+_, ap, _∙_}
-use borrow.Author.Needs.{needs}
 use Rattle.paper.specs.Answers.{advanceNumber, advancePlace, advanceCount}
 use Rattle.emt.proofs.emt_advance.Statement.{statement}
 use Rattle.emt.proofs.emt_advance.Tie as tie
@@ -13,4 +12,4 @@ returns c =
 pub emt-advance-spec : {M : Type 1} → statement M
 emt-advance-spec =
     tie.close
-    (tie.spec (λ c κs. search needs) (λ c κs. search needs) (λ c κs. search needs) (λ c. search needs) (λ c. search needs) (λ c. search needs) returns)
+    (tie.spec (λ c κs. tt) (λ c κs. tt) (λ c κs. tt) (λ c. c .before .before .before .before .records .given) (λ c. c .before .before .before .froms .given) (λ c. c .before .before .tos .given) returns)

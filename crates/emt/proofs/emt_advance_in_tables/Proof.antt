@@ -1,6 +1,5 @@
 -- `emt::emt_advance_in_tables` meets its contract: 9 for a room of another size, else what `advance_in` answers. Assumes nothing.
 use Rattle.whole.specs.Plain.{_+_, ap, _∙_}
-use borrow.Author.Needs.{needs}
 use Rattle.paper.specs.Answers.{advanceNumber, advancePlace, advanceCount}
 use Rattle.emt.specs.Numbered.{other-room, right-room}
 use Rattle.emt.proofs.emt_advance_in_tables.Statement.{statement}
@@ -16,5 +15,5 @@ returns-2 c =
 pub emt-advance-in-tables-spec : {M : Type 1} → statement M
 emt-advance-in-tables-spec =
     tie.close
-    (tie.spec (λ c κs. search needs) (λ c. other-room _ _ _ (c .before .if1 .taken) (c .advance-number .ensures)) (λ c κs. search needs) (λ c κs. search needs) (λ c κs. search needs)
-    (λ c. search needs) (λ c. search needs) (λ c. search needs) returns-2)
+    (tie.spec (λ c κs. tt) (λ c. other-room _ _ _ (c .before .if1 .taken) (c .advance-number .ensures)) (λ c κs. tt) (λ c κs. tt) (λ c κs. tt)
+    (λ c. c .before .before .before .before .records .given) (λ c. c .before .before .before .froms .given) (λ c. c .before .before .tos .given) returns-2)

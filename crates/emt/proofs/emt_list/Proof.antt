@@ -1,6 +1,5 @@
 -- `emt::emt_list` meets its contract: the number of what `list` answers, the bytes listed, and what stopped it. Assumes nothing.
 use Rattle.whole.specs.Plain.{ap, _∙_}
-use borrow.Author.Needs.{needs}
 use Rattle.paper.specs.Pieces.{listingNumber, stopArea, stopNumber, stopPlace}
 use Rattle.emt.proofs.emt_list.Statement.{statement}
 use Rattle.emt.proofs.emt_list.Tie as tie
@@ -24,5 +23,5 @@ returns c =
 pub emt-list-spec : {M : Type 1} → statement M
 emt-list-spec =
     tie.close
-    (tie.spec (λ c κs. search needs) (λ c κs. search needs) (λ c κs. search needs) (λ c κs. search needs) (λ c κs. search needs) (λ c. search needs)
-    (λ c. search needs) (λ c. search needs) (λ c. search needs) returns)
+    (tie.spec (λ c κs. tt) (λ c κs. tt) (λ c κs. tt) (λ c κs. tt) (λ c κs. tt) (λ c. c .before .before .before .before .before .before .before .before .records .given)
+    (λ c. c .before .before .before .before .before .before .before .froms .given) (λ c. c .before .before .before .before .before .before .tos .given) (λ c. c .before .before .before .before .before .out .given) returns)

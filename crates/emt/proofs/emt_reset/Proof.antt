@@ -1,6 +1,5 @@
 -- `emt::emt_reset` meets its contract: the number of what `reset` answers. Assumes nothing.
 use Rattle.whole.specs.Plain.{ap, _∙_}
-use borrow.Author.Needs.{needs}
 use Rattle.paper.specs.Answers.{resettingNumber}
 use Rattle.emt.proofs.emt_reset.Statement.{statement}
 use Rattle.emt.proofs.emt_reset.Tie as tie
@@ -13,4 +12,4 @@ returns c =
 pub emt-reset-spec : {M : Type 1} → statement M
 emt-reset-spec =
     tie.close
-    (tie.spec (λ c κs. search needs) (λ c κs. search needs) (λ c. search needs) (λ c. search needs) (λ c. search needs) returns)
+    (tie.spec (λ c κs. tt) (λ c κs. tt) (λ c. c .before .before .before .records .given) (λ c. c .before .before .froms .given) (λ c. c .before .tos .given) returns)

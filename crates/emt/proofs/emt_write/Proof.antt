@@ -1,6 +1,5 @@
 -- `emt::emt_write` meets its contract: the number and the bytes of what `write` answers. Assumes nothing.
 use Rattle.whole.specs.Plain.{ap, _∙_}
-use borrow.Author.Needs.{needs}
 use Rattle.paper.specs.Answers.{writingNumber, writingBytes}
 use Rattle.emt.proofs.emt_write.Statement.{statement}
 use Rattle.emt.proofs.emt_write.Tie as tie
@@ -11,4 +10,4 @@ returns c =
     record { answer = c .writing-number .ensures ∙ ap writingNumber (r .answer); count = c .before .writing-bytes .ensures ∙ ap writingBytes (r .answer); buffer = r .bytes }
 
 pub emt-write-spec : {M : Type 1} → statement M
-emt-write-spec = tie.close (tie.spec (λ c κs. search needs) (λ c κs. search needs) (λ c κs. search needs) (λ c. search needs) returns)
+emt-write-spec = tie.close (tie.spec (λ c κs. tt) (λ c κs. tt) (λ c κs. tt) (λ c. c .before .before .before .out .given) returns)

@@ -1,8 +1,7 @@
 -- `step_area::ready` meets its contract: 14, or the step from what is kept for it. Assumes nothing.
-use Rattle.whole.specs.Plain.{not-true, arith}
-use borrow.Author.Needs.{needs}
-use Rattle.step_area.specs.Tabled.{area-few}
-use Rattle.step_area.specs.Stepping.{floating-step}
+use Rattle.whole.specs.Plain.{_≡_, refl, _∙_, length, not-true, arith}
+use Rattle.step_keep.specs.Tabled.{area-few}
+use Rattle.step_area.specs.Going.{floating-step}
 use Rattle.step_area.proofs.ready.Statement.{statement}
 use Rattle.step_area.proofs.ready.Tie as tie
 
@@ -56,6 +55,10 @@ read x = x .before .before .before .before .before .before
 abbrev renewed : tie.After-stepped → tie.After-renew
 renewed x = read x .before .before .before .before
 
+-- the legs, lent twice, are as many as they were
+again : (l : tie.After-legs2) → length (l .before .stepped .last .1 .0) ≡ length (start (renewed (l .before)) .args .legs .now)
+again l = l .legs2 .given ∙ read (l .before) .before .before .before .legs .given
+
 returns-2 : tie.Need-returns-2
 returns-2 c =
     let x = c .before .before .before .before .before .before in
@@ -84,4 +87,21 @@ returns-3 c =
 pub ready-spec : {M : Type 1} → statement M
 ready-spec =
     tie.close
-    (tie.spec renew-requires (λ c. search needs) (λ c. search needs) returns own-at-requires stepped-requires (λ c. search needs) (λ c. search needs) (λ c. search needs) (λ c. search needs) returns-2 put-until-requires (λ c. search needs) (λ c. search needs) (λ c. search needs) (λ c. search needs) returns-3)
+    (tie.spec
+    renew-requires
+    (λ c. c .before .legs .given)
+    (λ c. refl)
+    returns
+    own-at-requires
+    stepped-requires
+    (λ c. again (c .before .before .before .before .before))
+    (λ c. c .before .before .before .before .records .given)
+    (λ c. c .before .before .before .froms .given)
+    (λ c. c .before .before .tos .given)
+    returns-2
+    put-until-requires
+    (λ c. again (c .before .before .before .before .before .before .before))
+    (λ c. c .before .before .before .before .before .before .records .given)
+    (λ c. c .before .before .before .before .before .froms .given)
+    (λ c. c .before .before .before .before .tos .given)
+    returns-3)

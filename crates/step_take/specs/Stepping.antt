@@ -1,32 +1,28 @@
 -- An area's step from the tables is the paper's. Assumes nothing.
-use Rattle.whole.specs.Plain.{ℕ, zero, suc, _≤_, _<_, _≡_, refl, sym, ap, subst, _∙_, _≢_, Bool, true, false, true≢false, List}
-use Rattle.whole.specs.Plain.{[], _∷_, map, pos, ℕ-discrete, arith, Words, z, word}
+use Rattle.whole.specs.Plain.{ℕ, suc, _≤_, _<_, _≡_, refl, sym, ap, subst, _∙_, _≢_, Bool, true, false, true≢false, List}
+use Rattle.whole.specs.Plain.{pos, ℕ-discrete, arith, Words, z, word}
 use lib.Ieee.{Float}
 use Rattle.paper.specs.declared.Advance.{Advance}
 use Rattle.paper.specs.declared.Advance.the-variants.{Took, Floating, Range, Unbalanced, History}
-use Rattle.paper.specs.Limits as Limits
 use Rattle.paper.specs.Rows as Rows
 use Rattle.paper.specs.Answers.{accepted}
-use Rattle.paper.specs.Areas.{Net, fixed, freeOf}
+use Rattle.paper.specs.Areas.{Net}
 use Rattle.paper.specs.Records.{latchAt}
-use Rattle.paper.specs.Legs.{Leg, leg, Branch, bothLegs, heard}
-use Rattle.paper.specs.Floating as Paper
-use Rattle.paper.specs.Solve.{Step, stop, move, passing, solve, settling, solvedStep, stillOf, andFloating}
+use Rattle.paper.specs.Legs.{Branch, heard}
+use Rattle.paper.specs.Solve.{Step, stop, move, solve}
 use Rattle.paper.specs.Advance.{Memory, memory, advanced, newRecords, written, finish, takeStep, ready}
 use Rattle.laws_local.specs.Sound.{sound}
 use Rattle.laws_local.specs.Written.{latch-keep}
 use Rattle.laws_local.specs.Outcome.{Solving, floats, leaves, tips, exceeds, solves, solving, voltsOf}
-use Rattle.plan_ends.specs.Own.{ownEnds, Framed, ownNodes}
+use Rattle.plan_ends.specs.Own.{Framed, ownNodes}
 use Rattle.plan_own.specs.declared.Own.{Own}
 use Rattle.plan_lay.specs.Grown.{part}
 use Rattle.plan_own.specs.Owns.{ownIn, prepared, untilPut, Ours}
 use Rattle.plan_own.specs.Kept.{legsPut, own-put}
 use Rattle.step_factors.specs.Blocks.{renewed-none}
-use Rattle.step_floating.specs.Local.{floating-joins, joins-bare}
 use Rattle.step_legs.specs.Written.{SameBut}
-use Rattle.step_own.specs.Ends.{legOfEnd, bareOfEnd, Kept}
+use Rattle.step_own.specs.Ends.{Kept}
 use Rattle.step_own.specs.Laid.{conducting-same, SameLatches}
-use Rattle.step_own.specs.Paper.{own-floating}
 use Rattle.step_prepare.specs.Serving as Serving
 use Rattle.step_prepare.specs.Serving.{Serving}
 use Rattle.step_try.specs.declared.At.{At}
@@ -36,9 +32,9 @@ use Rattle.step_records.specs.Records.{Recordable, recordsPut, Unparted}
 use Rattle.step_send.specs.Stores.{Sendable, sentBy, fromEnd, toEnd}
 use Rattle.step_commit.specs.Asked.{recordable, sendable}
 use Rattle.step_commit.specs.Paper.{records-are, written-is}
-use Rattle.step_area.specs.declared.Turn.{Turn}
-use Rattle.step_area.specs.declared.Outcome.{Outcome}
-use Rattle.step_area.specs.Tabled.{ownLegs, Tables, area-few, standing, tables-put, put-own, tables-until, tables-latched}
+use Rattle.step_take.specs.declared.Turn.{Turn}
+use Rattle.step_take.specs.declared.Outcome.{Outcome}
+use Rattle.step_keep.specs.Tabled.{ownLegs, Tables, area-few, standing, tables-put, put-own, tables-until, tables-latched}
 
 -- the area is one of those in the tables, the step one of the study's, and the state well formed
 pub record Stepping (N : Net) (low high : ℕ) (turn : Turn) (m : Memory) : Type 0 where
@@ -75,39 +71,6 @@ pub record Came (N : Net) (low high : ℕ) (plan owns : List (List ℕ)) (nodes 
 
 pub record Moves (plan : List (List ℕ)) (nodes : List ℕ) (sources : List Words) (f : List (List Float)) (o : Own) (turn : Turn) (legs : List Words) (m : Memory) (r : Outcome) (legs′ : List Words) (m′ : Memory) : Type 0 where
   pub of : (N : Net) (low high : ℕ) (owns : List (List ℕ)) → Ready N low high plan owns legs nodes sources f m o turn → Came N low high plan owns nodes sources f turn m r legs′ m′
-
--- ---- with what is kept renewed
-
-pub record Going (plan owns : List (List ℕ)) (legs : List Words) (nodes : List ℕ) (sources : List Words) (f : List (List Float)) (recs froms tos : Words) (turn : Turn) : Type 0 where
-  pub net : Net
-  pub low : ℕ
-  pub high : ℕ
-  pub tables : Tables net low high (turn .k) recs plan owns legs nodes sources f
-  pub stepping : Stepping net low high turn (memory recs froms tos)
-
-pub record Steps (plan : List (List ℕ)) (nodes : List ℕ) (sources : List Words) (turn : Turn) (owns : List (List ℕ)) (legs : List Words) (f : List (List Float)) (m : Memory) (r : Advance) (owns′ : List (List ℕ)) (legs′ : List Words) (f′ : List (List Float)) (m′ : Memory) : Type 0 where
-  pub of : (N : Net) (low high : ℕ) → Tables N low high (turn .k) (m .records) plan owns legs nodes sources f → Stepping N low high turn m → Moved N low high plan owns′ nodes sources f′ turn m r legs′ m′
-
--- ---- 14
-bares-of : (N : Net) (k : ℕ) (recs froms tos : Words) (l : List ℕ) → map (λ x. leg (x .near) (x .far) (x .g) z) (map (legOfEnd N k recs froms tos) l) ≡ map (bareOfEnd N k recs) l
-bares-of N k recs froms tos [] = refl
-bares-of N k recs froms tos (e ∷ l) = ap (λ (t : List Leg). bareOfEnd N k recs e ∷ t) (bares-of N k recs froms tos l)
-
-floats-paper : (N : Net) (a k : ℕ) (recs froms tos : Words) → 1 ≤ a → Paper.floating (fixed N) (N .nodes) (freeOf N a) (bothLegs (branches N a k recs froms tos)) ≡ Serving.floats N a k recs
-floats-paper N a k recs froms tos one =
-    sym (own-floating N a k recs froms tos one (fixed N) (N .nodes) (freeOf N a))
-    ∙ sym (floating-joins (fixed N) (N .nodes) (freeOf N a) _ (map (legOfEnd N k recs froms tos) (ownEnds N a)) (joins-bare (map (legOfEnd N k recs froms tos) (ownEnds N a))))
-    ∙ ap (Paper.floating (fixed N) (N .nodes) (freeOf N a)) (bares-of N k recs froms tos (ownEnds N a))
-
-pub floating-step : (N : Net) (a k : ℕ) (m : Memory) (node : ℕ) → 1 ≤ a → node ≡ Serving.floats N a k (m .records) → (node ≡ 0 → ⊥) → advanced (Floating node) m ≡ ready N a k m
-unfolding ready takeStep solve settling
-floating-step N a k m node one e n = by node (e ∙ sym (floats-paper N a k (m .records) (m .froms) (m .tos) one)) n
-  where
-    by : (i : ℕ) → i ≡ Paper.floating (fixed N) (N .nodes) (freeOf N a) (bothLegs (branches N a k (m .records) (m .froms) (m .tos))) → (i ≡ 0 → ⊥)
-        → advanced (Floating i) m ≡ finish N a k m
-        (passing N (andFloating (solvedStep N a k (branches N a k (m .records) (m .froms) (m .tos)) (stillOf N a k)) (Paper.floating (fixed N) (N .nodes) (freeOf N a) (bothLegs (branches N a k (m .records) (m .froms) (m .tos))))))
-    by zero q z = absurd (z refl)
-    by (suc i) q z = rw (← q)
 
 -- ---- a step that is not taken
 refused-by : (N : Net) (a k : ℕ) (m : Memory) (s : Step) → accepted (answered k s) ≡ false → advanced (answered k s) m ≡ finish N a k m s

@@ -1,10 +1,10 @@
--- `step_area::renew` meets its contract. Assumes nothing.
+-- `step_keep::renew` meets its contract. Assumes nothing.
 use Rattle.whole.specs.Plain.{arith}
 use borrow.Author.Needs.{needs}
 use Rattle.plan_own.specs.Owns.{Ours}
-use Rattle.step_area.specs.Tabled.{area-few, ours-read, stands-read, renews-none, renews-stop, renews-on}
-use Rattle.step_area.proofs.renew.Statement.{statement}
-use Rattle.step_area.proofs.renew.Tie as tie
+use Rattle.step_keep.specs.Tabled.{area-few, ours-read, stands-read, renews-none, renews-stop, renews-on}
+use Rattle.step_keep.proofs.renew.Statement.{statement}
+use Rattle.step_keep.proofs.renew.Tie as tie
 
 abbrev start : tie.After-own-at → tie.Start
 start c = c .before .before .before

@@ -1,8 +1,8 @@
--- `call_advance::advance_in` meets its contract: what is refused before, or the step, from lent tables that are cleared. Assumes nothing.
+-- `call_room::advance_in` meets its contract: what is refused before, or the step, from lent tables that are cleared. Assumes nothing.
 use Rattle.whole.specs.Plain.{refl, ap, [], length, getD-replicate}
 use borrow.Author.Needs.{needs}
-use Rattle.call_advance.proofs.advance_in.Statement.{statement}
-use Rattle.call_advance.proofs.advance_in.Tie as tie
+use Rattle.call_room.proofs.advance_in.Statement.{statement}
+use Rattle.call_room.proofs.advance_in.Tie as tie
 
 abbrev judged : tie.Else1 → tie.After-judge
 judged e = e .before .before
@@ -27,5 +27,5 @@ returns-2 c =
 pub advance-in-spec : {M : Type 1} → statement M
 advance-in-spec =
     tie.close
-    (tie.spec (λ c κs. search needs) (λ c. search needs) (λ c. search needs) (λ c. search needs) (λ c. c .before .before .judge .ensures .refused (c .if1 .taken)) (λ c κs. search needs)
-    alone-requires (λ c. search needs) (λ c. search needs) (λ c. search needs) returns-2)
+    (tie.spec (λ c κs. search needs) (λ c. refl) (λ c. refl) (λ c. refl) (λ c. c .before .before .judge .ensures .refused (c .if1 .taken)) (λ c κs. tt)
+    alone-requires (λ c. c .before .before .records .given) (λ c. c .before .froms .given) (λ c. c .tos .given) returns-2)

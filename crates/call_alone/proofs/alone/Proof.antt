@@ -1,11 +1,11 @@
--- `call_advance::alone` meets its contract: the tables hold the area's own, and its step from them is the paper's. Assumes nothing.
+-- `call_alone::alone` meets its contract: the tables hold the area's own, and its step from them is the paper's. Assumes nothing.
 use Rattle.whole.specs.Plain.{refl, replicate}
 use borrow.Author.Needs.{needs}
 use Rattle.laws_facts.specs.Nets.{netIn}
 use Rattle.plan_own.specs.Areas.{room-first}
 use Rattle.call_judge.specs.Given.{of, given, row-count, area-few, stepping-alone, tables-alone}
-use Rattle.call_advance.proofs.alone.Statement.{statement}
-use Rattle.call_advance.proofs.alone.Tie as tie
+use Rattle.call_alone.proofs.alone.Statement.{statement}
+use Rattle.call_alone.proofs.alone.Tie as tie
 
 abbrev start : tie.After-sources → tie.Start
 start c = c .before .before .before .before .before .before
@@ -51,5 +51,5 @@ returns c =
 pub alone-spec : {M : Type 1} → statement M
 alone-spec =
     tie.close
-    (tie.spec (λ c κs. (c .pre .0 .network, row-count (c .pre .0))) (λ c κs. search needs) (λ c. search needs) (λ c. search needs) lay-area-requires put-own-requires
-    (λ c. search needs) (λ c. search needs) ready-requires (λ c. search needs) (λ c. search needs) (λ c. search needs) (λ c. search needs) returns)
+    (tie.spec (λ c κs. (c .pre .0 .network, row-count (c .pre .0))) (λ c κs. tt) (λ c. search needs) (λ c. search needs) lay-area-requires put-own-requires
+    (λ c. search needs) (λ c. search needs) ready-requires (λ c. c .before .before .records .given) (λ c. c .before .froms .given) (λ c. c .tos .given) (λ c. search needs) returns)

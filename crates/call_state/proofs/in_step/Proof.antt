@@ -1,13 +1,13 @@
--- `call_list::in_step` meets its contract: of every network that the plan is of. Assumes nothing.
+-- `call_state::in_step` meets its contract: of every network that the plan is of. Assumes nothing.
 use Rattle.whole.specs.Plain.{_≡_, sym, _∙_, true, not-true, not-false}
 use Rattle.paper.specs.Areas.{Net}
 use Rattle.paper.specs.Records.{wellFormed}
 use Rattle.call_counts.specs.Counts.{CountsIn}
 use Rattle.call_counts.specs.Level.{level-is}
 use Rattle.call_state.specs.Judged.{MappedOf}
 use Rattle.call_state.specs.Facts.{formed-counts}
-use Rattle.call_list.proofs.in_step.Statement.{statement}
-use Rattle.call_list.proofs.in_step.Tie as tie
+use Rattle.call_state.proofs.in_step.Statement.{statement}
+use Rattle.call_state.proofs.in_step.Tie as tie
 
 returns : tie.Need-returns
 returns c = λ N o. let w = c .before .well-formed in rw (sym (w .ensures N o) ∙ not-true (w .result) (c .if1 .taken))

@@ -1,10 +1,10 @@
--- `call_list::onward` meets its contract: the tables of all areas, and the piece from these. Assumes nothing.
+-- `call_piece::onward` meets its contract: the tables of all areas, and the piece from these. Assumes nothing.
 use Rattle.whole.specs.Plain.{refl, ap}
 use borrow.Author.Needs.{needs}
 use Rattle.plan_rows.specs.declared.Totals.{Totals}
-use Rattle.call_list.specs.Laid.{begins}
-use Rattle.call_list.proofs.onward.Statement.{statement}
-use Rattle.call_list.proofs.onward.Tie as tie
+use Rattle.call_piece.specs.Laid.{begins}
+use Rattle.call_piece.proofs.onward.Statement.{statement}
+use Rattle.call_piece.proofs.onward.Tie as tie
 
 fixed-nodes-requires : tie.Need-fixed-nodes-requires
 fixed-nodes-requires c κs = let p = c .before .pre in (p .1 .0 .network, ap (λ (t : Totals). t .rows) (p .0 .0 .counts))
@@ -48,8 +48,8 @@ onward-spec =
     (λ c. search needs)
     (λ c. search needs)
     steps-on-requires
-    (λ c. search needs)
-    (λ c. search needs)
-    (λ c. search needs)
-    (λ c. search needs)
+    (λ c. c .before .before .before .before .records .given)
+    (λ c. c .before .before .before .froms .given)
+    (λ c. c .before .before .tos .given)
+    (λ c. c .before .out .given)
     returns)

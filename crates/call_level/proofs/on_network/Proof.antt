@@ -1,5 +1,5 @@
--- `call_list::on_network` meets its contract: the plan, 10 for a state that is not well formed or whose areas are not in step, else the piece. Assumes nothing.
-use Rattle.whole.specs.Plain.{_≡_, sym, _∙_, true, _&&_, length, not-true, not-false}
+-- `call_level::on_network` meets its contract: the plan, 10 for a state that is not well formed or whose areas are not in step, else the piece. Assumes nothing.
+use Rattle.whole.specs.Plain.{_≡_, sym, _∙_, true, _&&_, length, not-true, not-false, refl}
 use borrow.Author.Needs.{needs}
 use Rattle.paper.specs.Records.{wellFormed}
 use Rattle.paper.specs.Advance.{Memory, memory}
@@ -7,10 +7,10 @@ use Rattle.paper.specs.Pieces.{level}
 use Rattle.laws_facts.specs.Nets.{netIn}
 use Rattle.plan_net.specs.Of.{Of, of-record}
 use Rattle.call_state.specs.Judged.{MappedOf}
-use Rattle.call_list.specs.Cases.{gives-none, judged}
-use Rattle.call_list.specs.Laid.{level-here}
-use Rattle.call_list.proofs.on_network.Statement.{statement}
-use Rattle.call_list.proofs.on_network.Tie as tie
+use Rattle.call_level.specs.Cases.{gives-none, judged}
+use Rattle.call_level.specs.Level.{level-here}
+use Rattle.call_level.proofs.on_network.Statement.{statement}
+use Rattle.call_level.proofs.on_network.Tie as tie
 
 abbrev start : tie.After-make → tie.Start
 start m = m .before .before .before .before
@@ -57,5 +57,5 @@ returns-2 c =
 pub on-network-spec : {M : Type 1} → statement M
 on-network-spec =
     tie.close
-    (tie.spec (λ c κs. search needs) in-step-requires (λ c. search needs) (λ c. search needs) (λ c. search needs) returns
-    onward-requires (λ c. search needs) (λ c. search needs) (λ c. search needs) (λ c. search needs) returns-2)
+    (tie.spec (λ c κs. search needs) in-step-requires (λ c. refl) (λ c. refl) (λ c. refl) returns
+    onward-requires (λ c. c .before .before .before .before .records .given) (λ c. c .before .before .before .froms .given) (λ c. c .before .before .tos .given) (λ c. c .before .out .given) returns-2)

@@ -1,35 +1,15 @@
 -- The tables of a network's areas as they are laid, before any step: what a piece of the listing begins from. Assumes nothing.
-use Rattle.whole.specs.Plain.{ℕ, _≡_, true, _&&_, List, arith, Words}
+use Rattle.whole.specs.Plain.{ℕ, List, arith, Words}
 use lib.Ieee.{Float}
-use Rattle.whole.specs.Folds.{and-left, and-right}
-use Rattle.paper.specs.Network.{isNetwork}
-use Rattle.paper.specs.Records.{wellFormed}
 use Rattle.paper.specs.Advance.{Memory}
-use Rattle.paper.specs.Pieces.{stepsTaken, level}
+use Rattle.paper.specs.Pieces.{stepsTaken}
 use Rattle.laws_facts.specs.Nets.{netIn}
 use Rattle.plan_rows.specs.declared.Totals.{Totals}
 use Rattle.plan_net.specs.Of.{Of}
 use Rattle.plan_own.specs.Owns.{Laid, Unprepared}
 use Rattle.step_factors.specs.Factors.{Square}
-use Rattle.laws_pieces.specs.Level.{level-counts}
-use Rattle.call_state.specs.Judged.{Long}
 use Rattle.list_round.specs.Round.{InStep, AllTables}
 use Rattle.list_pieces.specs.Begun.{Begins}
-
--- a state that was judged to be in step
-pub level-here : (net : Words) (m : Memory) → isNetwork net ≡ true → Long (m .records) (m .froms) (m .tos)
-    → (wellFormed (netIn net) (m .records) (m .froms) (m .tos) && level (netIn net) (m .records)) ≡ true → InStep net (stepsTaken (netIn net) (m .records)) m
-level-here net m n l e =
-    let N = netIn net in
-    let good = wellFormed N (m .records) (m .froms) (m .tos) in
-    record {
-      network = n;
-      level =
-          record {
-            inv = record { long = record { records = l .records-long; froms = l .froms-long; tos = l .tos-long }; good = and-left good (level N (m .records)) e };
-            counts = level-counts net n (m .records) (and-right good (level N (m .records)) e);
-          };
-    }
 
 module _ (net : Words) {plan owns : List (List ℕ)} {totals : Totals} {legs : List Words} {nodes : List ℕ} {sources : List Words} (o : Of (netIn net) plan totals) (l : Laid (netIn net) owns legs nodes sources)
     (u : Unprepared (netIn net) owns) where

@@ -1,11 +1,11 @@
--- `step_area::stepped` meets its contract: a try that fails writes nothing, and one that passes is written as the definition says. Assumes nothing.
-use Rattle.whole.specs.Plain.{_≡_, refl, sym, _∙_, true, not-true, not-false, arith}
-use borrow.Author.Needs.{needs}
+-- `step_take::stepped` meets its contract: a try that fails writes nothing, and one that passes is written as the definition says. Assumes nothing.
+use Rattle.whole.specs.Plain.{_≡_, refl, sym, _∙_, length, true, not-true, not-false, arith}
 use Rattle.paper.specs.Answers.{accepted}
 use Rattle.plan_own.specs.Owns.{Ours}
-use Rattle.step_area.specs.Stepping.{own-there, tries-at, tried-at, tables-after, not-taken, stayed, asked, came}
-use Rattle.step_area.proofs.stepped.Statement.{statement}
-use Rattle.step_area.proofs.stepped.Tie as tie
+use Rattle.plan_own.specs.Kept.{legsPut}
+use Rattle.step_take.specs.Stepping.{own-there, tries-at, tried-at, tables-after, not-taken, stayed, asked, came}
+use Rattle.step_take.proofs.stepped.Statement.{statement}
+use Rattle.step_take.proofs.stepped.Tie as tie
 
 own : (s : tie.Start) → Ours (s .pre .net) (s .args .turn .area) (s .args .o) (s .args .legs .now) (s .args .nodes .now) (s .args .sources .now)
 own s = own-there (s .pre .ready)
@@ -28,6 +28,9 @@ returns c =
     let e = sym (c .before .took .ensures) ∙ not-true _ (c .if1 .taken) in
     record { of = λ N low high owns R. stayed R (t .try-step .ensures .1) (not-taken N _ _ _ _ _ (tried-at R (placed t .at-of .ensures) (t .try-step .ensures .0) .tried) e) }
 
+same-legs : (t : tie.After-try-step) → length (legsPut (start t .args .o) (start t .args .legs .now) (t .try-step .last .1 .1 .1 .0)) ≡ length (start t .args .legs .now)
+same-legs t = tables-after (start t .pre .ready) (t .try-step .ensures .1) .tables .legs-long ∙ sym (start t .pre .ready .tables .tables .legs-long)
+
 -- ---- the step is written
 abbrev tried : tie.Else1 → tie.After-try-step
 tried e = e .before .before .before
@@ -42,6 +45,9 @@ commit-requires c κs =
     let R = start t .pre .ready in
     asked R (t .try-step .ensures .1) (tried-at R (placed t .at-of .ensures) (t .try-step .ensures .0)) (accepts e)
 
+abbrev ended : tie.After-tos → tie.Else1
+ended c = c .before .before .before .before .before .before .before .before .before .before .before
+
 returns-2 : tie.Need-returns-2
 returns-2 c =
     let w = c .before .before .before in
@@ -54,7 +60,7 @@ pub stepped-spec : {M : Type 1} → statement M
 stepped-spec =
     tie.close
     (tie.spec
-    (λ c κs. search needs)
+    (λ c κs. tt)
     (λ c. record { fits = omega (arith, own (c .before .before) .sources-in) })
     (λ c. own (c .before .before) .sources-in .0)
     (λ c. omega (arith, own (c .before .before) .sources-in))
@@ -68,11 +74,11 @@ stepped-spec =
     (λ c. omega (arith, own (c .before .before .before .before) .legs-in))
     (λ c. omega (arith, own (c .before .before .before .before) .legs-in, c .before .before .before .before .pre .ready .tables .tables .legs-long))
     try-step-requires
-    (λ c κs. search needs)
-    (λ c. search needs)
-    (λ c. search needs)
-    (λ c. search needs)
-    (λ c. search needs)
+    (λ c κs. tt)
+    (λ c. same-legs (c .before .before .before))
+    (λ c. refl)
+    (λ c. refl)
+    (λ c. refl)
     returns
     (λ c. record { fits = omega (arith, own (start (c .before .before .before)) .legs-in) })
     (λ c. own (start (c .before .before .before)) .legs-in .0)
@@ -83,8 +89,8 @@ stepped-spec =
     (λ c. omega (arith, own (start (c .before .before .before .before .before)) .nodes-in))
     (λ c. omega (arith, own (start (c .before .before .before .before .before)) .nodes-in, start (c .before .before .before .before .before) .pre .ready .tables .tables .nodes-long))
     commit-requires
-    (λ c. search needs)
-    (λ c. search needs)
-    (λ c. search needs)
-    (λ c. search needs)
+    (λ c. same-legs (tried (ended c)))
+    (λ c. c .before .before .records .given)
+    (λ c. c .before .froms .given)
+    (λ c. c .tos .given)
     returns-2)
