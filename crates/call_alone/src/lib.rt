@@ -1,3 +1,5 @@
+#![tactic(auto)]
+
 // One area's step, from tables that hold this area alone: what a call that advances does once it has judged.
 ghost use Rattle.whole.specs.Plain.{◌*◌, ◌≡◌, length};
 ghost use Rattle.whole.specs.Loans.{was};

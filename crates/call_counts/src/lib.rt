@@ -1,3 +1,5 @@
+#![tactic(auto)]
+
 // The areas' counts of steps, by the plan: how far those at a line's two ends may part, and a breaker's latch against that of its area (parts of refusal 10);
 // when an area must wait (refusal 13), and how many steps all have taken.
 ghost use Rattle.whole.specs.Plain.{◌≤◌, ◌<◌, ◌≡◌, length, every, numbers};

@@ -1,3 +1,5 @@
+#![tactic(auto)]
+
 // "a table starts from all zeros"
 ghost use Rattle.std.specs.Prelude.{◌≡◌, pos, length, replicate};
 

@@ -1,3 +1,5 @@
+#![tactic(auto)]
+
 // What is judged before an area's step is tried: "Advancing: 9, 8, then 10 to 17", as far as 13. Nothing is written but the plan and the areas.
 ghost use Rattle.whole.specs.Plain.{◌+◌, ◌≡◌, true, length};
 ghost use Rattle.whole.specs.Loans.{was, is};

@@ -1,3 +1,5 @@
+#![tactic(auto)]
+
 // A listing's last test, and the piece: 10, or the state is well formed and all areas have taken as many steps.
 ghost use Rattle.whole.specs.Plain.{◌≤◌, ◌≡◌, true, length};
 ghost use Rattle.whole.specs.Loans.{was, is};

@@ -1,3 +1,5 @@
+#![tactic(auto)]
+
 // The listing, on all inputs: 9, 8, then 10, and the next piece of the listing in a lent buffer. A refused call writes nothing.
 ghost use Rattle.whole.specs.Loans.{was, is};
 ghost use Rattle.paper.specs.Pieces.{Lists};

@@ -1,3 +1,5 @@
+#![tactic(auto)]
+
 // 8 NETWORK: "lent network record not one the reader could write". The rows are replayed through the one function of faults that the reader goes by.
 ghost use Rattle.whole.specs.Plain.{◌≤◌, ◌<◌, ◌≡◌, true, length};
 ghost use Rattle.whole.specs.Loans.{was};

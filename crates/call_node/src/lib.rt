@@ -1,3 +1,5 @@
+#![tactic(auto)]
+
 // A node's voltage, its largest magnitude and the first step where it came, asked by node number: 9, 8, 10 as far as it is of the records, 2 where there is
 // no such node. Nothing is lent to be written.
 ghost use Rattle.whole.specs.Plain.{◌≤◌, ◌≡◌, true, length};

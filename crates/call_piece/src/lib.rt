@@ -1,3 +1,5 @@
+#![tactic(auto)]
+
 // The next piece of a listing, from tables that hold all areas: a call that is refused before does not pay for them.
 ghost use Rattle.whole.specs.Plain.{◌≤◌, length};
 ghost use Rattle.whole.specs.Loans.{was, is};

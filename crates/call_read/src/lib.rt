@@ -1,3 +1,5 @@
+#![tactic(auto)]
+
 // "Reading: 9, 7, then the first faulty line, in it 1 to 6 in turn; the answer carries the line number (0 for 7 and 9)."
 ghost use Rattle.whole.specs.Plain.{◌≡◌, length};
 ghost use Rattle.whole.specs.Loans.{was, is};

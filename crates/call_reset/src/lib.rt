@@ -1,3 +1,5 @@
+#![tactic(auto)]
+
 // "Resetting gives 9 or 8, or writes the records and both line stores all zero and answers 0."
 ghost use Rattle.whole.specs.Plain.{◌≡◌};
 ghost use Rattle.whole.specs.Loans.{was};

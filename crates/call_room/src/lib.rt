@@ -1,3 +1,5 @@
+#![tactic(auto)]
+
 // An area's advance in lent tables. "Advancing: 9, 8, then 10 to 17"; "Every refusal leaves all lent memory unchanged."
 ghost use Rattle.whole.specs.Loans.{was};
 ghost use Rattle.paper.specs.One.{Advances};

@@ -1,3 +1,5 @@
+#![tactic(auto)]
+
 // How a network is laid out, asked of its record alone: how many areas it has, a node's area, a branch's row. 9, 8, 2 where there is no such node or branch.
 // Nothing is lent to be written.
 ghost use Rattle.whole.specs.Plain.{suc, ◌≤◌, ◌≡◌, true, length};

@@ -1,3 +1,5 @@
+#![tactic(auto)]
+
 // 10 STATE: lent records and line stores, judged exactly, by the plan. No function has the network record: what is said is said of every network that the
 // plan is of.
 ghost use Rattle.whole.specs.Plain.{◌+◌, ◌≤◌, ◌<◌, ◌≡◌, ◌&&◌, cond, T, nat_abs, non_neg, length, get_or, up_to, word, every, numbers};

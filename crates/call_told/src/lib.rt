@@ -1,3 +1,5 @@
+#![tactic(auto)]
+
 // The numbers and values of what the other calls answer, as call_answers has them of reading, resetting and advancing: asking for a node, listing, writing.
 ghost use Rattle.whole.specs.Plain.{◌≡◌};
 ghost use Rattle.paper.specs.Answers.{writing_number, writing_bytes};

@@ -1,3 +1,5 @@
+#![tactic(auto)]
+
 // "Write studies out again.", on all inputs: 9, then 8, or the study's text in a lent area. A refused call writes nothing.
 ghost use Rattle.whole.specs.Loans.{was, is};
 ghost use Rattle.paper.specs.Writing.{Writes};

@@ -1,3 +1,5 @@
+#![tactic(auto)]
+
 // What a customer links: the calls over lent memory, for Rattle and for C. None has a `requires`; each refuses instead. The calls for Rattle are those of
 // the crates below, by one name.
 ghost use Rattle.whole.specs.Loans.{was, is};

@@ -1,1 +1,3 @@
+#![tactic(auto)]
+
 // Breakers over every run: the theorem stands in specs/.

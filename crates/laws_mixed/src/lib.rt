@@ -1,1 +1,3 @@
+#![tactic(auto)]
+
 // Theorems over runs that mix calls of `advance` and of `list`: they stand in specs/.

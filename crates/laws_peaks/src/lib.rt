@@ -1,1 +1,3 @@
+#![tactic(auto)]
+
 // Peaks over every run: the theorem stands in specs/.

@@ -1,1 +1,3 @@
+#![tactic(auto)]
+
 // Theorems over the listing by pieces: they stand in specs/.

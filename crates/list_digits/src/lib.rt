@@ -1,3 +1,5 @@
+#![tactic(auto)]
+
 // Up to eight digits, put into a lent buffer from a place on, two at a time; each function answers the next place.
 ghost use Rattle.whole.specs.Plain.{◌+◌, ◌/◌, ◌^◌, ◌≤◌, ◌<◌, ◌≡◌, length};
 ghost use Rattle.whole.specs.Loans.{was, is};

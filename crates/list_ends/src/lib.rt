@@ -1,3 +1,5 @@
+#![tactic(auto)]
+
 // The lines of a listing, put into a lent buffer from a place on; each function answers the next place.
 ghost use Rattle.std.specs.Prelude.{◌≡◌, [], ◌∷◌, ◌++◌, ◌+◌, ◌≤◌, pos, length};
 ghost use Rattle.paper.specs.Rows.{bytes};

@@ -1,3 +1,5 @@
+#![tactic(auto)]
+
 // One line of a full step: "`v`, step, node, voltage" or "`i`, step, branch, current". What the lines of a step begin with is the same in all of them, and is
 // spelt once.
 ghost use Rattle.whole.specs.Plain.{◌+◌, ◌^◌, ◌≤◌, ◌<◌, ◌≡◌, [], ◌∷◌, length, sets};

@@ -1,3 +1,5 @@
+#![tactic(auto)]
+
 // A number's digits, however many, and its sign, put into a lent buffer from a place on, eight at a time; each function answers the next place.
 ghost use Rattle.whole.specs.Plain.{◌+◌, ◌^◌, ◌≤◌, ◌<◌, ◌≡◌, length};
 ghost use Rattle.whole.specs.Loans.{was, is};

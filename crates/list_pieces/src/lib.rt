@@ -1,3 +1,5 @@
+#![tactic(auto)]
+
 // The listing by pieces: full step after full step into a lent buffer, until the next might not fit, an area is refused or the study is done.
 ghost use Rattle.whole.specs.Plain.{◌≤◌, ◌≡◌, length};
 ghost use Rattle.whole.specs.Loans.{was, is};

@@ -1,3 +1,5 @@
+#![tactic(auto)]
+
 // One step of all areas, in rising order: "advances areas in rising order step by step".
 ghost use Rattle.whole.specs.Plain.{◌<◌, ◌≡◌};
 ghost use Rattle.whole.specs.Loans.{was, is};

@@ -1,3 +1,5 @@
+#![tactic(auto)]
+
 // The lines of a full step: "`v`, step, node, voltage for each node, then `i`, step, branch, current for each branch".
 ghost use Rattle.whole.specs.Plain.{◌+◌, ◌^◌, ◌≤◌, ◌<◌, ◌≡◌, length};
 ghost use Rattle.whole.specs.Loans.{was, is};

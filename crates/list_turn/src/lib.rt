@@ -1,3 +1,5 @@
+#![tactic(auto)]
+
 // What a step of all areas lists: the lines of a full step; or, where an area was refused, the stop line.
 ghost use Rattle.whole.specs.Plain.{suc, ◌+◌, ◌≤◌, ◌≡◌, length};
 ghost use Rattle.whole.specs.Loans.{was, is};

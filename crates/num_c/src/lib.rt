@@ -1,3 +1,5 @@
+#![tactic(auto)]
+
 // The numbers layer for programs in C. No function requires anything: what a callee requires is tested here.
 ghost use Rattle.whole.specs.Plain.{◌≡◌};
 ghost use Rattle.whole.specs.Loans.{was, is};

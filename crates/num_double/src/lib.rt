@@ -1,3 +1,5 @@
+#![tactic(auto)]
+
 // Whole numbers to doubles and back, each operation rounded once.
 ghost use Rattle.whole.specs.Plain.{◌≤◌, ◌≡◌, true};
 ghost use Rattle.std.specs.Float.Ieee.Positive.{num, den};

@@ -1,3 +1,5 @@
+#![tactic(auto)]
+
 // What lies between steps: a value between two others, rounded down once, also below zero: "the value sent at step k - q plus (that of step k - q - 1 minus it) · r / step, rounded
 // down". The product has up to 78 bits; its quotient is worked out by parts that fit a word.
 ghost use Rattle.whole.specs.Plain.{◌+◌, ◌*◌, ◌/◌, ◌≤◌, ◌<◌, ◌≡◌, cond, eqb};

@@ -1,3 +1,5 @@
+#![tactic(auto)]
+
 // The constants that code reads are the numbers of the definitions: both ends of each quantity, the ends of the study text's fields, how much of each thing
 // there may be, and where the sections of the records begin. The functions promise that and nothing else.
 ghost use Rattle.whole.specs.Plain.{◌+◌, ◌≡◌, pos, neg_ℤ};

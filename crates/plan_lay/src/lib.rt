@@ -1,3 +1,5 @@
+#![tactic(auto)]
+
 // An area's own legs, nodes and sources, each put into a table behind what stands there already: its legs with what the network alone settles of them.
 ghost use Rattle.whole.specs.Plain.{ℕ, ◌+◌, ◌≤◌, ◌<◌, ◌≡◌, true, eqb, length};
 ghost use Rattle.whole.specs.Loans.{was, is};

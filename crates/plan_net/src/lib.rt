@@ -1,1 +1,3 @@
+#![tactic(auto)]
+
 // Which network a plan is of. The crate is its specs.

@@ -1,3 +1,5 @@
+#![tactic(auto)]
+
 // What is an area's own, in tables that all areas share, area after area: its legs, its nodes, the free ones first, and its sources; and where each
 // area's own stands.
 ghost use Rattle.whole.specs.Plain.{◌+◌, ◌≤◌, ◌<◌, ◌≡◌, length, set};

@@ -1,3 +1,5 @@
+#![tactic(auto)]
+
 // A network record by its rows, in table order: the words of row i are its kind and then its fields as in the text.
 
 ghost use Rattle.whole.specs.Plain.{◌<◌, ◌≡◌, true, pos, length, word, nat};

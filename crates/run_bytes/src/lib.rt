@@ -1,3 +1,5 @@
+#![tactic(auto)]
+
 // Standard input and standard output, by the kernel's read and write: a call that a signal interrupts is made again, and a failure is never taken for the end.
 ghost use Rattle.whole.specs.Plain.{◌≤◌, ◌-◌, length};
 ghost use Rattle.whole.specs.Loans.{was, is};

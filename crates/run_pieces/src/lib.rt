@@ -1,3 +1,5 @@
+#![tactic(auto)]
+
 // The listing of a study, piece after piece, each handed over to standard output before the next is made.
 ghost use Rattle.whole.specs.Loans.{was, is};
 ghost use Rattle.paper.specs.Lent.{before, after};

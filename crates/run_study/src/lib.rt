@@ -1,3 +1,5 @@
+#![tactic(auto)]
+
 // What becomes of a study text: a line that refuses it, or its listing from a reset. On slices alone; the kernel's calls are those of run_bytes.
 ghost use Rattle.whole.specs.Plain.{◌≤◌, ◌≡◌, true, length};
 ghost use Rattle.whole.specs.Loans.{was, is};

@@ -1,3 +1,5 @@
+#![tactic(auto)]
+
 // One step of one area, from the tables: 14 to 17 in turn, or the step is taken and written. What is kept for the positions of the area's switches is
 // renewed where one has changed or parted.
 ghost use Rattle.whole.specs.Loans.{was, is};

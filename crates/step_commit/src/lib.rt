@@ -1,3 +1,5 @@
+#![tactic(auto)]
+
 // What an accepted step of one area writes: its count, its voltages and peaks, the words of its rows and latches, and what its line ends send. A leg's line has its current and
 // what it passes on; nothing is worked out again.
 ghost use Rattle.whole.specs.Plain.{◌≤◌, ◌≡◌, length};

@@ -1,3 +1,5 @@
+#![tactic(auto)]
+
 // The conductances of an area's legs at a step, and how long they stay: "R and closed SW: i = g·u. Open SW: i = 0 and no conductance."
 ghost use Rattle.whole.specs.Plain.{◌≤◌, ◌<◌, ◌≡◌, [], set, length, get_or, word, nat};
 ghost use Rattle.whole.specs.Loans.{was, is};

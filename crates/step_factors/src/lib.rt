@@ -1,3 +1,5 @@
+#![tactic(auto)]
+
 // "Elimination" in two: a matrix changes only where a switch does, a right side at each step. `factor` eliminates the matrix alone and keeps each
 // multiplier in the place that it was made from; `substitute` then solves for one right side. Each cell and each right side meets the stated
 // operations in the stated order. All areas share one table: an area's n lines stand there from `base` on.

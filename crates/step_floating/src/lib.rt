@@ -1,3 +1,5 @@
+#![tactic(auto)]
+
 // "A free node needs a path of conducting branches (R, L, C, closed SW) to ground, to a fixed node, or to a node with a line end, itself
 // included." A line's end is a leg to ground, and an open switch conducts nothing; no leg leaves the area.
 ghost use Rattle.whole.specs.Plain.{◌<◌, ◌≡◌, length};

@@ -1,3 +1,5 @@
+#![tactic(auto)]
+
 // Each leg's history at a step: what an L or a C holds since the last one, what a line's end receives.
 ghost use Rattle.whole.specs.Plain.{◌≤◌, ◌<◌, ◌≡◌, map, nat_abs, length, word};
 ghost use Rattle.whole.specs.Loans.{was, is};

@@ -1,3 +1,5 @@
+#![tactic(auto)]
+
 // What is kept for an area from step to step, for the positions of its switches: renewed where one has changed or parted.
 ghost use Rattle.whole.specs.Plain.{◌≡◌};
 ghost use Rattle.whole.specs.Loans.{was, is};

@@ -1,3 +1,5 @@
+#![tactic(auto)]
+
 // When a breaker parts, and its latch (02): "A closed switch now parts after the first step k, at or after open - 1 and later than its closing step, at which its
 // current is zero or of opposite sign to that of step k - 1".
 ghost use Rattle.whole.specs.Plain.{◌≤◌, ◌<◌, ◌≡◌, length};

@@ -1,3 +1,5 @@
+#![tactic(auto)]
+
 // An area's legs as a step keeps them: a line of words for each end of its own, in table order. Of a line the first five words are the network's, g is
 // the position of the switches, h the step; the last two are what the step found: the current, and what the leg passes on to the next step.
 ghost use Rattle.whole.specs.Plain.{◌+◌, ◌<◌, ◌≡◌, [], ◌+ℤ◌, set, length, get_or, word};

@@ -1,3 +1,5 @@
+#![tactic(auto)]
+
 // What an area keeps for a position of its switches: its legs' conductances, that no node floats, and the factors of its matrix. A breaker's position is by
 // its latch in the records.
 ghost use Rattle.whole.specs.Plain.{ℕ, ◌≤◌, ◌≡◌, length};

@@ -1,3 +1,5 @@
+#![tactic(auto)]
+
 // "The from-end stores are one lent slice and the to-end stores another; a reader is handed the far end's part of one of them, no copy."
 
 ghost use Rattle.whole.specs.Plain.{◌+◌, ◌≤◌, ◌<◌, ◌≡◌, length};

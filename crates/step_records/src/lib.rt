@@ -1,3 +1,5 @@
+#![tactic(auto)]
+
 // What an accepted step of one area writes into the records: its count, its nodes' voltages and peaks, the words of its rows, the latches of breakers that part. A leg's
 // line has its current and what it passes on; nothing is worked out again.
 ghost use Rattle.whole.specs.Plain.{◌≤◌, ◌<◌, ◌≡◌, ◌&&◌, eqb, pos, nat_abs, length};

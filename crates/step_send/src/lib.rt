@@ -1,3 +1,5 @@
+#![tactic(auto)]
+
 // What a line's end sends, into that end's store: "step s in place s mod 2d".
 ghost use Rattle.whole.specs.Plain.{◌+◌, ◌≤◌, ◌<◌, ◌%◌, ◌≡◌, length, set};
 ghost use Rattle.whole.specs.Loans.{was, is};

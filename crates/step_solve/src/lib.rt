@@ -1,3 +1,5 @@
+#![tactic(auto)]
+
 // One right side for the factors that an area keeps: what its legs draw, the equations' right sides as doubles, and the voltages of its free nodes, or
 // refusal 15 with the lowest node whose double is outside the range.
 ghost use Rattle.whole.specs.Plain.{suc, ◌+◌, ◌≤◌, ◌<◌, ◌≡◌, map, length, word};

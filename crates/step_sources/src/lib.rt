@@ -1,3 +1,5 @@
+#![tactic(auto)]
+
 // "A source before its start is 0; from start, with n steps since": what an area's sources hold and inject at one step.
 ghost use Rattle.whole.specs.Plain.{◌*◌, ◌≤◌, ◌<◌, ◌≡◌, true, [], pos, nat_abs, le_z, length, get_or, nat};
 ghost use Rattle.whole.specs.Loans.{was, is};

@@ -1,3 +1,5 @@
+#![tactic(auto)]
+
 // One step of one area, from what is kept for it: 15 to 17 in turn, or the step is taken and written.
 ghost use Rattle.whole.specs.Plain.{◌≡◌};
 ghost use Rattle.whole.specs.Loans.{was, is};

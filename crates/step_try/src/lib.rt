@@ -1,3 +1,5 @@
+#![tactic(auto)]
+
 // One step of one area tried, on what is kept for its switches' positions: 15, 16 and 17 in turn, or the voltages. Nothing lent for the study is written.
 ghost use Rattle.whole.specs.Plain.{ℕ, drop, ◌-◌, ◌≡◌, nat};
 ghost use Rattle.whole.specs.Loans.{was, is};

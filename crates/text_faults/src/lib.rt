@@ -1,3 +1,5 @@
+#![tactic(auto)]
+
 // What may be wrong with a row whose spelling is right, after the rows before it: refusals 2 to 6. One function, for the reader's lines and for the rows of a
 // lent network record.
 ghost use Rattle.whole.specs.Plain.{◌≤◌, ◌<◌, ◌+◌, ◌*◌, ◌≡◌, false, true, cond, nat_abs, get_or, word};

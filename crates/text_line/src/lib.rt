@@ -1,3 +1,5 @@
+#![tactic(auto)]
+
 // One line of the study text as a row: "Lines end in LF, the last one too; fields are parted by one tab."
 ghost use Rattle.whole.specs.Plain.{◌≤◌, ◌<◌, ◌+◌, ◌≡◌, length, drop};
 ghost use Rattle.whole.specs.Loans.{was};

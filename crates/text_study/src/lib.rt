@@ -1,3 +1,5 @@
+#![tactic(auto)]
+
 // All lines of the study text, one after the other, into a network record; or the first faulty line and its fault.
 ghost use Rattle.whole.specs.Plain.{◌≤◌, ◌<◌, ◌+◌, ◌≡◌, true, false, ◌&&◌, bool_beq, eqb, ltb, pos, length, replicate};
 ghost use Rattle.whole.specs.Plain.{sets};

@@ -1,3 +1,5 @@
+#![tactic(auto)]
+
 // A line's word as a kind, and a field as a number. "Numbers are decimal without leading zeros; a minus stands only before a nonzero peak";
 // "a number however long is well spelt".
 ghost use Rattle.whole.specs.Plain.{◌≤◌, ◌<◌, ◌+◌, ◌≡◌, true, false, cond, ◌&&◌, eqb, pos, neg_ℤ, length, get_or, drop};

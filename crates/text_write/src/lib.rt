@@ -1,3 +1,5 @@
+#![tactic(auto)]
+
 // A study's text from its network record, put into a lent buffer line by line, in table order; each function answers the next place. The words,
 // and how many fields follow them, come from the table of kinds.
 ghost use Rattle.whole.specs.Plain.{◌+◌, ◌≤◌, ◌<◌, ◌≡◌, true, length};

@@ -110,7 +110,7 @@ abs_sub_le x y p q = omega (arith, abs_sub x y)
 
 -- what the machine reads back of a signed number that fits
 pub read64 : (z : ℤ) → mag z < 2 ^ 63 → to_z w64 (of_z w64 z) ≡ z
-read64 z h = to_z-of_z (record { sfits = h })
+read64 z h = to_z-of_z {w = w64} (record { sfits = h })
 
 -- ---- a difference of two naturals
 pub subℕ_lt : (a b : ℕ) → a < b → sub_ℕ a b ≡ negsuc (b - suc a)

@@ -45,11 +45,13 @@ abs_most (negsuc n) h = omega arith
 
 pub room_fits : (m x : ℤ) → T (non_neg m) → SFits w64 m → SFits w64 x → SFits w64 (room_of m x)
 room_fits (pos k) x t f g = rw (pos_sub k (nat_abs x)) (room_fits_at k (nat_abs x) f.sfits (abs_most x g.sfits))
+room_fits (negsuc _) x t f g = elim t [ ]
 
 -- one word: m - |x| is no negative number
 pub room_sign : (m x : ℤ) → T (non_neg m) → le_z (pos 0) (room_of m x) ≡ up_to (nat_abs m) x
 unfolding up_to
 room_sign (pos k) x t = rw (pos_sub k (nat_abs x)) (room_sign_at k (nat_abs x))
+room_sign (negsuc _) x t = elim t [ ]
 
 -- ---- the sign of a word is its highest bit
 pub sign_bit : (n : ℕ) → le_z (pos 0) (to_z w64 n) ≡ ltb n (2 ^ 63)
