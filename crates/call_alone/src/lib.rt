@@ -2,11 +2,9 @@
 
 // One area's step, from tables that hold this area alone: what a call that advances does once it has judged.
 ghost use Rattle.whole.specs.Plain.{◌*◌, ◌≡◌, length};
-ghost use Rattle.whole.specs.Loans.{was};
 ghost use Rattle.paper.specs.Limits as Limits;
 ghost use Rattle.paper.specs.Advance as Paper;
-ghost use Rattle.paper.specs.Advance.{advanced};
-ghost use Rattle.paper.specs.Lent.{lent, before, after};
+ghost use Rattle.paper.specs.Advance.{memory, advanced};
 ghost use Rattle.laws_facts.specs.Nets.{net_in};
 ghost use Rattle.step_factors.specs.Factors.{Square};
 ghost use Rattle.step_take.specs.Stepping.{Stepping};
@@ -43,10 +41,10 @@ pub fn alone(
     factors: &mut Matrix,
 ) -> Advance
     requires seen { Seen net.now plan.now areas.now totals }
-    requires stepping { Stepping (net_in net.now) 1 totals.areas turn (lent records froms tos) }
+    requires stepping { Stepping (net_in net.now) 1 totals.areas turn (memory records.old froms.old tos.old) }
     requires legs_len { (length legs.old ≡ 2 * Limits.row_end) × Square factors.old }
-    ensures { advanced result (after records froms tos)
-        ≡ Paper.ready (net_in (was net)) turn.area turn.k (before records froms tos) }
+    ensures { advanced result (memory records.new froms.new tos.new)
+        ≡ Paper.ready (net_in net.now) turn.area turn.k (memory records.old froms.old tos.old) }
 {
     let fixed = plan_lay::fixed_nodes(net, totals.rows);
     let at = plan_own::nothing();

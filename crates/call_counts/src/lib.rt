@@ -3,7 +3,6 @@
 // The areas' counts of steps, by the plan: how far those at a line's two ends may part, and a breaker's latch against that of its area (parts of refusal 10);
 // when an area must wait (refusal 13), and how many steps all have taken.
 ghost use Rattle.whole.specs.Plain.{◌≤◌, ◌<◌, ◌≡◌, length, every, numbers};
-ghost use Rattle.whole.specs.Loans.{was};
 ghost use Rattle.paper.specs.Areas.{Net};
 ghost use Rattle.paper.specs.Records.{count_of};
 ghost use Rattle.paper.specs.Advance.{first_late};
@@ -19,7 +18,7 @@ use plan_rows::{Row, Table};
 // How many steps area a has taken.
 pub fn count_of(records: &[i64], a: usize) -> usize
     requires { CountIn records.now a }
-    ensures { result ≡ count_of (was records) a }
+    ensures { result ≡ count_of records.now a }
 {
     let word = records[sections::COUNTS + (a - 1)];
     word as usize
@@ -28,7 +27,7 @@ pub fn count_of(records: &[i64], a: usize) -> usize
 // "areas at a line's two ends differ by at most d in count"
 pub fn near(r: Row, records: &[i64]) -> bool
     requires { LineIn records.now r }
-    ensures { result ≡ near_by (was records) r }
+    ensures { result ≡ near_by records.now r }
 {
     if r.kind != kinds::LINE {
         return true;
@@ -59,7 +58,7 @@ fn latch_formed(r: Row, latch: i64, count: usize) -> bool
 // The same of the row in place i, where it is an SW.
 pub fn latched(r: Row, records: &[i64], i: usize) -> bool
     requires { BreakerIn records.now r × (i < Limits.row_end) × (length records.now ≡ Limits.record_words) }
-    ensures { result ≡ latched_by (was records) r i }
+    ensures { result ≡ latched_by records.now r i }
 {
     if r.kind != kinds::SW {
         return true;
@@ -71,7 +70,7 @@ pub fn latched(r: Row, records: &[i64], i: usize) -> bool
 // 13 WAIT: "a far area's count is below k - d"
 fn waits_for(r: Row, records: &[i64], area: usize, k: usize) -> bool
     requires { LineIn records.now r }
-    ensures { result ≡ waits_by area k (was records) r }
+    ensures { result ≡ waits_by area k records.now r }
 {
     if r.kind != kinds::LINE {
         return false;
@@ -84,7 +83,7 @@ fn waits_for(r: Row, records: &[i64], area: usize, k: usize) -> bool
 // The place, from 1, of the first row that the area's step k waits for; 0 where there is none.
 pub fn first_late(plan: &Table, rows: usize, records: &[i64], area: usize, k: usize) -> usize
     requires { Counted plan.now rows records.now }
-    ensures { (N : Net) → RowsOf N (was plan) rows → result ≡ first_late N area k (was records) 0 N.rows }
+    ensures { (N : Net) → RowsOf N plan.now rows → result ≡ first_late N area k records.now 0 N.rows }
 {
     let mut i = 0;
     while i < rows {
@@ -100,7 +99,7 @@ pub fn first_late(plan: &Table, rows: usize, records: &[i64], area: usize, k: us
 // How many steps all areas have taken, where they have taken as many: area 1 tells; without areas, all of them.
 pub fn steps_taken(records: &[i64], areas: usize, steps: usize) -> usize
     requires { CountsIn records.now areas }
-    ensures { result ≡ taken_by (was records) areas steps }
+    ensures { result ≡ taken_by records.now areas steps }
 {
     if areas < 1 {
         return steps;
@@ -111,7 +110,7 @@ pub fn steps_taken(records: &[i64], areas: usize, steps: usize) -> usize
 // Whether each area has taken so many.
 pub fn all_taken(records: &[i64], areas: usize, taken: usize) -> bool
     requires { CountsIn records.now areas }
-    ensures { result ≡ every (took_all (was records) taken) (numbers 1 areas) }
+    ensures { result ≡ every (took_all records.now taken) (numbers 1 areas) }
 {
     let mut all = true;
     let mut passed = 0;

@@ -2,11 +2,10 @@
 
 // What is judged before an area's step is tried: "Advancing: 9, 8, then 10 to 17", as far as 13. Nothing is written but the plan and the areas.
 ghost use Rattle.whole.specs.Plain.{◌+◌, ◌≡◌, true, length};
-ghost use Rattle.whole.specs.Loans.{was, is};
 ghost use Rattle.paper.specs.Limits as Limits;
 ghost use Rattle.paper.specs.Network.{is_network};
 ghost use Rattle.paper.specs.One.{Advances};
-ghost use Rattle.paper.specs.Lent.{before};
+ghost use Rattle.paper.specs.Advance.{memory};
 ghost use Rattle.call_state.specs.Judged.{Long};
 ghost use Rattle.call_judge.specs.Judging.{refusal, OnNet, Judges};
 
@@ -43,8 +42,8 @@ fn on_network(
 ) -> Judged
     requires net_value { (is_network net.now ≡ true) × Long records.now froms.now tos.now }
     requires areas_len { (length areas.old ≡ Limits.node_end + 1) × (length plan.old ≡ Limits.row_end) }
-    ensures { Judges (OnNet (was net) area (before records froms tos)) (was net) area (before records froms tos)
-        result (is plan) (is areas) }
+    ensures { Judges (OnNet net.now area (memory records.now froms.now tos.now)) net.now area (memory records.now froms.now tos.now)
+        result plan.new areas.new }
 {
     let totals = plan_rows::make(net, areas, plan);
     if !call_state::well_formed(plan, areas, totals, records, froms, tos) {
@@ -99,8 +98,8 @@ pub fn judge(
     plan: &mut Table,
 ) -> Judged
     requires { (length areas.old ≡ Limits.node_end + 1) × (length plan.old ≡ Limits.row_end) }
-    ensures { Judges (Advances (was network) area (before records froms tos)) (was network) area
-        (before records froms tos) result (is plan) (is areas) }
+    ensures { Judges (Advances network.now area (memory records.now froms.now tos.now)) network.now area
+        (memory records.now froms.now tos.now) result plan.new areas.new }
 {
     if !call_lent::fits(network, records, froms, tos) {
         return unread(Advance::Store);

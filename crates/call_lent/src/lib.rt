@@ -2,14 +2,13 @@
 
 // 9 STORE: "a lent length wrong: network 1,024 signed 64-bit words, .. line stores 4,096 each"; with peaks (02) "Records become 1,024 words"
 ghost use Rattle.whole.specs.Plain.{◌≡◌};
-ghost use Rattle.whole.specs.Loans.{was};
 ghost use Rattle.paper.specs.Advance as Paper;
-ghost use Rattle.paper.specs.Lent.{before};
+ghost use Rattle.paper.specs.Advance.{memory};
 
 use paper::Room;
 
 pub fn fits(network: &[i64], records: &[i64], froms: &[i64], tos: &[i64]) -> bool
-    ensures { result ≡ Paper.fits (was network) (before records froms tos) }
+    ensures { result ≡ Paper.fits network.now (memory records.now froms.now tos.now) }
 {
     let first = (network.len() == Room::NETWORK) & (records.len() == Room::RECORDS);
     let second = first & (froms.len() == Room::STORE);

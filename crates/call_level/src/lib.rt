@@ -2,11 +2,10 @@
 
 // A listing's last test, and the piece: 10, or the state is well formed and all areas have taken as many steps.
 ghost use Rattle.whole.specs.Plain.{◌≤◌, ◌≡◌, true, length};
-ghost use Rattle.whole.specs.Loans.{was, is};
 ghost use Rattle.paper.specs.Limits as Limits;
 ghost use Rattle.paper.specs.Network.{is_network};
 ghost use Rattle.paper.specs.Pieces.{on_level};
-ghost use Rattle.paper.specs.Lent.{before, after};
+ghost use Rattle.paper.specs.Advance.{memory};
 ghost use Rattle.laws_facts.specs.Nets.{net_in};
 ghost use Rattle.call_state.specs.Judged.{Long};
 ghost use Rattle.list_pieces.specs.Sofar.{Gives};
@@ -24,8 +23,8 @@ pub fn on_network(
 ) -> Piece
     requires net_value { (is_network net.now ≡ true) × Long records.old froms.old tos.old }
     requires in_bounds { Limits.step_bytes ≤ length out.old }
-    ensures { Gives (on_level (was net) (net_in (was net)) (before records froms tos) (length (was out))) (was out)
-        result.answer result.count (is out) (after records froms tos) }
+    ensures { Gives (on_level net.now (net_in net.now) (memory records.old froms.old tos.old) (length out.old)) out.old
+        result.answer result.count out.new (memory records.new froms.new tos.new) }
 {
     let mut area = [0; Node::PLACES];
     let mut plan = [[0; plan_rows::WORDS]; Room::ROWS];

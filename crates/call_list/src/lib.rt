@@ -1,9 +1,8 @@
 #![tactic(auto)]
 
 // The listing, on all inputs: 9, 8, then 10, and the next piece of the listing in a lent buffer. A refused call writes nothing.
-ghost use Rattle.whole.specs.Loans.{was, is};
 ghost use Rattle.paper.specs.Pieces.{Lists};
-ghost use Rattle.paper.specs.Lent.{before, after};
+ghost use Rattle.paper.specs.Advance.{memory};
 
 use list_pieces::Piece;
 use paper::{Listing, Room};
@@ -16,8 +15,8 @@ pub fn list(
     tos: &mut [i64],
     out: &mut [u8],
 ) -> Piece
-    ensures { Lists (was network) (before records froms tos) (was out) result.answer result.count (is out)
-        (after records froms tos) }
+    ensures { Lists network.now (memory records.old froms.old tos.old) out.old result.answer result.count out.new
+        (memory records.new froms.new tos.new) }
 {
     if !call_lent::fits(network, records, froms, tos) {
         return Piece {

@@ -2,7 +2,6 @@
 
 // 8 NETWORK: "lent network record not one the reader could write". The rows are replayed through the one function of faults that the reader goes by.
 ghost use Rattle.whole.specs.Plain.{◌≤◌, ◌<◌, ◌≡◌, true, length};
-ghost use Rattle.whole.specs.Loans.{was};
 ghost use Rattle.paper.specs.Limits as Limits;
 ghost use Rattle.paper.specs.Rows.{kind};
 ghost use Rattle.paper.specs.Network.{is_network};
@@ -17,7 +16,7 @@ use text_faults::Seen;
 // the eight words of row i
 fn row_at(net: &[i64], i: usize) -> [i64; 8]
     requires { (length net.now ≡ Limits.network_words) × (i < Limits.row_end) }
-    ensures { result ≡ words_of (was net) i }
+    ensures { result ≡ words_of net.now i }
 {
     let b = 8 + 8 * i;
     [
@@ -34,7 +33,7 @@ fn row_at(net: &[i64], i: usize) -> [i64; 8]
 
 fn study_row(net: &[i64]) -> [i64; 8]
     requires { length net.now ≡ Limits.network_words }
-    ensures { result ≡ study_words (was net) }
+    ensures { result ≡ study_words net.now }
 {
     [0, net[0], net[1], net[2], 0, 0, 0, 0]
 }
@@ -74,7 +73,7 @@ fn good(seen: Seen, row: [i64; 8]) -> bool
 // the words that no row has
 fn blank(net: &[i64], rows: usize) -> bool
     requires { (length net.now ≡ Limits.network_words) × (rows ≤ Limits.row_end) }
-    ensures { result ≡ Judged.blank (was net) rows }
+    ensures { result ≡ Judged.blank net.now rows }
 {
     let end = 8 + 8 * rows;
     whole::all_zero(&net[4..8]) & whole::all_zero(&net[end..])
@@ -84,7 +83,7 @@ fn blank(net: &[i64], rows: usize) -> bool
 fn rows_pass(net: &[i64], rows: usize, first: Seen) -> bool
     requires sized { Sized net.now rows }
     requires rows_value { (Judged.blank net.now rows ≡ true) × Replayed net.now 0 first }
-    ensures { result ≡ is_network (was net) }
+    ensures { result ≡ is_network net.now }
 {
     let mut seen = first;
     let mut i = 0;
@@ -104,7 +103,7 @@ fn rows_pass(net: &[i64], rows: usize, first: Seen) -> bool
 fn table_passes(net: &[i64], rows: usize) -> bool
     requires sized { Sized net.now rows }
     requires rows_value { Judged.blank net.now rows ≡ true }
-    ensures { result ≡ is_network (was net) }
+    ensures { result ≡ is_network net.now }
 {
     let none = text_faults::nothing_seen();
     let row = study_row(net);
@@ -117,7 +116,7 @@ fn table_passes(net: &[i64], rows: usize) -> bool
 
 pub fn is_network(net: &[i64]) -> bool
     requires { length net.now ≡ Limits.network_words }
-    ensures { result ≡ is_network (was net) }
+    ensures { result ≡ is_network net.now }
 {
     let count = net[3];
     if count < 0 {

@@ -3,7 +3,6 @@
 // A node's voltage, its largest magnitude and the first step where it came, asked by node number: 9, 8, 10 as far as it is of the records, 2 where there is
 // no such node. Nothing is lent to be written.
 ghost use Rattle.whole.specs.Plain.{◌≤◌, ◌≡◌, true, length};
-ghost use Rattle.whole.specs.Loans.{was};
 ghost use Rattle.paper.specs.Limits as Limits;
 ghost use Rattle.paper.specs.Areas.{Net};
 ghost use Rattle.paper.specs.Network.{is_network};
@@ -16,7 +15,7 @@ use paper::{Looking, Node, Room, sections};
 // What the records say of a node that is there.
 fn told(records: &[i64], n: usize) -> Looking
     requires { (1 ≤ n) × (n ≤ Limits.node_end) × (length records.now ≡ Limits.record_words) }
-    ensures { (N : Net) → result ≡ Paper.told N (was records) n }
+    ensures { (N : Net) → result ≡ Paper.told N records.now n }
 {
     let volt = records[sections::VOLTS + n - 1];
     let peak = records[sections::PEAKS + n - 1];
@@ -27,7 +26,7 @@ fn told(records: &[i64], n: usize) -> Looking
 // 10, 2, or what is asked for, of a network that passes.
 fn on_network(net: &[i64], records: &[i64], n: usize) -> Looking
     requires { (is_network net.now ≡ true) × (length records.now ≡ Limits.record_words) }
-    ensures { result ≡ look_net (net_in (was net)) (was records) n }
+    ensures { result ≡ look_net (net_in net.now) records.now n }
 {
     let mut areas = [0; Node::PLACES];
     let mut plan = [[0; plan_rows::WORDS]; Room::ROWS];
@@ -45,7 +44,7 @@ fn on_network(net: &[i64], records: &[i64], n: usize) -> Looking
 }
 
 pub fn node(network: &[i64], records: &[i64], n: usize) -> Looking
-    ensures { Looks (was network) (was records) n result }
+    ensures { Looks network.now records.now n result }
 {
     let fits = (network.len() == Room::NETWORK) & (records.len() == Room::RECORDS);
     if !fits {

@@ -2,10 +2,9 @@
 
 // The next piece of a listing, from tables that hold all areas: a call that is refused before does not pay for them.
 ghost use Rattle.whole.specs.Plain.{◌≤◌, length};
-ghost use Rattle.whole.specs.Loans.{was, is};
 ghost use Rattle.paper.specs.Limits as Limits;
 ghost use Rattle.paper.specs.Pieces.{steps_taken, piece_of};
-ghost use Rattle.paper.specs.Lent.{lent, before, after};
+ghost use Rattle.paper.specs.Advance.{memory};
 ghost use Rattle.laws_facts.specs.Nets.{net_in};
 ghost use Rattle.plan_record.specs.Mapped.{Mapped};
 ghost use Rattle.plan_net.specs.Of.{Of};
@@ -28,10 +27,10 @@ pub fn onward(
     out: &mut [u8],
 ) -> Piece
     requires of { Of (net_in net.now) plan.now totals × Mapped (net_in net.now) area.now }
-    requires in_step { InStep net.now (steps_taken (net_in net.now) records.old) (lent records froms tos) }
+    requires in_step { InStep net.now (steps_taken (net_in net.now) records.old) (memory records.old froms.old tos.old) }
     requires in_bounds { Limits.step_bytes ≤ length out.old }
-    ensures { Gives (piece_of (was net) (net_in (was net)) (before records froms tos) (length (was out))) (was out)
-        result.answer result.count (is out) (after records froms tos) }
+    ensures { Gives (piece_of net.now (net_in net.now) (memory records.old froms.old tos.old) (length out.old)) out.old
+        result.answer result.count out.new (memory records.new froms.new tos.new) }
 {
     let fixed = plan_lay::fixed_nodes(net, totals.rows);
     let mut legs = [[0; 9]; 2 * Room::ROWS];

@@ -2,7 +2,6 @@
 
 // "Reading: 9, 7, then the first faulty line, in it 1 to 6 in turn; the answer carries the line number (0 for 7 and 9)."
 ghost use Rattle.whole.specs.Plain.{◌≡◌, length};
-ghost use Rattle.whole.specs.Loans.{was, is};
 ghost use Rattle.paper.specs.One.{Reads};
 ghost use Rattle.paper.specs.Reading as Paper;
 
@@ -23,7 +22,7 @@ fn faulty(line: u64, fault: u64) -> Reading
 
 fn copy(from: &[i64], to: &mut [i64])
     requires { length to.old ≡ length from.now }
-    ensures { is to ≡ was from }
+    ensures { to.new ≡ from.now }
 {
     let mut i = 0;
     while i < from.len() {
@@ -35,7 +34,7 @@ fn copy(from: &[i64], to: &mut [i64])
 
 // The rows go into a record of the reader's own first: "Every refusal leaves all lent memory unchanged."
 pub fn read(text: &[u8], network: &mut [i64]) -> Reading
-    ensures { Reads (was text) (was network) result (is network) }
+    ensures { Reads text.now network.old result network.new }
 {
     if network.len() != Room::NETWORK {
         return Reading::Store;

@@ -2,14 +2,13 @@
 
 // "Resetting gives 9 or 8, or writes the records and both line stores all zero and answers 0."
 ghost use Rattle.whole.specs.Plain.{◌≡◌};
-ghost use Rattle.whole.specs.Loans.{was};
 ghost use Rattle.paper.specs.One.{Resets};
-ghost use Rattle.paper.specs.Lent.{before, after};
+ghost use Rattle.paper.specs.Advance.{memory};
 
 use paper::Resetting;
 
 pub fn reset(network: &[i64], records: &mut [i64], froms: &mut [i64], tos: &mut [i64]) -> Resetting
-    ensures { Resets (was network) (before records froms tos) result (after records froms tos) }
+    ensures { Resets network.now (memory records.old froms.old tos.old) result (memory records.new froms.new tos.new) }
 {
     if !call_lent::fits(network, records, froms, tos) {
         return Resetting::Store;

@@ -1,9 +1,8 @@
 #![tactic(auto)]
 
 // An area's advance in lent tables. "Advancing: 9, 8, then 10 to 17"; "Every refusal leaves all lent memory unchanged."
-ghost use Rattle.whole.specs.Loans.{was};
 ghost use Rattle.paper.specs.One.{Advances};
-ghost use Rattle.paper.specs.Lent.{before, after};
+ghost use Rattle.paper.specs.Advance.{memory};
 
 use paper::{Advance, Node, Room};
 use plan_rows::Table;
@@ -25,7 +24,7 @@ pub fn advance_in(
     legs: &mut Legs,
     factors: &mut Matrix,
 ) -> Advance
-    ensures { Advances (was network) area (before records froms tos) result (after records froms tos) }
+    ensures { Advances network.now area (memory records.old froms.old tos.old) result (memory records.new froms.new tos.new) }
 {
     let mut areas = [0; Node::PLACES];
     *plan = [[0; plan_rows::WORDS]; Room::ROWS];

@@ -3,7 +3,6 @@
 // How a network is laid out, asked of its record alone: how many areas it has, a node's area, a branch's row. 9, 8, 2 where there is no such node or branch.
 // Nothing is lent to be written.
 ghost use Rattle.whole.specs.Plain.{suc, ◌≤◌, ◌≡◌, true, length};
-ghost use Rattle.whole.specs.Loans.{was};
 ghost use Rattle.paper.specs.Limits as Limits;
 ghost use Rattle.paper.specs.Areas.{area_count};
 ghost use Rattle.paper.specs.Network.{is_network};
@@ -49,7 +48,7 @@ pub fn told_number(answer: Asked) -> u64
 // The place, from 1, of the first of so many rows up to which so many branches are counted; 0 where there is none.
 fn place_of(plan: &Table, rows: usize, branch: usize) -> usize
     requires { rows ≤ Limits.row_end }
-    ensures { result ≡ place_from (λ i. (Plan.row_in (was plan) i).number) branch 0 rows }
+    ensures { result ≡ place_from (λ i. (Plan.row_in plan.now i).number) branch 0 rows }
 {
     let mut i = 0;
     while i < rows {
@@ -64,7 +63,7 @@ fn place_of(plan: &Table, rows: usize, branch: usize) -> usize
 
 fn areas_in(net: &[i64]) -> Asked
     requires { is_network net.now ≡ true }
-    ensures { result ≡ Paper.areas_in (net_in (was net)) }
+    ensures { result ≡ Paper.areas_in (net_in net.now) }
 {
     let mut areas = [0; Node::PLACES];
     let mut plan = [[0; plan_rows::WORDS]; Room::ROWS];
@@ -74,7 +73,7 @@ fn areas_in(net: &[i64]) -> Asked
 
 fn area_in(net: &[i64], n: usize) -> Asked
     requires { is_network net.now ≡ true }
-    ensures { result ≡ Paper.area_in (net_in (was net)) n }
+    ensures { result ≡ Paper.area_in (net_in net.now) n }
 {
     let mut areas = [0; Node::PLACES];
     let mut plan = [[0; plan_rows::WORDS]; Room::ROWS];
@@ -91,7 +90,7 @@ fn area_in(net: &[i64], n: usize) -> Asked
 
 fn row_in(net: &[i64], branch: usize) -> Asked
     requires { is_network net.now ≡ true }
-    ensures { result ≡ Paper.row_in (net_in (was net)) branch }
+    ensures { result ≡ Paper.row_in (net_in net.now) branch }
 {
     let mut areas = [0; Node::PLACES];
     let mut plan = [[0; plan_rows::WORDS]; Room::ROWS];
@@ -107,7 +106,7 @@ fn row_in(net: &[i64], branch: usize) -> Asked
 }
 
 pub fn areas(network: &[i64]) -> Asked
-    ensures { result ≡ Paper.areas_asked (was network) }
+    ensures { result ≡ Paper.areas_asked network.now }
 {
     if network.len() != Room::NETWORK {
         return Asked::Store;
@@ -119,7 +118,7 @@ pub fn areas(network: &[i64]) -> Asked
 }
 
 pub fn area(network: &[i64], node: usize) -> Asked
-    ensures { result ≡ Paper.area_asked (was network) node }
+    ensures { result ≡ Paper.area_asked network.now node }
 {
     if network.len() != Room::NETWORK {
         return Asked::Store;
@@ -131,7 +130,7 @@ pub fn area(network: &[i64], node: usize) -> Asked
 }
 
 pub fn row(network: &[i64], branch: usize) -> Asked
-    ensures { result ≡ Paper.row_asked (was network) branch }
+    ensures { result ≡ Paper.row_asked network.now branch }
 {
     if network.len() != Room::NETWORK {
         return Asked::Store;

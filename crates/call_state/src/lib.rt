@@ -3,7 +3,6 @@
 // 10 STATE: lent records and line stores, judged exactly, by the plan. No function has the network record: what is said is said of every network that the
 // plan is of.
 ghost use Rattle.whole.specs.Plain.{◌+◌, ◌≤◌, ◌<◌, ◌≡◌, ◌&&◌, cond, T, nat_abs, non_neg, length, get_or, up_to, word, every, numbers};
-ghost use Rattle.whole.specs.Loans.{was};
 ghost use Rattle.paper.specs.Limits as Limits;
 ghost use Rattle.paper.specs.Areas.{Net};
 ghost use Rattle.paper.specs.Records.{peak_formed, records_formed, well_formed};
@@ -19,7 +18,7 @@ use plan_rows::{Row, Table, Totals};
 // Whether the words from..end are within `most`.
 fn part(words: &[i64], from: usize, end: usize, most: i64) -> bool
     requires { (from ≤ end) × (end ≤ length words.now) × T (non_neg most) }
-    ensures { result ≡ part_formed (was words) from end (nat_abs most) }
+    ensures { result ≡ part_formed words.now from end (nat_abs most) }
 {
     whole::all_within(&words[from..end], most)
 }
@@ -27,7 +26,7 @@ fn part(words: &[i64], from: usize, end: usize, most: i64) -> bool
 // Whether the words from..end are zero.
 fn unused(words: &[i64], from: usize, end: usize) -> bool
     requires { (from ≤ end) × (end ≤ length words.now) }
-    ensures { result ≡ part_formed (was words) from end 0 }
+    ensures { result ≡ part_formed words.now from end 0 }
 {
     whole::all_zero(&words[from..end])
 }
@@ -35,7 +34,7 @@ fn unused(words: &[i64], from: usize, end: usize) -> bool
 // Whether the words from..end are, the first `used` of them, within `most`, and zero after that.
 fn section(words: &[i64], from: usize, used: usize, end: usize, most: i64) -> bool
     requires { (from + used ≤ end) × (end ≤ length words.now) × T (non_neg most) }
-    ensures { result ≡ section_formed (was words) from used end (nat_abs most) }
+    ensures { result ≡ section_formed words.now from used end (nat_abs most) }
 {
     let mid = from + used;
     let taken = part(words, from, mid, most);
@@ -45,7 +44,7 @@ fn section(words: &[i64], from: usize, used: usize, end: usize, most: i64) -> bo
 
 // Whether no word is below zero.
 fn none_negative(words: &[i64]) -> bool
-    ensures { result ≡ every non_neg (was words) }
+    ensures { result ≡ every non_neg words.now }
 {
     let mut all = true;
     let mut i = 0;
@@ -60,7 +59,7 @@ fn none_negative(words: &[i64]) -> bool
 // "counts are 0 to steps"
 fn counts_formed(records: &[i64], areas: usize, steps: usize) -> bool
     requires { (areas ≤ Limits.node_end) × (steps ≤ Limits.steps_end) × (length records.now ≡ Limits.record_words) }
-    ensures { result ≡ counts_formed (was records) areas steps }
+    ensures { result ≡ counts_formed records.now areas steps }
 {
     let sign = none_negative(&records[sections::COUNTS..sections::VOLTS]);
     let size = section(
@@ -76,7 +75,7 @@ fn counts_formed(records: &[i64], areas: usize, steps: usize) -> bool
 // Whether a word is within `most` where it is used, and zero where it is not.
 fn held(words: &[i64], at: usize, used: bool, most: i64) -> bool
     requires { (at < length words.now) × T (non_neg most) }
-    ensures { result ≡ up_to (cond used (nat_abs most) 0) (word (was words) at) }
+    ensures { result ≡ up_to (cond used (nat_abs most) 0) (word words.now at) }
 {
     let x = words[at];
     let end = if used { most } else { 0 };
@@ -86,7 +85,7 @@ fn held(words: &[i64], at: usize, used: bool, most: i64) -> bool
 // The words of the row in place i: a branch has a current, a line one at its to end too, an L or a C a history, an SW a latch.
 fn words_formed(kind: usize, records: &[i64], i: usize, steps: usize) -> bool
     requires { (i < Limits.row_end) × (length records.now ≡ Limits.record_words) × (steps ≤ Limits.steps_end) }
-    ensures { result ≡ words_formed steps kind (was records) i }
+    ensures { result ≡ words_formed steps kind records.now i }
 {
     let branch = kinds::is_branch(kind);
     let line = kind == kinds::LINE;
@@ -107,7 +106,7 @@ fn words_formed(kind: usize, records: &[i64], i: usize, steps: usize) -> bool
 fn row_formed(r: Row, records: &[i64], i: usize, steps: usize) -> bool
     requires line_in { LineIn records.now r × BreakerIn records.now r }
     requires i_bound { (i < Limits.row_end) × (length records.now ≡ Limits.record_words) × (steps ≤ Limits.steps_end) }
-    ensures { result ≡ row_formed steps (was records) r i }
+    ensures { result ≡ row_formed steps records.now r i }
 {
     let words = words_formed(r.kind, records, i, steps);
     let counts = call_counts::near(r, records);
@@ -119,7 +118,7 @@ fn row_formed(r: Row, records: &[i64], i: usize, steps: usize) -> bool
 fn rows_formed(plan: &Table, records: &[i64], rows: usize, steps: usize) -> bool
     requires counted { Counted plan.now rows records.now }
     requires records_len { (length records.now ≡ Limits.record_words) × (steps ≤ Limits.steps_end) }
-    ensures { result ≡ every (planned_formed steps (was plan) (was records)) (numbers 0 rows) }
+    ensures { result ≡ every (planned_formed steps plan.now records.now) (numbers 0 rows) }
 {
     let mut all = true;
     let mut i = 0;
@@ -135,7 +134,7 @@ fn rows_formed(plan: &Table, records: &[i64], rows: usize, steps: usize) -> bool
 // Whether the words past the last row's, and past the last section, are zero.
 fn tails_formed(records: &[i64], rows: usize) -> bool
     requires { (rows ≤ Limits.row_end) × (length records.now ≡ Limits.record_words) }
-    ensures { result ≡ tails_formed (was records) rows }
+    ensures { result ≡ tails_formed records.now rows }
 {
     let currents = unused(records, sections::CURRENTS + rows, sections::TO_CURRENTS);
     let to_currents = unused(records, sections::TO_CURRENTS + rows, sections::HISTORIES);
@@ -148,7 +147,7 @@ fn tails_formed(records: &[i64], rows: usize) -> bool
 // The words of the nodes: voltages and peaks in range, a peak's step one of the study's.
 fn nodes_formed(records: &[i64], nodes: usize, steps: usize) -> bool
     requires { (nodes ≤ Limits.node_end) × (steps ≤ Limits.steps_end) × (length records.now ≡ Limits.record_words) }
-    ensures { result ≡ nodes_formed (was records) nodes steps }
+    ensures { result ≡ nodes_formed records.now nodes steps }
 {
     let volts = section(
         records,
@@ -194,7 +193,7 @@ fn peak_formed(volt: i64, peak: i64, step: i64, count: usize) -> bool
 fn node_formed(areas: &[usize; Node::PLACES], records: &[i64], n: usize) -> bool
     requires le_n { (1 ≤ n) × (n ≤ Limits.node_end) × (length records.now ≡ Limits.record_words) }
     requires count_in { CountIn records.now (get_or areas.now n 0) }
-    ensures { result ≡ peaked_by (was areas) (was records) n }
+    ensures { result ≡ peaked_by areas.now records.now n }
 {
     let count = call_counts::count_of(records, areas[n]);
     peak_formed(
@@ -208,7 +207,7 @@ fn node_formed(areas: &[usize; Node::PLACES], records: &[i64], n: usize) -> bool
 // The same of every node.
 fn peaks_formed(areas: &[usize; Node::PLACES], records: &[i64], nodes: usize) -> bool
     requires { NodesCounted areas.now nodes records.now × (length records.now ≡ Limits.record_words) }
-    ensures { result ≡ every (peaked_by (was areas) (was records)) (numbers 1 nodes) }
+    ensures { result ≡ every (peaked_by areas.now records.now) (numbers 1 nodes) }
 {
     let mut all = true;
     let mut passed = 0;
@@ -228,7 +227,7 @@ pub fn records_formed(
     records: &[i64],
 ) -> bool
     requires { MappedSome plan.now areas.now totals × (length records.now ≡ Limits.record_words) }
-    ensures { (N : Net) → MappedOf N (was plan) (was areas) totals → result ≡ records_formed N (was records) }
+    ensures { (N : Net) → MappedOf N plan.now areas.now totals → result ≡ records_formed N records.now }
 {
     if !counts_formed(records, totals.areas, totals.steps) {
         return false;
@@ -250,8 +249,8 @@ pub fn well_formed(
     tos: &[i64],
 ) -> bool
     requires { MappedSome plan.now areas.now totals × Long records.now froms.now tos.now }
-    ensures { (N : Net) → MappedOf N (was plan) (was areas) totals
-        → result ≡ well_formed N (was records) (was froms) (was tos) }
+    ensures { (N : Net) → MappedOf N plan.now areas.now totals
+        → result ≡ well_formed N records.now froms.now tos.now }
 {
     let kept = records_formed(plan, areas, totals, records);
     let from = section(froms, 0, totals.slots, Room::STORE, History::MAX);
@@ -269,8 +268,8 @@ pub fn in_step(
     tos: &[i64],
 ) -> bool
     requires { MappedSome plan.now area.now totals × Long records.now froms.now tos.now }
-    ensures { (N : Net) → MappedOf N (was plan) (was area) totals → result
-        ≡ (well_formed N (was records) (was froms) (was tos) && level N (was records)) }
+    ensures { (N : Net) → MappedOf N plan.now area.now totals → result
+        ≡ (well_formed N records.now froms.now tos.now && level N records.now) }
 {
     if !well_formed(plan, area, totals, records, froms, tos) {
         return false;

@@ -1,14 +1,13 @@
 #![tactic(auto)]
 
 // "Write studies out again.", on all inputs: 9, then 8, or the study's text in a lent area. A refused call writes nothing.
-ghost use Rattle.whole.specs.Loans.{was, is};
 ghost use Rattle.paper.specs.Writing.{Writes};
 
 use paper::{Room, Writing};
 
 // "9 for an output area under 8,192 bytes or a wrong network length, then 8"; the rest of a longer area stays as it was.
 pub fn write(network: &[i64], out: &mut [u8]) -> Writing
-    ensures { Writes (was network) (was out) result (is out) }
+    ensures { Writes network.now out.old result out.new }
 {
     if network.len() != Room::NETWORK {
         return Writing::Store;

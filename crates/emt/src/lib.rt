@@ -2,8 +2,7 @@
 
 // What a customer links: the calls over lent memory, for Rattle and for C. None has a `requires`; each refuses instead. The calls for Rattle are those of
 // the crates below, by one name.
-ghost use Rattle.whole.specs.Loans.{was, is};
-ghost use Rattle.paper.specs.Lent.{before, after};
+ghost use Rattle.paper.specs.Advance.{memory};
 ghost use Rattle.call_shape.specs.Asked.{areas_asked, area_asked, row_asked};
 ghost use Rattle.emt.specs.Numbered.{ReadsBy, ResetsBy, AdvancesBy, AdvancesIn, LooksBy, AsksBy, ListsBy, WritesBy};
 
@@ -18,7 +17,7 @@ pub use call_read::read;
 // "the answer carries the line number (0 for 7 and 9)": it is written whatever the answer is.
 #[unsafe(no_mangle)]
 pub extern "C" fn emt_read(text: &[u8], network: &mut [i64], line: &mut u64) -> u64
-    ensures { ReadsBy (was text) (was network) result (is line) (is network) }
+    ensures { ReadsBy text.now network.old result line.new network.new }
 {
     let answer = call_read::read(text, network);
     *line = call_answers::reading_line(answer);
@@ -35,7 +34,7 @@ pub extern "C" fn emt_reset(
     froms: &mut [i64],
     tos: &mut [i64],
 ) -> u64
-    ensures { ResetsBy (was network) (before records froms tos) result (after records froms tos) }
+    ensures { ResetsBy network.now (memory records.old froms.old tos.old) result (memory records.new froms.new tos.new) }
 {
     call_answers::resetting_number(call_reset::reset(network, records, froms, tos))
 }
@@ -53,7 +52,7 @@ pub extern "C" fn emt_advance(
     area: usize,
     place: &mut u64,
 ) -> u64
-    ensures { AdvancesBy (was network) area (before records froms tos) result (is place) (after records froms tos) }
+    ensures { AdvancesBy network.now area (memory records.old froms.old tos.old) result place.new (memory records.new froms.new tos.new) }
 {
     let answer = call_advance::advance(network, records, froms, tos, area);
     *place = call_answers::place_or_count(answer);
@@ -80,8 +79,8 @@ pub extern "C" fn emt_advance_in_tables(
     factors: &mut Matrix,
     room: usize,
 ) -> u64
-    ensures { AdvancesIn room (was network) area (before records froms tos) result (is place)
-        (after records froms tos) }
+    ensures { AdvancesIn room network.now area (memory records.old froms.old tos.old) result place.new
+        (memory records.new froms.new tos.new) }
 {
     if room != ROOM_BYTES {
         *place = 0;
@@ -105,7 +104,7 @@ pub extern "C" fn emt_node(
     peak: &mut u64,
     step: &mut u64,
 ) -> u64
-    ensures { LooksBy (was network) (was records) node result (is voltage) (is peak) (is step) }
+    ensures { LooksBy network.now records.now node result voltage.new peak.new step.new }
 {
     let answer = call_node::node(network, records, node);
     *voltage = call_told::told_voltage(answer);
@@ -120,7 +119,7 @@ pub use call_shape::{Asked, area, areas, row};
 
 #[unsafe(no_mangle)]
 pub extern "C" fn emt_areas(network: &[i64], count: &mut u64) -> u64
-    ensures { AsksBy (areas_asked (was network)) result (is count) }
+    ensures { AsksBy (areas_asked network.now) result count.new }
 {
     let answer = call_shape::areas(network);
     *count = call_shape::told_number(answer);
@@ -129,7 +128,7 @@ pub extern "C" fn emt_areas(network: &[i64], count: &mut u64) -> u64
 
 #[unsafe(no_mangle)]
 pub extern "C" fn emt_area(network: &[i64], node: usize, number: &mut u64) -> u64
-    ensures { AsksBy (area_asked (was network) node) result (is number) }
+    ensures { AsksBy (area_asked network.now node) result number.new }
 {
     let answer = call_shape::area(network, node);
     *number = call_shape::told_number(answer);
@@ -138,7 +137,7 @@ pub extern "C" fn emt_area(network: &[i64], node: usize, number: &mut u64) -> u6
 
 #[unsafe(no_mangle)]
 pub extern "C" fn emt_row(network: &[i64], branch: usize, place: &mut u64) -> u64
-    ensures { AsksBy (row_asked (was network) branch) result (is place) }
+    ensures { AsksBy (row_asked network.now branch) result place.new }
 {
     let answer = call_shape::row(network, branch);
     *place = call_shape::told_number(answer);
@@ -164,8 +163,8 @@ pub extern "C" fn emt_list(
     number: &mut u64,
     place: &mut u64,
 ) -> u64
-    ensures { ListsBy (was network) (before records froms tos) (was out) result (is written) (is area) (is number)
-        (is place) (is out) (after records froms tos) }
+    ensures { ListsBy network.now (memory records.old froms.old tos.old) out.old result written.new area.new number.new
+        place.new out.new (memory records.new froms.new tos.new) }
 {
     let piece = call_list::list(network, records, froms, tos, out);
     let answer = piece.answer;
@@ -182,7 +181,7 @@ pub use call_write::write;
 // How many bytes are written, 0 where the call is refused: it is told whatever the answer is.
 #[unsafe(no_mangle)]
 pub extern "C" fn emt_write(network: &[i64], out: &mut [u8], written: &mut u64) -> u64
-    ensures { WritesBy (was network) (was out) result (is written) (is out) }
+    ensures { WritesBy network.now out.old result written.new out.new }
 {
     let answer = call_write::write(network, out);
     *written = call_told::writing_bytes(answer);

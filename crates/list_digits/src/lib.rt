@@ -2,7 +2,6 @@
 
 // Up to eight digits, put into a lent buffer from a place on, two at a time; each function answers the next place.
 ghost use Rattle.whole.specs.Plain.{◌+◌, ◌/◌, ◌^◌, ◌≤◌, ◌<◌, ◌≡◌, length};
-ghost use Rattle.whole.specs.Loans.{was, is};
 ghost use Rattle.paper.specs.Listing.{shown_nat};
 ghost use Rattle.list_digits.specs.Puts.{Puts};
 ghost use Rattle.list_digits.specs.Decimal.{fixed};
@@ -46,7 +45,7 @@ fn ten_thousands(n: u64) -> u64
 
 fn put_digit(out: &mut [u8], at: usize, n: u64) -> usize
     requires { (n < 10) × (at + 1 ≤ length out.old) }
-    ensures { Puts (was out) at (fixed 1 n) result (is out) }
+    ensures { Puts out.old at (fixed 1 n) result out.new }
 {
     out[at] = 48 + n as u8;
     at + 1
@@ -54,7 +53,7 @@ fn put_digit(out: &mut [u8], at: usize, n: u64) -> usize
 
 fn put_pair(pairs: &Pairs, out: &mut [u8], at: usize, n: u64) -> usize
     requires { (pairs.now ≡ all_pairs) × (n < 10 ^ 2) × (at + 2 ≤ length out.old) }
-    ensures { Puts (was out) at (fixed 2 n) result (is out) }
+    ensures { Puts out.old at (fixed 2 n) result out.new }
 {
     let place = 2 * n as usize;
     let first = pairs[place];
@@ -66,7 +65,7 @@ fn put_pair(pairs: &Pairs, out: &mut [u8], at: usize, n: u64) -> usize
 
 fn put_four(pairs: &Pairs, out: &mut [u8], at: usize, n: u64) -> usize
     requires { (pairs.now ≡ all_pairs) × (n < 10 ^ 4) × (at + 4 ≤ length out.old) }
-    ensures { Puts (was out) at (fixed 4 n) result (is out) }
+    ensures { Puts out.old at (fixed 4 n) result out.new }
 {
     let lead = hundreds(n);
     let next = put_pair(pairs, out, at, lead);
@@ -75,7 +74,7 @@ fn put_four(pairs: &Pairs, out: &mut [u8], at: usize, n: u64) -> usize
 
 pub fn put_eight(pairs: &Pairs, out: &mut [u8], at: usize, n: u64) -> usize
     requires { (pairs.now ≡ all_pairs) × (n < 10 ^ 8) × (at + 8 ≤ length out.old) }
-    ensures { Puts (was out) at (fixed 8 n) result (is out) }
+    ensures { Puts out.old at (fixed 8 n) result out.new }
 {
     let lead = ten_thousands(n);
     let next = put_four(pairs, out, at, lead);
@@ -87,7 +86,7 @@ pub fn put_eight(pairs: &Pairs, out: &mut [u8], at: usize, n: u64) -> usize
 // the first of two digits, or none
 fn put_tens(pairs: &Pairs, out: &mut [u8], at: usize, n: u64) -> usize
     requires { (pairs.now ≡ all_pairs) × (n < 10 ^ 2) × (at + length (tens n) ≤ length out.old) }
-    ensures { Puts (was out) at (tens n) result (is out) }
+    ensures { Puts out.old at (tens n) result out.new }
 {
     if n < 10 {
         return at;
@@ -99,7 +98,7 @@ fn put_tens(pairs: &Pairs, out: &mut [u8], at: usize, n: u64) -> usize
 // as nodes and branches have
 pub fn put_small(pairs: &Pairs, out: &mut [u8], at: usize, n: u64) -> usize
     requires { (pairs.now ≡ all_pairs) × (n < 10 ^ 2) × (at + length (shown_nat n) ≤ length out.old) }
-    ensures { Puts (was out) at (shown_nat n) result (is out) }
+    ensures { Puts out.old at (shown_nat n) result out.new }
 {
     let next = put_tens(pairs, out, at, n);
     out[next] = pairs[2 * n as usize + 1];
@@ -108,7 +107,7 @@ pub fn put_small(pairs: &Pairs, out: &mut [u8], at: usize, n: u64) -> usize
 
 fn put_under_four(pairs: &Pairs, out: &mut [u8], at: usize, n: u64) -> usize
     requires { (pairs.now ≡ all_pairs) × (n < 10 ^ 3) × (at + length (shown_nat n) ≤ length out.old) }
-    ensures { Puts (was out) at (shown_nat n) result (is out) }
+    ensures { Puts out.old at (shown_nat n) result out.new }
 {
     if n < 100 {
         return put_small(pairs, out, at, n);
@@ -120,7 +119,7 @@ fn put_under_four(pairs: &Pairs, out: &mut [u8], at: usize, n: u64) -> usize
 
 fn put_to_four(pairs: &Pairs, out: &mut [u8], at: usize, n: u64) -> usize
     requires { (pairs.now ≡ all_pairs) × (n < 10 ^ 4) × (at + length (shown_nat n) ≤ length out.old) }
-    ensures { Puts (was out) at (shown_nat n) result (is out) }
+    ensures { Puts out.old at (shown_nat n) result out.new }
 {
     if n < 1_000 {
         return put_under_four(pairs, out, at, n);
@@ -130,7 +129,7 @@ fn put_to_four(pairs: &Pairs, out: &mut [u8], at: usize, n: u64) -> usize
 
 pub fn put_to_eight(pairs: &Pairs, out: &mut [u8], at: usize, n: u64) -> usize
     requires { (pairs.now ≡ all_pairs) × (n < 10 ^ 8) × (at + length (shown_nat n) ≤ length out.old) }
-    ensures { Puts (was out) at (shown_nat n) result (is out) }
+    ensures { Puts out.old at (shown_nat n) result out.new }
 {
     if n < 10_000 {
         return put_to_four(pairs, out, at, n);

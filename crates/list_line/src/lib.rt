@@ -3,7 +3,6 @@
 // One line of a full step: "`v`, step, node, voltage" or "`i`, step, branch, current". What the lines of a step begin with is the same in all of them, and is
 // spelt once.
 ghost use Rattle.whole.specs.Plain.{◌+◌, ◌^◌, ◌≤◌, ◌<◌, ◌≡◌, [], ◌∷◌, length, sets};
-ghost use Rattle.whole.specs.Loans.{was, is};
 ghost use Rattle.paper.specs.Limits as Limits;
 ghost use Rattle.list_digits.specs.Puts.{Puts};
 ghost use Rattle.list_digits.specs.Pairs.{all_pairs};
@@ -36,14 +35,14 @@ fn quad(a: u8, b: u8, c: u8, d: u8) -> u32
 
 fn quad_at(text: &[u8], at: usize) -> u32
     requires { at + 4 ≤ length text.now }
-    ensures { quad_bytes result ≡ four_of (was text) at }
+    ensures { quad_bytes result ≡ four_of text.now at }
 {
     quad(text[at], text[at + 1], text[at + 2], text[at + 3])
 }
 
 fn put_quad(out: &mut [u8], at: usize, w: u32)
     requires { at + 4 ≤ length out.old }
-    ensures { is out ≡ sets (was out) at (quad_bytes w) }
+    ensures { out.new ≡ sets out.old at (quad_bytes w) }
 {
     out[at] = (w % 256) as u8;
     out[at + 1] = (w / 256 % 256) as u8;
@@ -54,7 +53,7 @@ fn put_quad(out: &mut [u8], at: usize, w: u32)
 // The head's text but for its letter, and how long it is with it.
 pub fn spell(pairs: &Pairs, step: u64, text: &mut [u8]) -> usize
     requires { (pairs.now ≡ all_pairs) × (step ≤ Limits.steps_end) × (10 ≤ length text.old) }
-    ensures { Spelt (is text) step result }
+    ensures { Spelt text.new step result }
 {
     text[1] = b'\t';
     let next = list_numerals::put_natural_by(pairs, text, 2, step);
@@ -64,7 +63,7 @@ pub fn spell(pairs: &Pairs, step: u64, text: &mut [u8]) -> usize
 
 pub fn head_of(text: &mut [u8], letter: u8, step: u64, size: usize) -> Head
     requires { Spelt text.old step size }
-    ensures { Headed result × (result.letter ≡ letter) × (result.step ≡ step) × Spelt (is text) step size }
+    ensures { Headed result × (result.letter ≡ letter) × (result.step ≡ step) × Spelt text.new step size }
 {
     text[0] = letter;
     let turn = (size - 4) / 2;
@@ -81,7 +80,7 @@ pub fn head_of(text: &mut [u8], letter: u8, step: u64, size: usize) -> Head
 
 fn put_head(head: Head, out: &mut [u8], at: usize) -> usize
     requires { Headed head × (at + length (text_of head) ≤ length out.old) }
-    ensures { Puts (was out) at (text_of head) result (is out) }
+    ensures { Puts out.old at (text_of head) result out.new }
 {
     put_quad(out, at, head.first);
     put_quad(out, at + head.turn, head.middle);
@@ -95,7 +94,7 @@ fn put_head(head: Head, out: &mut [u8], at: usize) -> usize
 fn put_start(pairs: &Pairs, head: Head, number: u64, out: &mut [u8], at: usize) -> usize
     requires pairs_value { (pairs.now ≡ all_pairs) × Headed head × (number < 10 ^ 2) }
     requires number_in_bounds { at + length (start_text head number) ≤ length out.old }
-    ensures { Puts (was out) at (start_text head number) result (is out) }
+    ensures { Puts out.old at (start_text head number) result out.new }
 {
     let next = put_head(head, out, at);
     let last = list_digits::put_small(pairs, out, next, number);
@@ -106,7 +105,7 @@ fn put_start(pairs: &Pairs, head: Head, number: u64, out: &mut [u8], at: usize) 
 // a value, and the tab or the end of the line behind it
 fn put_ended(pairs: &Pairs, x: i64, end: u8, out: &mut [u8], at: usize) -> usize
     requires { (pairs.now ≡ all_pairs) × (at + length (ended_text x end) ≤ length out.old) }
-    ensures { Puts (was out) at (ended_text x end) result (is out) }
+    ensures { Puts out.old at (ended_text x end) result out.new }
 {
     let next = list_numerals::put_number_by(pairs, out, at, x);
     out[next] = end;
@@ -116,7 +115,7 @@ fn put_ended(pairs: &Pairs, x: i64, end: u8, out: &mut [u8], at: usize) -> usize
 pub fn put_row(pairs: &Pairs, head: Head, number: u64, x: i64, out: &mut [u8], at: usize) -> usize
     requires pairs_value { (pairs.now ≡ all_pairs) × Headed head × (number < 10 ^ 2) }
     requires x_in_bounds { at + length (row_text head number x) ≤ length out.old }
-    ensures { Puts (was out) at (row_text head number x) result (is out) }
+    ensures { Puts out.old at (row_text head number x) result out.new }
 {
     let next = put_start(pairs, head, number, out, at);
     put_ended(pairs, x, b'\n', out, next)
@@ -134,7 +133,7 @@ pub fn put_line_row(
 ) -> usize
     requires pairs_value { (pairs.now ≡ all_pairs) × Headed head × (number < 10 ^ 2) }
     requires y_in_bounds { at + length (line_text head number x y) ≤ length out.old }
-    ensures { Puts (was out) at (line_text head number x y) result (is out) }
+    ensures { Puts out.old at (line_text head number x y) result out.new }
 {
     let next = put_start(pairs, head, number, out, at);
     let last = put_ended(pairs, x, b'\t', out, next);

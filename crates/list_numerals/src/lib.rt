@@ -2,7 +2,6 @@
 
 // A number's digits, however many, and its sign, put into a lent buffer from a place on, eight at a time; each function answers the next place.
 ghost use Rattle.whole.specs.Plain.{◌+◌, ◌^◌, ◌≤◌, ◌<◌, ◌≡◌, length};
-ghost use Rattle.whole.specs.Loans.{was, is};
 ghost use Rattle.paper.specs.Listing.{shown_nat, shown};
 ghost use Rattle.list_digits.specs.Puts.{Puts};
 ghost use Rattle.list_digits.specs.Pairs.{all_pairs};
@@ -52,7 +51,7 @@ fn eights_of(n: u64) -> Eights
 fn put_groups(pairs: &Pairs, out: &mut [u8], at: usize, p: Eights) -> usize
     requires pairs_value { (pairs.now ≡ all_pairs) × (p.middle < 10 ^ 8) × (p.low < 10 ^ 8) }
     requires p_in_bounds { at + length (groups_of p) ≤ length out.old }
-    ensures { Puts (was out) at (groups_of p) result (is out) }
+    ensures { Puts out.old at (groups_of p) result out.new }
 {
     if p.groups == 0 {
         return at;
@@ -66,7 +65,7 @@ fn put_groups(pairs: &Pairs, out: &mut [u8], at: usize, p: Eights) -> usize
 
 pub fn put_natural_by(pairs: &Pairs, out: &mut [u8], at: usize, n: u64) -> usize
     requires { (pairs.now ≡ all_pairs) × (at + length (shown_nat n) ≤ length out.old) }
-    ensures { Puts (was out) at (shown_nat n) result (is out) }
+    ensures { Puts out.old at (shown_nat n) result out.new }
 {
     let p = eights_of(n);
     let next = list_digits::put_to_eight(pairs, out, at, p.top);
@@ -75,7 +74,7 @@ pub fn put_natural_by(pairs: &Pairs, out: &mut [u8], at: usize, n: u64) -> usize
 
 pub fn put_number_by(pairs: &Pairs, out: &mut [u8], at: usize, x: i64) -> usize
     requires { (pairs.now ≡ all_pairs) × (at + length (shown x) ≤ length out.old) }
-    ensures { Puts (was out) at (shown x) result (is out) }
+    ensures { Puts out.old at (shown x) result out.new }
 {
     let n = whole::magnitude(x);
     if 0 <= x {
@@ -89,7 +88,7 @@ pub fn put_number_by(pairs: &Pairs, out: &mut [u8], at: usize, x: i64) -> usize
 
 pub fn put_natural(out: &mut [u8], at: usize, n: u64) -> usize
     requires { at + length (shown_nat n) ≤ length out.old }
-    ensures { Puts (was out) at (shown_nat n) result (is out) }
+    ensures { Puts out.old at (shown_nat n) result out.new }
 {
     let pairs = list_digits::pairs();
     put_natural_by(&pairs, out, at, n)

@@ -2,9 +2,8 @@
 
 // The listing by pieces: full step after full step into a lent buffer, until the next might not fit, an area is refused or the study is done.
 ghost use Rattle.whole.specs.Plain.{◌≤◌, ◌≡◌, length};
-ghost use Rattle.whole.specs.Loans.{was, is};
 ghost use Rattle.paper.specs.Limits as Limits;
-ghost use Rattle.paper.specs.Lent.{before, after};
+ghost use Rattle.paper.specs.Advance.{memory};
 ghost use Rattle.list_pieces.specs.Begun.{step_of, Beginning, Pieces};
 
 use list_round::{Round, Step};
@@ -53,8 +52,8 @@ pub fn steps_on(
     requires beginning { Beginning plan.now totals owns.old legs.old nodes.now sources.now records.old froms.old
         tos.old }
     requires in_bounds { Limits.step_bytes ≤ length out.old }
-    ensures { Pieces (was plan) totals (was owns) (was legs) (was nodes) (was sources) (before records froms tos)
-        (was out) result.answer result.count (is out) (after records froms tos) }
+    ensures { Pieces plan.now totals owns.old legs.old nodes.now sources.now (memory records.old froms.old tos.old)
+        out.old result.answer result.count out.new (memory records.new froms.new tos.new) }
 {
     let pairs = list_digits::pairs();
     let mut factors = [[0.0; Node::MAX as usize]; Node::MAX as usize];

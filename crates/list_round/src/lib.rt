@@ -2,9 +2,8 @@
 
 // One step of all areas, in rising order: "advances areas in rising order step by step".
 ghost use Rattle.whole.specs.Plain.{◌<◌, ◌≡◌};
-ghost use Rattle.whole.specs.Loans.{was, is};
 ghost use Rattle.paper.specs.Limits as Limits;
-ghost use Rattle.paper.specs.Lent.{before, after};
+ghost use Rattle.paper.specs.Advance.{memory};
 ghost use Rattle.list_round.specs.Round.{turn_of, Startable, Runs};
 
 use paper::Advance;
@@ -56,8 +55,8 @@ pub fn all_areas(
 ) -> Round
     requires { Startable step plan.now owns.old legs.old nodes.now sources.now factors.old records.old
         froms.old tos.old }
-    ensures { Runs step (was plan) (was nodes) (was sources) (was owns) (was legs) (was factors)
-        (before records froms tos) result (is owns) (is legs) (is factors) (after records froms tos) }
+    ensures { Runs step plan.now nodes.now sources.now owns.old legs.old factors.old
+        (memory records.old froms.old tos.old) result owns.new legs.new factors.new (memory records.new froms.new tos.new) }
 {
     let mut area = 1;
     while area <= step.areas {

@@ -2,7 +2,6 @@
 
 // The lines of a full step: "`v`, step, node, voltage for each node, then `i`, step, branch, current for each branch".
 ghost use Rattle.whole.specs.Plain.{◌+◌, ◌^◌, ◌≤◌, ◌<◌, ◌≡◌, length};
-ghost use Rattle.whole.specs.Loans.{was, is};
 ghost use Rattle.paper.specs.Limits as Limits;
 ghost use Rattle.paper.specs.Areas.{Net};
 ghost use Rattle.paper.specs.Listing.{step_lines};
@@ -31,7 +30,7 @@ fn put_volts(
     requires pairs_value { (pairs.now ≡ all_pairs) × Headed head × (head.letter ≡ 118) }
     requires nodes_bound { (nodes ≤ Limits.node_end) × (length records.now ≡ Limits.record_words) }
     requires nodes_in_bounds { at + length (volts_text records.now head.step nodes) ≤ length out.old }
-    ensures { Puts (was out) at (volts_text (was records) head.step nodes) result (is out) }
+    ensures { Puts out.old at (volts_text records.now head.step nodes) result out.new }
 {
     let mut next = at;
     let mut i = 0;
@@ -64,7 +63,7 @@ fn put_current(
     requires i_bound { (i < Limits.row_end) × ((row_in plan.now i).number < 10 ^ 2)
         × (length records.now ≡ Limits.record_words) }
     requires i_in_bounds { at + length (current_line_by plan.now records.now head.step i) ≤ length out.old }
-    ensures { Puts (was out) at (current_line_by (was plan) (was records) head.step i) result (is out) }
+    ensures { Puts out.old at (current_line_by plan.now records.now head.step i) result out.new }
 {
     let r = plan_rows::row_at(plan, i);
     let number = r.number as u64;
@@ -98,7 +97,7 @@ fn put_currents(
     requires pairs_value { (pairs.now ≡ all_pairs) × Headed head × (head.letter ≡ 105) }
     requires numbered { Numbered plan.now rows × (length records.now ≡ Limits.record_words) }
     requires rows_in_bounds { at + length (currents_text plan.now records.now head.step rows) ≤ length out.old }
-    ensures { Puts (was out) at (currents_text (was plan) (was records) head.step rows) result (is out) }
+    ensures { Puts out.old at (currents_text plan.now records.now head.step rows) result out.new }
 {
     let mut next = at;
     let mut i = 0;
@@ -122,8 +121,8 @@ pub fn put_step_by(
     requires pairs_value { (pairs.now ≡ all_pairs) × OfSome plan.now totals × (step ≤ Limits.steps_end) }
     requires records_len { (length records.now ≡ Limits.record_words) × Small totals.nodes totals.rows records.now }
     requires at_in_bounds { at + Limits.step_bytes ≤ length out.old }
-    ensures { (N : Net) → Of N (was plan) totals
-        → Puts (was out) at (step_lines N (was records) step) result (is out) }
+    ensures { (N : Net) → Of N plan.now totals
+        → Puts out.old at (step_lines N records.now step) result out.new }
 {
     let mut text = [0; 16];
     let size = list_line::spell(pairs, step, &mut text);

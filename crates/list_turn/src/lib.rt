@@ -2,7 +2,6 @@
 
 // What a step of all areas lists: the lines of a full step; or, where an area was refused, the stop line.
 ghost use Rattle.whole.specs.Plain.{suc, ◌+◌, ◌≤◌, ◌≡◌, length};
-ghost use Rattle.whole.specs.Loans.{was, is};
 ghost use Rattle.paper.specs.Limits as Limits;
 ghost use Rattle.paper.specs.Areas.{Net};
 ghost use Rattle.list_digits.specs.Puts.{Puts};
@@ -27,8 +26,8 @@ pub fn put_turn(
 ) -> usize
     requires pairs_value { (pairs.now ≡ all_pairs) × Listable plan.now totals records.now taken round }
     requires at_in_bounds { at + Limits.step_bytes ≤ length out.old }
-    ensures { (N : Net) → Of N (was plan) totals
-        → Puts (was out) at (round_bytes N (suc taken) (was records) round) result (is out) }
+    ensures { (N : Net) → Of N plan.now totals
+        → Puts out.old at (round_bytes N (suc taken) records.now round) result out.new }
 {
     let step = (taken + 1) as u64;
     match round {

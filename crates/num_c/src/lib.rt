@@ -2,7 +2,6 @@
 
 // The numbers layer for programs in C. No function requires anything: what a callee requires is tested here.
 ghost use Rattle.whole.specs.Plain.{◌≡◌};
-ghost use Rattle.whole.specs.Loans.{was, is};
 ghost use Rattle.paper.specs.Doubles.{double, nearest_of};
 ghost use Rattle.num_c.specs.Outcomes.{words_judged, quotient_of, part_of, out, rounded, solution};
 
@@ -12,7 +11,7 @@ use step_factors::{ByFree, Matrix};
 
 #[unsafe(no_mangle)]
 pub extern "C" fn numbers_all_within(xs: &[i64], most: i64) -> bool
-    ensures { result ≡ words_judged most (was xs) }
+    ensures { result ≡ words_judged most xs.now }
 {
     if 0 <= most {
         return whole::all_within(xs, most);
@@ -50,7 +49,7 @@ pub extern "C" fn numbers_to_double(x: i64) -> f64
 // Whether x is within the voltage range; if so, its nearest whole number is written.
 #[unsafe(no_mangle)]
 pub extern "C" fn numbers_nearest(x: f64, whole: &mut i64) -> bool
-    ensures { out result (is whole) ≡ rounded (was whole) (nearest_of x) }
+    ensures { out result whole.new ≡ rounded whole.old (nearest_of x) }
 {
     let r = num_double::nearest(x);
     match r {
@@ -66,7 +65,7 @@ pub extern "C" fn numbers_nearest(x: f64, whole: &mut i64) -> bool
 // Whether n is at most 32; if so, x has the solution of the first n rows, and from its place n on the words of rights.
 #[unsafe(no_mangle)]
 pub extern "C" fn numbers_solve(a: &Matrix, rights: &ByFree, n: usize, x: &mut ByFree) -> bool
-    ensures { out result (is x) ≡ solution (was a) (was rights) n (was x) }
+    ensures { out result x.new ≡ solution a.now rights.now n x.old }
 {
     if (Node::MAX as usize) < n {
         return false;

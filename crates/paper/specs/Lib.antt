@@ -20,7 +20,6 @@ pub mod Elimination
 pub mod Doubles
 pub mod Solve
 pub mod Advance
-pub mod Lent
 pub mod Resetting
 pub mod Looking
 pub mod Listing

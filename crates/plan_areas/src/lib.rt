@@ -5,7 +5,6 @@ ghost use Rattle.whole.specs.Plain.{suc, ◌≤◌, ◌<◌, ◌+◌, ◌≡◌,
 ghost use Rattle.paper.specs.Limits as Limits;
 ghost use Rattle.paper.specs.Spread.{joined};
 ghost use Rattle.whole.specs.Turns.{turns};
-ghost use Rattle.whole.specs.Loans.{was, is};
 ghost use Rattle.paper.specs.Network.{is_network};
 ghost use Rattle.paper.specs.Areas.{area_count};
 ghost use Rattle.laws_facts.specs.Nets.{net_in, row_at};
@@ -23,7 +22,7 @@ fn own_mark(n: usize, nodes: usize) -> usize
 
 fn start(area: &mut [usize; Node::PLACES], nodes: usize)
     requires { (length area.old ≡ Limits.node_end + 1) × (nodes < Limits.node_end + 1) }
-    ensures { is area ≡ filled mark_words 0 (numbers 0 (suc nodes)) }
+    ensures { area.new ≡ filled mark_words 0 (numbers 0 (suc nodes)) }
 {
     let mut n = 0;
     while n < Node::PLACES {
@@ -36,7 +35,7 @@ fn start(area: &mut [usize; Node::PLACES], nodes: usize)
 fn join(area: &mut [usize; Node::PLACES], one: usize, two: usize) -> bool
     requires { (length area.old ≡ Limits.node_end + 1)
         × ((one < Limits.node_end + 1) × (two < Limits.node_end + 1)) }
-    ensures { Moved (was area) (is area) (joined (was area) (record { one = one; two = two })) result }
+    ensures { Moved area.old area.new (joined area.old (record { one = one; two = two })) result }
 {
     let a = area[one];
     let b = area[two];
@@ -50,7 +49,7 @@ fn join(area: &mut [usize; Node::PLACES], one: usize, two: usize) -> bool
 fn join_row(net: &[i64], i: usize, area: &mut [usize; Node::PLACES]) -> bool
     requires net_value { is_network net.now ≡ true }
     requires i_in_bounds { (i < length (net_in net.now).rows) × (length area.old ≡ Limits.node_end + 1) }
-    ensures { Moved (was area) (is area) (join_row (was area) (row_at (net_in (was net)) i)) result }
+    ensures { Moved area.old area.new (join_row area.old (row_at (net_in net.now) i)) result }
 {
     let kind = plan_record::kind(net, i);
     if kind == kinds::LINE {
@@ -74,7 +73,7 @@ fn join_row(net: &[i64], i: usize, area: &mut [usize; Node::PLACES]) -> bool
 fn round(net: &[i64], rows: usize, area: &mut [usize; Node::PLACES]) -> bool
     requires net_value { is_network net.now ≡ true }
     requires rows_value { (rows ≡ length (net_in net.now).rows) × (length area.old ≡ Limits.node_end + 1) }
-    ensures { Moved (was area) (is area) (round_of (net_in (was net)).rows 0 (was area)) result }
+    ensures { Moved area.old area.new (round_of (net_in net.now).rows 0 area.old) result }
 {
     let mut moved = false;
     let mut i = 0;
@@ -97,7 +96,7 @@ fn next_round(turn: usize, moved: bool) -> usize
 fn spread(net: &[i64], rows: usize, area: &mut [usize; Node::PLACES])
     requires net_value { is_network net.now ≡ true }
     requires rows_value { (rows ≡ length (net_in net.now).rows) × (length area.old ≡ Limits.node_end + 1) }
-    ensures { is area ≡ turns 0 Limits.node_end (round_of (net_in (was net)).rows) (was area) }
+    ensures { area.new ≡ turns 0 Limits.node_end (round_of (net_in net.now).rows) area.old }
 {
     let mut turn = 0;
     while turn < Node::MAX as usize {
@@ -110,7 +109,7 @@ fn spread(net: &[i64], rows: usize, area: &mut [usize; Node::PLACES])
 fn number_node(area: &mut [usize; Node::PLACES], n: usize, count: usize) -> usize
     requires { (n < Limits.node_end + 1)
         × ((get_or area.old n 0 < Limits.node_end + 1) × (count < Limits.node_end + 1)) }
-    ensures { (is area ≡ number_at (was area) n count) × (result ≡ count_at (was area) n count) }
+    ensures { (area.new ≡ number_at area.old n count) × (result ≡ count_at area.old n count) }
 {
     let low = area[n];
     if low == n {
@@ -125,7 +124,7 @@ fn number_node(area: &mut [usize; Node::PLACES], n: usize, count: usize) -> usiz
 fn number_areas(net: &[i64], nodes: usize, area: &mut [usize; Node::PLACES]) -> usize
     requires net_value { is_network net.now ≡ true }
     requires nodes_value { (nodes ≡ (net_in net.now).nodes) × (area.old ≡ filled mark_words 0 (low_in net.now)) }
-    ensures { (is area ≡ filled mark_words 0 (net_in (was net)).areas) × (result ≡ area_count (net_in (was net))) }
+    ensures { (area.new ≡ filled mark_words 0 (net_in net.now).areas) × (result ≡ area_count (net_in net.now)) }
 {
     let mut count = 0;
     let mut n = 0;
@@ -141,7 +140,7 @@ pub fn areas(net: &[i64], rows: usize, nodes: usize, area: &mut [usize; Node::PL
     requires net_value { is_network net.now ≡ true }
     requires rows_value { (rows ≡ length (net_in net.now).rows)
         × ((nodes ≡ (net_in net.now).nodes) × (length area.old ≡ Limits.node_end + 1)) }
-    ensures { (is area ≡ filled mark_words 0 (net_in (was net)).areas) × (result ≡ area_count (net_in (was net))) }
+    ensures { (area.new ≡ filled mark_words 0 (net_in net.now).areas) × (result ≡ area_count (net_in net.now)) }
 {
     start(area, nodes);
     spread(net, rows, area);

@@ -2,7 +2,6 @@
 
 // An area's own legs, nodes and sources, each put into a table behind what stands there already: its legs with what the network alone settles of them.
 ghost use Rattle.whole.specs.Plain.{ℕ, ◌+◌, ◌≤◌, ◌<◌, ◌≡◌, true, eqb, length};
-ghost use Rattle.whole.specs.Loans.{was, is};
 ghost use Rattle.paper.specs.Limits as Limits;
 ghost use Rattle.paper.specs.Rows.{is_source};
 ghost use Rattle.paper.specs.Network.{is_network};
@@ -26,7 +25,7 @@ use step_legs::{Line, SourceLine};
 fn lay_end(r: Row, i: usize, end: usize, a: usize, m: usize, legs: &mut [Line]) -> usize
     requires noded { Noded r × ((i < Limits.row_end) × (1 ≤ end) × (end ≤ 2)) }
     requires m_in_bounds { eqb (owner_in r end) a ≡ true → m < length legs.old }
-    ensures { Put (eqb (owner_in r end) a) (frame_in r i end) m (was legs) result (is legs) }
+    ensures { Put (eqb (owner_in r end) a) (frame_in r i end) m legs.old result legs.new }
 {
     if plan_rows::owner(r, end) != a {
         return m;
@@ -63,7 +62,7 @@ fn far_node(r: Row, end: usize) -> usize
 pub fn lay_legs(plan: &Table, rows: usize, a: usize, m: usize, legs: &mut [Line]) -> usize
     requires rows_bound { (rows ≤ Limits.row_end) × ((i : ℕ) → i < rows → Noded (row_in plan.now i)) }
     requires rows_in_bounds { m + length (legs_by plan.now a rows) ≤ length legs.old }
-    ensures { Grown (was legs) m (legs_by (was plan) a rows) result (is legs) }
+    ensures { Grown legs.old m (legs_by plan.now a rows) result legs.new }
 {
     let mut t = m;
     let mut i = 0;
@@ -81,7 +80,7 @@ pub fn lay_legs(plan: &Table, rows: usize, a: usize, m: usize, legs: &mut [Line]
 // row i's flag: "A node with a VS is fixed"; "A VC fixes its node like a VS."
 fn flag_row(net: &[i64], i: usize, flags: &mut [bool; Node::PLACES])
     requires { (is_network net.now ≡ true) × (i < length (net_in net.now).rows) }
-    ensures { is flags ≡ flag_row (net_in (was net)) i (was flags) }
+    ensures { flags.new ≡ flag_row (net_in net.now) i flags.old }
 {
     if kinds::is_fixing(plan_record::kind(net, i)) {
         let node = plan_record::number(net, i, 1);
@@ -92,7 +91,7 @@ fn flag_row(net: &[i64], i: usize, flags: &mut [bool; Node::PLACES])
 // The fixed nodes, as flags by node.
 pub fn fixed_nodes(net: &[i64], rows: usize) -> [bool; Node::PLACES]
     requires { (is_network net.now ≡ true) × (rows ≡ length (net_in net.now).rows) }
-    ensures { Flagged (net_in (was net)) result }
+    ensures { Flagged (net_in net.now) result }
 {
     let mut flags = [false; Node::PLACES];
     let mut i = 0;
@@ -115,7 +114,7 @@ fn lay_node(
 ) -> usize
     requires n_bound { n ≤ Limits.node_end }
     requires m_in_bounds { node_by area.now fixed.now held a n ≡ true → m < length nodes.old }
-    ensures { Put (node_by (was area) (was fixed) held a n) n m (was nodes) result (is nodes) }
+    ensures { Put (node_by area.now fixed.now held a n) n m nodes.old result nodes.new }
 {
     if area[n] != a {
         return m;
@@ -139,7 +138,7 @@ pub fn lay_nodes(
 ) -> usize
     requires count_bound { count ≤ Limits.node_end }
     requires count_in_bounds { m + length (nodes_by area.now fixed.now held a count) ≤ length nodes.old }
-    ensures { Grown (was nodes) m (nodes_by (was area) (was fixed) held a count) result (is nodes) }
+    ensures { Grown nodes.old m (nodes_by area.now fixed.now held a count) result nodes.new }
 {
     let mut t = m;
     let mut n = 0;
@@ -156,7 +155,7 @@ pub fn lay_nodes(
 fn pace(net: &[i64], i: usize) -> i64
     requires net_value { (is_network net.now ≡ true) × (i < length (net_in net.now).rows) }
     requires i_value { is_source (row_at (net_in net.now) i) ≡ true }
-    ensures { result ≡ pace_of (net_in (was net)) (row_at (net_in (was net)) i) }
+    ensures { result ≡ pace_of (net_in net.now) (row_at (net_in net.now) i) }
 {
     let last = plan_record::value(net, i, 4);
     if plan_record::kind(net, i) == kinds::VC {
@@ -177,8 +176,8 @@ fn lay_source(
     requires net_value { (is_network net.now ≡ true) × (i < length (net_in net.now).rows) }
     requires mapped { Mapped (net_in net.now) area.now
         × (source_by (net_in net.now) a i ≡ true → m < length sources.old) }
-    ensures { Put (source_by (net_in (was net)) a i) (line_by (net_in (was net)) i) m (was sources) result
-        (is sources) }
+    ensures { Put (source_by (net_in net.now) a i) (line_by (net_in net.now) i) m sources.old result
+        sources.new }
 {
     if !kinds::is_source(plan_record::kind(net, i)) {
         return m;
@@ -209,7 +208,7 @@ pub fn lay_sources(
     requires net_value { (is_network net.now ≡ true) × (rows ≡ length (net_in net.now).rows) }
     requires mapped { Mapped (net_in net.now) area.now
         × (m + length (sources_by (net_in net.now) a rows) ≤ length sources.old) }
-    ensures { Grown (was sources) m (sources_by (net_in (was net)) a rows) result (is sources) }
+    ensures { Grown sources.old m (sources_by (net_in net.now) a rows) result sources.new }
 {
     let mut t = m;
     let mut i = 0;

@@ -3,7 +3,6 @@
 // What is an area's own, in tables that all areas share, area after area: its legs, its nodes, the free ones first, and its sources; and where each
 // area's own stands.
 ghost use Rattle.whole.specs.Plain.{◌+◌, ◌≤◌, ◌<◌, ◌≡◌, length, set};
-ghost use Rattle.whole.specs.Loans.{was, is};
 ghost use Rattle.paper.specs.Limits as Limits;
 ghost use Rattle.laws_facts.specs.Nets.{net_in};
 ghost use Rattle.plan_own.specs.Owns.{words_of, own_in, nothing, until_put, Given, Tables, Room, Ours, Behind, Laid};
@@ -33,7 +32,7 @@ pub type Owns = [[usize; 8]; Node::PLACES];
 
 pub fn own_at(owns: &Owns, a: usize) -> Own
     requires { a < Limits.node_end + 1 }
-    ensures { result ≡ own_in (was owns) a }
+    ensures { result ≡ own_in owns.now a }
 {
     let w = owns[a];
     Own {
@@ -50,7 +49,7 @@ pub fn own_at(owns: &Owns, a: usize) -> Own
 
 pub fn put_own(owns: &mut Owns, a: usize, o: Own)
     requires { a < Limits.node_end + 1 }
-    ensures { is owns ≡ set (was owns) a (words_of o) }
+    ensures { owns.new ≡ set owns.old a (words_of o) }
 {
     let line = [
         o.legs,
@@ -67,7 +66,7 @@ pub fn put_own(owns: &mut Owns, a: usize, o: Own)
 
 pub fn put_until(owns: &mut Owns, a: usize, until: usize)
     requires { a < Limits.node_end + 1 }
-    ensures { is owns ≡ until_put (was owns) a until }
+    ensures { owns.new ≡ until_put owns.old a until }
 {
     let w = owns[a];
     let line = [w[0], w[1], w[2], w[3], w[4], w[5], w[6], until];
@@ -107,8 +106,8 @@ pub fn lay_area(
 ) -> Own
     requires given { Given net.now plan.now area.now fixed.now totals }
     requires tables { Tables legs.old nodes.old sources.old × ((1 ≤ a) × Room (net_in net.now) a at) }
-    ensures ours { Ours (net_in (was net)) a result (is legs) (is nodes) (is sources) }
-    ensures behind { Behind at result (was legs) (was nodes) (was sources) (is legs) (is nodes) (is sources) }
+    ensures ours { Ours (net_in net.now) a result legs.new nodes.new sources.new }
+    ensures behind { Behind at result legs.old nodes.old sources.old legs.new nodes.new sources.new }
 {
     let legs_end = plan_lay::lay_legs(plan, totals.rows, a, at.legs_end, legs);
     let free_end = plan_lay::lay_nodes(area, fixed, false, totals.nodes, a, at.nodes_end, nodes);
@@ -140,8 +139,8 @@ pub fn lay_all(
 )
     requires given { Given net.now plan.now area.now fixed.now totals }
     requires tables { Tables legs.old nodes.old sources.old × (length owns.old ≡ Limits.node_end + 1) }
-    ensures laid { Laid (net_in (was net)) (is owns) (is legs) (is nodes) (is sources) }
-    ensures unprepared { Unprepared (net_in (was net)) (is owns) }
+    ensures laid { Laid (net_in net.now) owns.new legs.new nodes.new sources.new }
+    ensures unprepared { Unprepared (net_in net.now) owns.new }
 {
     let mut at = nothing();
     let mut a = 1;

@@ -2,7 +2,6 @@
 
 // What a step needs of a network record that passes refusal 8, and that follows from it alone: each row decoded once, the counts, and the areas by node.
 ghost use Rattle.whole.specs.Plain.{suc, ◌+◌, ◌≤◌, ◌<◌, max, ◌≡◌, true, cond, length, set, word, nat};
-ghost use Rattle.whole.specs.Loans.{was, is};
 ghost use Rattle.paper.specs.Limits as Limits;
 ghost use Rattle.paper.specs.Rows as Rows;
 ghost use Rattle.paper.specs.Network.{is_network};
@@ -47,7 +46,7 @@ pub type Table = [[usize; WORDS]; Room::ROWS];
 
 pub fn row_at(plan: &Table, i: usize) -> Row
     requires { i < Limits.row_end }
-    ensures { result ≡ row_in (was plan) i }
+    ensures { result ≡ row_in plan.now i }
 {
     let w = plan[i];
     Row {
@@ -70,7 +69,7 @@ pub fn row_at(plan: &Table, i: usize) -> Row
 
 fn put_row(plan: &mut Table, i: usize, r: Row)
     requires { i < Limits.row_end }
-    ensures { is plan ≡ set (was plan) i (words_of r) }
+    ensures { plan.new ≡ set plan.old i (words_of r) }
 {
     let line = [
         r.kind,
@@ -129,14 +128,14 @@ pub struct Totals {
 // `study`: step length, steps, limit
 fn study_word(net: &[i64], j: usize) -> i64
     requires { (is_network net.now ≡ true) × (j < 3) }
-    ensures { result ≡ word (net_in (was net)).head (suc j) }
+    ensures { result ≡ word (net_in net.now).head (suc j) }
 {
     net[j]
 }
 
 fn study_number(net: &[i64], j: usize) -> usize
     requires { (is_network net.now ≡ true) × (j < 3) }
-    ensures { result ≡ nat (word (net_in (was net)).head (suc j)) }
+    ensures { result ≡ nat (word (net_in net.now).head (suc j)) }
 {
     study_word(net, j) as usize
 }
@@ -150,7 +149,7 @@ fn larger(a: usize, b: usize) -> usize
 // the largest node that row i names
 fn named(net: &[i64], i: usize) -> usize
     requires { (is_network net.now ≡ true) × (i < length (net_in net.now).rows) }
-    ensures { result ≡ Areas.named (row_at (net_in (was net)) i) }
+    ensures { result ≡ Areas.named (row_at (net_in net.now) i) }
 {
     let kind = plan_record::kind(net, i);
     larger(plan_record::number(net, i, 1), to_at(net, i, kind))
@@ -159,7 +158,7 @@ fn named(net: &[i64], i: usize) -> usize
 // "The node count is the largest node named."
 fn node_count(net: &[i64], rows: usize) -> usize
     requires { (is_network net.now ≡ true) × (rows ≡ length (net_in net.now).rows) }
-    ensures { result ≡ (net_in (was net)).nodes }
+    ensures { result ≡ (net_in net.now).nodes }
 {
     let mut nodes = 0;
     let mut i = 0;
@@ -176,7 +175,7 @@ fn node_count(net: &[i64], rows: usize) -> usize
 fn to_at(net: &[i64], i: usize, kind: usize) -> usize
     requires net_value { (is_network net.now ≡ true) × (i < length (net_in net.now).rows) }
     requires kind_value { kind ≡ Rows.kind (row_at (net_in net.now) i) }
-    ensures { result ≡ to_at (net_in (was net)) i }
+    ensures { result ≡ to_at (net_in net.now) i }
 {
     if !kinds::is_branch(kind) {
         return 0;
@@ -188,7 +187,7 @@ fn to_at(net: &[i64], i: usize, kind: usize) -> usize
 fn conductance_at(net: &[i64], i: usize, kind: usize, step: usize) -> usize
     requires net_value { (is_network net.now ≡ true) × (i < length (net_in net.now).rows) }
     requires kind_value { (kind ≡ Rows.kind (row_at (net_in net.now) i)) × (step ≡ Areas.step (net_in net.now)) }
-    ensures { result ≡ conductance_at (net_in (was net)) i }
+    ensures { result ≡ conductance_at (net_in net.now) i }
 {
     if !kinds::is_branch(kind) {
         return 0;
@@ -210,7 +209,7 @@ fn slots_of(kind: usize, delay: usize, rest: usize) -> usize
 // The area at an end with node near: a line's ends are each their own node's; an R, L, C or SW is in its higher node's, ground being in none.
 fn area_at(area: &[usize; Node::PLACES], kind: usize, near: usize, far: usize) -> usize
     requires { (near ≤ Limits.node_end) × (far ≤ Limits.node_end) }
-    ensures { result ≡ owner_by (was area) kind near far }
+    ensures { result ≡ owner_by area.now kind near far }
 {
     if kind == kinds::LINE {
         return area[near];
@@ -245,7 +244,7 @@ fn planned(
     requires net_value { (is_network net.now ≡ true) × (i < length (net_in net.now).rows) }
     requires mapped { Mapped (net_in net.now) area.now × (step ≡ Areas.step (net_in net.now)) }
     requires place_value { (place ≡ offset (net_in net.now) i) × (before ≡ branch_number (net_in net.now) i) }
-    ensures { result ≡ row_of (net_in (was net)) i }
+    ensures { result ≡ row_of (net_in net.now) i }
 {
     let kind = plan_record::kind(net, i);
     let from = plan_record::number(net, i, 1);
@@ -284,7 +283,7 @@ fn fill(
     requires net_value { (is_network net.now ≡ true) × (rows ≡ length (net_in net.now).rows)
         × (length plan.old ≡ Limits.row_end) }
     requires mapped { Mapped (net_in net.now) area.now × (step ≡ Areas.step (net_in net.now)) }
-    ensures { Planned (net_in (was net)) (is plan) × (result ≡ slot_count (net_in (was net))) }
+    ensures { Planned (net_in net.now) plan.new × (result ≡ slot_count (net_in net.now)) }
 {
     let mut slots = 0;
     let mut number = 0;
@@ -303,8 +302,8 @@ fn fill(
 pub fn make(net: &[i64], area: &mut [usize; Node::PLACES], plan: &mut Table) -> Totals
     requires net_value { is_network net.now ≡ true }
     requires area_len { (length area.old ≡ Limits.node_end + 1) × (length plan.old ≡ Limits.row_end) }
-    ensures planned { Planned (net_in (was net)) (is plan) × Mapped (net_in (was net)) (is area) }
-    ensures value { result ≡ totals_of (net_in (was net)) }
+    ensures planned { Planned (net_in net.now) plan.new × Mapped (net_in net.now) area.new }
+    ensures value { result ≡ totals_of (net_in net.now) }
 {
     let rows = plan_record::row_count(net);
     let step = study_number(net, 0);

@@ -2,7 +2,6 @@
 
 // Standard input and standard output, by the kernel's read and write: a call that a signal interrupts is made again, and a failure is never taken for the end.
 ghost use Rattle.whole.specs.Plain.{◌≤◌, ◌-◌, length};
-ghost use Rattle.whole.specs.Loans.{was, is};
 ghost use Rattle.run_bytes.specs.Moving.{Tells, Most, Brings, Held};
 
 use libc::{EINTR, STDIN_FILENO, STDOUT_FILENO};
@@ -39,7 +38,7 @@ fn told(answer: isize) -> Moved
 
 fn read_once(text: &mut [u8], from: usize) -> Moved
     requires { from ≤ length text.old }
-    ensures { Brings (was text) from result (is text) }
+    ensures { Brings text.old from result text.new }
 {
     let answer = libc::read(STDIN_FILENO, &mut text[from..]);
     told(answer)
@@ -47,7 +46,7 @@ fn read_once(text: &mut [u8], from: usize) -> Moved
 
 fn read_on(text: &mut [u8], from: usize) -> Moved
     requires { from ≤ length text.old }
-    ensures { Brings (was text) from result (is text) }
+    ensures { Brings text.old from result text.new }
 {
     let mut tries = 0;
     while tries < TRIES {
@@ -62,7 +61,7 @@ fn read_on(text: &mut [u8], from: usize) -> Moved
 
 // Standard input to its end, or as much of it as there is room for.
 pub fn read_all(text: &mut [u8]) -> Input
-    ensures { Held (is text) result }
+    ensures { Held text.new result }
 {
     let mut done = 0;
     while done < text.len() {
@@ -80,7 +79,7 @@ pub fn read_all(text: &mut [u8]) -> Input
 
 fn write_once(bytes: &[u8], from: usize) -> Moved
     requires { from ≤ length bytes.now }
-    ensures { Most (length (was bytes) - from) result }
+    ensures { Most (length bytes.now - from) result }
 {
     let answer = libc::write(STDOUT_FILENO, &bytes[from..]);
     told(answer)
@@ -88,7 +87,7 @@ fn write_once(bytes: &[u8], from: usize) -> Moved
 
 fn write_on(bytes: &[u8], from: usize) -> Moved
     requires { from ≤ length bytes.now }
-    ensures { Most (length (was bytes) - from) result }
+    ensures { Most (length bytes.now - from) result }
 {
     let mut tries = 0;
     while tries < TRIES {

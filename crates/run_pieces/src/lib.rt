@@ -1,8 +1,7 @@
 #![tactic(auto)]
 
 // The listing of a study, piece after piece, each handed over to standard output before the next is made.
-ghost use Rattle.whole.specs.Loans.{was, is};
-ghost use Rattle.paper.specs.Lent.{before, after};
+ghost use Rattle.paper.specs.Advance.{memory};
 ghost use Rattle.run_pieces.specs.Pieces.{Closes, Goes, Hands};
 
 use list_pieces::Piece;
@@ -45,7 +44,7 @@ fn list_piece(
     tos: &mut [i64],
     out: &mut [u8],
 ) -> Next
-    ensures { Goes (was network) (before records froms tos) (was out) result (is out) (after records froms tos) }
+    ensures { Goes network.now (memory records.old froms.old tos.old) out.old result out.new (memory records.new froms.new tos.new) }
 {
     let piece: Piece = emt::list(network, records, froms, tos, out);
     let count = piece.count;
@@ -67,7 +66,7 @@ pub fn list_all(
     tos: &mut [i64],
     out: &mut [u8],
 ) -> Ended
-    ensures { Hands (was network) (before records froms tos) (was out) result (is out) (after records froms tos) }
+    ensures { Hands network.now (memory records.old froms.old tos.old) out.old result out.new (memory records.new froms.new tos.new) }
 {
     let mut pieces = 0;
     while pieces < Steps::MAX as u64 {

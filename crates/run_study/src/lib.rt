@@ -2,7 +2,6 @@
 
 // What becomes of a study text: a line that refuses it, or its listing from a reset. On slices alone; the kernel's calls are those of run_bytes.
 ghost use Rattle.whole.specs.Plain.{◌≤◌, ◌≡◌, true, length};
-ghost use Rattle.whole.specs.Loans.{was, is};
 ghost use Rattle.paper.specs.Limits as Limits;
 ghost use Rattle.paper.specs.Network.{is_network};
 ghost use Rattle.paper.specs.Resetting.{fresh};
@@ -36,7 +35,7 @@ fn store_room() -> [i64; Room::STORE]
 // From a reset.
 fn list_study(network: &[i64]) -> Ended
     requires { is_network network.now ≡ true }
-    ensures { Hand (was network) out_bytes fresh result }
+    ensures { Hand network.now out_bytes fresh result }
 {
     let mut records = record_room();
     let mut froms = store_room();
@@ -54,7 +53,7 @@ fn list_study(network: &[i64]) -> Ended
 
 fn put_refusal(answer: Reading, out: &mut [u8]) -> usize
     requires { 46 ≤ length out.old }
-    ensures { Puts (was out) 0 (bad_line answer) result (is out) }
+    ensures { Puts out.old 0 (bad_line answer) result out.new }
 {
     list_ends::put_bad(
         out,
@@ -71,7 +70,7 @@ fn refuse(answer: Reading) -> bool {
 }
 
 pub fn run(text: &[u8]) -> Outcome
-    ensures { Answers (was text) result }
+    ensures { Answers text.now result }
 {
     let mut network = [0; Room::NETWORK];
     let answer = emt::read(text, &mut network);

@@ -2,8 +2,7 @@
 
 // One step of one area, from the tables: 14 to 17 in turn, or the step is taken and written. What is kept for the positions of the area's switches is
 // renewed where one has changed or parted.
-ghost use Rattle.whole.specs.Loans.{was, is};
-ghost use Rattle.paper.specs.Lent.{before, after};
+ghost use Rattle.paper.specs.Advance.{memory};
 ghost use Rattle.step_area.specs.Going.{Going, Steps};
 
 use paper::Advance;
@@ -28,8 +27,8 @@ pub fn ready(
 ) -> Advance
     requires { Going plan.now owns.old legs.old nodes.now sources.now factors.old records.old
         froms.old tos.old turn }
-    ensures { Steps (was plan) (was nodes) (was sources) turn (was owns) (was legs) (was factors)
-        (before records froms tos) result (is owns) (is legs) (is factors) (after records froms tos) }
+    ensures { Steps plan.now nodes.now sources.now turn owns.old legs.old factors.old
+        (memory records.old froms.old tos.old) result owns.new legs.new factors.new (memory records.new froms.new tos.new) }
 {
     let node = step_keep::renew(plan, owns, legs, nodes, factors, records, turn.area, turn.k);
     if node != 0 {

@@ -3,7 +3,6 @@
 // What an accepted step of one area writes: its count, its voltages and peaks, the words of its rows and latches, and what its line ends send. A leg's line has its current and
 // what it passes on; nothing is worked out again.
 ghost use Rattle.whole.specs.Plain.{◌≤◌, ◌≡◌, length};
-ghost use Rattle.whole.specs.Loans.{was, is};
 ghost use Rattle.paper.specs.Limits as Limits;
 ghost use Rattle.step_records.specs.Records.{lines_put, records_put, Unparted, Recordable};
 ghost use Rattle.step_send.specs.Stores.{is_from_end, is_to_end, sent_by, Sendable};
@@ -28,10 +27,10 @@ fn put_legs(
 ) -> bool
     requires sendable { Sendable plan.now legs.now froms.old tos.old }
     requires records_len { (length records.old ≡ Limits.record_words) × (k ≤ Limits.steps_end) }
-    ensures records_value { is records ≡ lines_put (was plan) k (was legs) (was records) }
-    ensures unparted { Unparted result (was records) (is records) }
-    ensures froms_value { is froms ≡ sent_by (was plan) k is_from_end (was legs) (was froms) }
-    ensures tos_value { is tos ≡ sent_by (was plan) k is_to_end (was legs) (was tos) }
+    ensures records_value { records.new ≡ lines_put plan.now k legs.now records.old }
+    ensures unparted { Unparted result records.old records.new }
+    ensures froms_value { froms.new ≡ sent_by plan.now k is_from_end legs.now froms.old }
+    ensures tos_value { tos.new ≡ sent_by plan.now k is_to_end legs.now tos.old }
 {
     let mut parted = false;
     let mut j = 0;
@@ -59,10 +58,10 @@ pub fn commit(
 ) -> bool
     requires recordable { Recordable legs.now nodes.now v.now records.old area k }
     requires sendable { Sendable plan.now legs.now froms.old tos.old }
-    ensures records_value { is records ≡ records_put (was plan) (was legs) (was nodes) (was v) area k (was records) }
-    ensures unparted { Unparted result (was records) (is records) }
-    ensures froms_value { is froms ≡ sent_by (was plan) k is_from_end (was legs) (was froms) }
-    ensures tos_value { is tos ≡ sent_by (was plan) k is_to_end (was legs) (was tos) }
+    ensures records_value { records.new ≡ records_put plan.now legs.now nodes.now v.now area k records.old }
+    ensures unparted { Unparted result records.old records.new }
+    ensures froms_value { froms.new ≡ sent_by plan.now k is_from_end legs.now froms.old }
+    ensures tos_value { tos.new ≡ sent_by plan.now k is_to_end legs.now tos.old }
 {
     step_records::put_area(nodes, v, records, area, k);
     put_legs(plan, legs, records, froms, tos, k)

@@ -2,7 +2,6 @@
 
 // The conductances of an area's legs at a step, and how long they stay: "R and closed SW: i = g·u. Open SW: i = 0 and no conductance."
 ghost use Rattle.whole.specs.Plain.{◌≤◌, ◌<◌, ◌≡◌, [], set, length, get_or, word, nat};
-ghost use Rattle.whole.specs.Loans.{was, is};
 ghost use Rattle.paper.specs.Limits as Limits;
 ghost use Rattle.step_conduct.specs.Conducted.{row_of_line, opening_of, open_of, conducts_of, opening_at, Sooner, Stays};
 ghost use Rattle.step_conduct.specs.Conducted.{Rated, RatedLine, conducted, Conducted};
@@ -84,9 +83,9 @@ fn conduct_leg(
 ) -> usize
     requires j_in_bounds { (j < length legs.old) × RatedLine plan.now (get_or legs.old j []) }
     requires records_len { length records.now ≡ Limits.record_words }
-    ensures legs_value { is legs ≡ set (was legs) j (conducted (was plan) (was records) k (get_or (was legs) j [])) }
-    ensures stays { Stays k (opening_at (was plan) (was records) (get_or (was legs) j []))
-        (row_of_line (was plan) (get_or (was legs) j [])) until result }
+    ensures legs_value { legs.new ≡ set legs.old j (conducted plan.now records.now k (get_or legs.old j [])) }
+    ensures stays { Stays k (opening_at plan.now records.now (get_or legs.old j []))
+        (row_of_line plan.now (get_or legs.old j [])) until result }
 {
     let w = legs[j];
     let i = w[2] as usize;
@@ -101,7 +100,7 @@ fn conduct_leg(
 pub fn conduct(plan: &Table, legs: &mut [Line], records: &[i64], k: usize) -> usize
     requires rated { Rated plan.now legs.old × (k ≤ Limits.steps_end) }
     requires records_len { length records.now ≡ Limits.record_words }
-    ensures { Conducted (was plan) (was records) k (length (was legs)) (was legs) (is legs) result }
+    ensures { Conducted plan.now records.now k (length legs.old) legs.old legs.new result }
 {
     let mut until = NEVER;
     let mut j = 0;

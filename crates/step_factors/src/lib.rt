@@ -4,7 +4,6 @@
 // multiplier in the place that it was made from; `substitute` then solves for one right side. Each cell and each right side meets the stated
 // operations in the stated order. All areas share one table: an area's n lines stand there from `base` on.
 ghost use Rattle.whole.specs.Plain.{◌+◌, ◌<◌, ◌≤◌, ◌≡◌};
-ghost use Rattle.whole.specs.Loans.{was, is};
 ghost use Rattle.paper.specs.Limits as Limits;
 ghost use Rattle.paper.specs.Elimination.{line, quotient};
 ghost use Rattle.step_factors.specs.Factored.{line_factored, all_factored, factored, left, forward, back};
@@ -20,7 +19,7 @@ pub type Matrix = [ByFree; Node::MAX as usize];
 // "f = a(q,p)/a(p,p); for each later column c, a(q,c) becomes a(q,c) - f·a(p,c)": own is line q and top is line p.
 fn factor_line(own: &mut ByFree, top: &ByFree, n: usize, p: usize)
     requires { (n ≤ Limits.node_end) × (p < n) }
-    ensures { is own ≡ line_factored n p (was top) (was own) }
+    ensures { own.new ≡ line_factored n p top.now own.old }
 {
     let f = own[p] / top[p];
     let mut c = p + 1;
@@ -34,7 +33,7 @@ fn factor_line(own: &mut ByFree, top: &ByFree, n: usize, p: usize)
 // Line p stays as it is, so it is read once.
 fn factor_all(a: &mut Matrix, base: usize, n: usize, p: usize)
     requires { (base + n ≤ Limits.node_end) × (p < n) }
-    ensures { is a ≡ all_factored base n p (was a) }
+    ensures { a.new ≡ all_factored base n p a.old }
 {
     let top = a[base + p];
     let mut q = p + 1;
@@ -46,7 +45,7 @@ fn factor_all(a: &mut Matrix, base: usize, n: usize, p: usize)
 
 pub fn factor(a: &mut Matrix, base: usize, n: usize)
     requires { base + n ≤ Limits.node_end }
-    ensures { is a ≡ factored base n (was a) }
+    ensures { a.new ≡ factored base n a.old }
 {
     let mut p = 0;
     while p < n {
@@ -58,7 +57,7 @@ pub fn factor(a: &mut Matrix, base: usize, n: usize)
 // "t becomes t - a(p,c)·x(c)", c rising
 fn left(line: &ByFree, x: &ByFree, from: usize, to: usize, right: f64) -> f64
     requires { to ≤ Limits.node_end }
-    ensures { result ≡ left (was line) (was x) from to right }
+    ensures { result ≡ left line.now x.now from to right }
 {
     let mut t = right;
     let mut c = from;
@@ -72,7 +71,7 @@ fn left(line: &ByFree, x: &ByFree, from: usize, to: usize, right: f64) -> f64
 // "b(q) becomes b(q) - f·b(p)" for each earlier row p, rising
 fn forward(a: &Matrix, base: usize, b: &mut ByFree, n: usize)
     requires { base + n ≤ Limits.node_end }
-    ensures { is b ≡ forward base n (was a) (was b) }
+    ensures { b.new ≡ forward base n a.now b.old }
 {
     let mut q = 0;
     while q < n {
@@ -86,7 +85,7 @@ fn forward(a: &Matrix, base: usize, b: &mut ByFree, n: usize)
 // "x(p) = t / a(p,p)": row p by its pivot and its right side
 fn solve_row(a: &Matrix, row: Equation, r: usize, x: &ByFree, n: usize, p: usize) -> f64
     requires { (r < Limits.node_end) × (n ≤ Limits.node_end) × (p < n) }
-    ensures { result ≡ quotient (left (line (was a) r) (was x) (p + 1) n row.right) row.pivot }
+    ensures { result ≡ quotient (left (line a.now r) x.now (p + 1) n row.right) row.pivot }
 {
     let t = left(&a[r], x, p + 1, n, row.right);
     t / row.pivot
@@ -95,7 +94,7 @@ fn solve_row(a: &Matrix, row: Equation, r: usize, x: &ByFree, n: usize, p: usize
 // "Backwards from the last row"
 fn back(a: &Matrix, base: usize, x: &mut ByFree, n: usize)
     requires { base + n ≤ Limits.node_end }
-    ensures { is x ≡ back base n (was a) (was x) }
+    ensures { x.new ≡ back base n a.now x.old }
 {
     let mut rows = n;
     while 0 < rows {
@@ -114,7 +113,7 @@ fn back(a: &Matrix, base: usize, x: &mut ByFree, n: usize)
 // The right sides of n rows become the voltages of n free nodes, as doubles.
 pub fn substitute(a: &Matrix, base: usize, b: &mut ByFree, n: usize)
     requires { base + n ≤ Limits.node_end }
-    ensures { is b ≡ substituted base n (was a) (was b) }
+    ensures { b.new ≡ substituted base n a.now b.old }
 {
     forward(a, base, b, n);
     back(a, base, b, n);

@@ -3,7 +3,6 @@
 // "A free node needs a path of conducting branches (R, L, C, closed SW) to ground, to a fixed node, or to a node with a line end, itself
 // included." A line's end is a leg to ground, and an open switch conducts nothing; no leg leaves the area.
 ghost use Rattle.whole.specs.Plain.{◌<◌, ◌≡◌, length};
-ghost use Rattle.whole.specs.Loans.{was, is};
 ghost use Rattle.paper.specs.Limits as Limits;
 ghost use Rattle.paper.specs.Floating as Paper;
 ghost use Rattle.step_legs.specs.Wires.{leg_of, leg_at, legs_in, Wired, Wires};
@@ -19,7 +18,7 @@ type Nodes = [u8; Node::PLACES];
 // A free node's mark is its number until it is reached, and 0 then; ground, the fixed nodes and those of other areas count as reached.
 fn first_marks(free: &[usize]) -> Nodes
     requires { Free free.now }
-    ensures { result ≡ Paper.marks (loose (was free)) Limits.node_end }
+    ensures { result ≡ Paper.marks (loose free.now) Limits.node_end }
 {
     let mut marks = [0u8; Node::PLACES];
     let mut i = 0;
@@ -34,7 +33,7 @@ fn first_marks(free: &[usize]) -> Nodes
 // the node that a leg reaches, or 0: it conducts, and just one of its nodes is reached already
 fn reaches(l: Wire, marks: &Nodes) -> u8
     requires { Wired l }
-    ensures { result ≡ reaches (leg_of l) (was marks) }
+    ensures { result ≡ reaches (leg_of l) marks.now }
 {
     let p = l.near;
     let q = l.far;
@@ -67,7 +66,7 @@ fn meets(l: Wire, n: u8) -> bool
 // the node that the visit of node n reaches by a leg, or 0
 fn finds(l: Wire, n: u8, marks: &Nodes) -> u8
     requires { Wired l }
-    ensures { result ≡ finds (leg_of l) n (was marks) }
+    ensures { result ≡ finds (leg_of l) n marks.now }
 {
     if meets(l, n) {
         return reaches(l, marks);
@@ -85,9 +84,9 @@ fn visit_leg(
     listed: usize,
 ) -> usize
     requires { Wires legs.now × ((j < length legs.now) × Room marks.old listed) }
-    ensures value { result ≡ longer (finds (leg_at (was legs) j) n (was marks)) listed }
-    ensures marks_value { is marks ≡ reach (finds (leg_at (was legs) j) n (was marks)) (was marks) }
-    ensures list_value { is list ≡ enlist (finds (leg_at (was legs) j) n (was marks)) listed (was list) }
+    ensures value { result ≡ longer (finds (leg_at legs.now j) n marks.old) listed }
+    ensures marks_value { marks.new ≡ reach (finds (leg_at legs.now j) n marks.old) marks.old }
+    ensures list_value { list.new ≡ enlist (finds (leg_at legs.now j) n marks.old) listed list.old }
 {
     let l = step_legs::leg_at(legs, j);
     let found = finds(l, n, marks);
@@ -104,7 +103,7 @@ fn visit_leg(
 // Of the free nodes, which rise, so many are left, the one in hand among them.
 pub fn floating(legs: &[Line], free: &[usize]) -> usize
     requires { Wires legs.now × Free free.now }
-    ensures { result ≡ Paper.floating (loose (was free)) Limits.node_end (was free) (legs_in (was legs)) }
+    ensures { result ≡ Paper.floating (loose free.now) Limits.node_end free.now (legs_in legs.now) }
 {
     let mut marks = first_marks(free);
     let mut list = [0u8; Node::PLACES];

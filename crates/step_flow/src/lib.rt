@@ -3,7 +3,6 @@
 // What flows once the voltages are known: each leg's current and i + g·u are worked out once and kept in its line. The balance at the free nodes (16)
 // is judged by the sums of these currents, and the values that are passed on (17) by what is kept.
 ghost use Rattle.whole.specs.Plain.{◌<◌, ◌≡◌, [], drop, map, T, non_neg, set, length, get_or, nat};
-ghost use Rattle.whole.specs.Loans.{was, is};
 ghost use Rattle.paper.specs.Limits as Limits;
 ghost use Rattle.paper.specs.Legs.{current};
 ghost use Rattle.step_legs.specs.Wires.{Carries, Wires, Sized, legs_in};
@@ -42,7 +41,7 @@ struct Found {
 // i = g·u + h and i + g·u, by one product
 fn carried(l: Wire, v: &[i64; Node::PLACES]) -> Found
     requires { Carries l × Volts v.now }
-    ensures { result ≡ found_of (was v) l }
+    ensures { result ≡ found_of v.now l }
 {
     let gu = step_legs::through(l, v);
     let i = gu + l.h;
@@ -55,7 +54,7 @@ fn carried(l: Wire, v: &[i64; Node::PLACES]) -> Found
 
 fn keep(legs: &mut [Line], j: usize, f: Found)
     requires { j < length legs.old }
-    ensures { is legs ≡ set (was legs) j (keeping f (get_or (was legs) j [])) }
+    ensures { legs.new ≡ set legs.old j (keeping f (get_or legs.old j [])) }
 {
     step_legs::put_word(legs, j, 7, f.current);
     step_legs::put_word(legs, j, 8, f.passed);
@@ -64,8 +63,8 @@ fn keep(legs: &mut [Line], j: usize, f: Found)
 // Each leg's current and what it passes on, into its line. The currents that leave each node, summed.
 pub fn flow(legs: &mut [Line], v: &[i64; Node::PLACES]) -> [i64; Node::PLACES]
     requires { Sized legs.old × Volts v.now }
-    ensures sums { Sums none (current (was v)) (legs_in (was legs)) result }
-    ensures legs_value { is legs ≡ map (flown (was v)) (was legs) }
+    ensures sums { Sums none (current v.now) (legs_in legs.old) result }
+    ensures legs_value { legs.new ≡ map (flown v.now) legs.old }
 {
     let mut leaving = [0; Node::PLACES];
     let mut j = 0;
@@ -90,7 +89,7 @@ pub fn balance(
 ) -> usize
     requires free { Free free.now × T (non_neg limit) }
     requires near { Near Limits.node_end (drop 1 leaving.now) (drop one injected.now) }
-    ensures { result ≡ first_past (nat limit) (drop 1 (was leaving)) (drop one (was injected)) (was free) }
+    ensures { result ≡ first_past (nat limit) (drop 1 leaving.now) (drop one injected.now) free.now }
 {
     let mut i = 0;
     while i < free.len() {
@@ -108,7 +107,7 @@ pub fn balance(
 // 17 HISTORY, "a next history or sent value beyond 10^17": the place, from 1, of the first row of which a leg passes on so much; 0 where none does.
 pub fn first_beyond(legs: &[Line]) -> usize
     requires { Wires legs.now }
-    ensures { result ≡ first_row (was legs) }
+    ensures { result ≡ first_row legs.now }
 {
     let mut j = 0;
     while j < legs.len() {

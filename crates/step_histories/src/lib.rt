@@ -2,7 +2,6 @@
 
 // Each leg's history at a step: what an L or a C holds since the last one, what a line's end receives.
 ghost use Rattle.whole.specs.Plain.{◌≤◌, ◌<◌, ◌≡◌, map, nat_abs, length, word};
-ghost use Rattle.whole.specs.Loans.{was, is};
 ghost use Rattle.paper.specs.Limits as Limits;
 ghost use Rattle.paper.specs.Records as Records;
 ghost use Rattle.plan_rows.specs.Planned.{row_in};
@@ -23,7 +22,7 @@ const HISTORY: usize = 6;
 fn held(records: &[i64], i: usize, end: usize) -> i64
     requires i_bound { (i < Limits.row_end) × (length records.now ≡ Limits.record_words) }
     requires i_bound_2 { nat_abs (word records.now (Records.history_at i)) ≤ Limits.history_end }
-    ensures { result ≡ facing end (word (was records) (Records.history_at i)) }
+    ensures { result ≡ facing end (word records.now (Records.history_at i)) }
 {
     let h = records[sections::HISTORIES + i];
     if end != 1 {
@@ -45,7 +44,7 @@ fn side(end: usize) -> Side
 fn sent<'a>(r: Row, end: usize, froms: &'a [i64], tos: &'a [i64], k: usize, d: usize) -> i64
     requires ring { Ring r }
     requires froms_len { (length froms.now ≡ Limits.store_words) × (length tos.now ≡ Limits.store_words) }
-    ensures { result ≡ sent_by r end (was froms) (was tos) k d }
+    ensures { result ≡ sent_by r end froms.now tos.now k d }
 {
     step_received::received(froms, tos, side(end), r.place, r.slots, k, d)
 }
@@ -54,7 +53,7 @@ fn sent<'a>(r: Row, end: usize, froms: &'a [i64], tos: &'a [i64], k: usize, d: u
 // older value is not read.
 fn received<'a>(r: Row, end: usize, froms: &'a [i64], tos: &'a [i64], k: usize) -> i64
     requires { Ring r × Sent froms.now tos.now }
-    ensures { result ≡ received_by r end (was froms) (was tos) k }
+    ensures { result ≡ received_by r end froms.now tos.now k }
 {
     let newer = sent(r, end, froms, tos, k, r.delay);
     if r.rest == 0 {
@@ -75,7 +74,7 @@ fn history<'a>(
 ) -> i64
     requires wired { Wired l × Kept records.now froms.now tos.now }
     requires ring { l.kind ≡ 4 → Ring (row_in plan.now l.row) }
-    ensures { result ≡ history_of (was plan) (was records) (was froms) (was tos) k l }
+    ensures { result ≡ history_of plan.now records.now froms.now tos.now k l }
 {
     if l.kind == kinds::LINE {
         let r = plan_rows::row_at(plan, l.row);
@@ -94,7 +93,7 @@ pub fn hear<'a>(
     k: usize,
 )
     requires { Hears plan.now legs.old records.now froms.now tos.now }
-    ensures { is legs ≡ map (heard_line (was plan) (was records) (was froms) (was tos) k) (was legs) }
+    ensures { legs.new ≡ map (heard_line plan.now records.now froms.now tos.now k) legs.old }
 {
     let mut j = 0;
     while j < legs.len() {

@@ -2,7 +2,6 @@
 
 // What is kept for an area from step to step, for the positions of its switches: renewed where one has changed or parted.
 ghost use Rattle.whole.specs.Plain.{◌≡◌};
-ghost use Rattle.whole.specs.Loans.{was, is};
 ghost use Rattle.step_keep.specs.Tabled.{Known, Renews};
 
 use plan_own::Owns;
@@ -22,8 +21,8 @@ pub fn renew(
     k: usize,
 ) -> usize
     requires { Known k records.now plan.now owns.old legs.old nodes.now factors.old area }
-    ensures { Renews k area (was records) (was plan) (was nodes) (was owns) (was legs) (was factors) result (is owns)
-        (is legs) (is factors) }
+    ensures { Renews k area records.now plan.now nodes.now owns.old legs.old factors.old result owns.new
+        legs.new factors.new }
 {
     let o = plan_own::own_at(owns, area);
     if k < o.until {

@@ -3,7 +3,6 @@
 // When a breaker parts, and its latch (02): "A closed switch now parts after the first step k, at or after open - 1 and later than its closing step, at which its
 // current is zero or of opposite sign to that of step k - 1".
 ghost use Rattle.whole.specs.Plain.{◌≤◌, ◌<◌, ◌≡◌, length};
-ghost use Rattle.whole.specs.Loans.{was, is};
 ghost use Rattle.paper.specs.Limits as Limits;
 ghost use Rattle.paper.specs.Latch as Latch;
 ghost use Rattle.step_latch.specs.Parting.{parts_by, leg_parts, latch_put};
@@ -42,8 +41,8 @@ fn parts(r: Row, before: i64, now: i64, latch: i64, k: usize) -> bool
 // A leg that is an SW's: its latch is set where it parts at step k. The current in the records is still that of the step before.
 pub fn part(plan: &Table, l: Wire, current: i64, records: &mut [i64], k: usize) -> bool
     requires { (l.row < Limits.row_end) × (length records.old ≡ Limits.record_words) × (k ≤ Limits.steps_end) }
-    ensures value { result ≡ leg_parts (was plan) k l current (was records) }
-    ensures records_value { is records ≡ latch_put (was plan) k l current (was records) }
+    ensures value { result ≡ leg_parts plan.now k l current records.old }
+    ensures records_value { records.new ≡ latch_put plan.now k l current records.old }
 {
     if l.kind != kinds::SW {
         return false;

@@ -5,7 +5,6 @@
 ghost use Rattle.whole.specs.Plain.{◌+◌, ◌<◌, ◌≡◌, [], ◌+ℤ◌, set, length, get_or, word};
 ghost use Rattle.std.specs.Int.{w64};
 ghost use Rattle.std.proofs.Common.{SFits};
-ghost use Rattle.whole.specs.Loans.{was, is};
 ghost use Rattle.paper.specs.Limits as Limits;
 ghost use Rattle.paper.specs.Legs.{through};
 ghost use Rattle.step_legs.specs.Wires.{leg_of, wire_at, Wired, Carries, Wires};
@@ -33,7 +32,7 @@ pub type SourceLine = [i64; 5];
 
 pub fn leg_at(legs: &[Line], j: usize) -> Wire
     requires { Wires legs.now × (j < length legs.now) }
-    ensures { result ≡ wire_at (was legs) j }
+    ensures { result ≡ wire_at legs.now j }
 {
     let w = legs[j];
     Wire {
@@ -50,7 +49,7 @@ pub fn leg_at(legs: &[Line], j: usize) -> Wire
 // Word i of leg j.
 pub fn put_word(legs: &mut [Line], j: usize, i: usize, x: i64)
     requires { (j < length legs.old) × (i < 9) }
-    ensures { is legs ≡ set (was legs) j (set (get_or (was legs) j []) i x) }
+    ensures { legs.new ≡ set legs.old j (set (get_or legs.old j []) i x) }
 {
     legs[j][i] = x;
 }
@@ -58,7 +57,7 @@ pub fn put_word(legs: &mut [Line], j: usize, i: usize, x: i64)
 // g·u
 pub fn through(l: Wire, v: &[i64; Node::PLACES]) -> i64
     requires { Wired l × Volts v.now }
-    ensures { result ≡ through (was v) (leg_of l) }
+    ensures { result ≡ through v.now (leg_of l) }
 {
     let p = l.near;
     let q = l.far;
@@ -68,7 +67,7 @@ pub fn through(l: Wire, v: &[i64; Node::PLACES]) -> i64
 // what would leave by the leg with its near node at 0: "histories" less "conductance times fixed neighbour voltages"
 pub fn drawn(l: Wire, still: &[i64; Node::PLACES]) -> i64
     requires { Carries l × Volts still.now }
-    ensures { result ≡ drawn (was still) (leg_of l) }
+    ensures { result ≡ drawn still.now (leg_of l) }
 {
     let q = l.far;
     let fixed = l.g * still[q];
@@ -78,7 +77,7 @@ pub fn drawn(l: Wire, still: &[i64; Node::PLACES]) -> i64
 // x more at node p
 pub fn add(sums: &mut [i64; Node::PLACES], p: usize, x: i64)
     requires { (p < Limits.node_end + 1) × SFits w64 (word sums.old p) × SFits w64 (word sums.old p +ℤ x) }
-    ensures { is sums ≡ set (was sums) p (word (was sums) p +ℤ x) }
+    ensures { sums.new ≡ set sums.old p (word sums.old p +ℤ x) }
 {
     sums[p] = sums[p] + x;
 }

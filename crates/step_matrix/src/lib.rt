@@ -3,7 +3,6 @@
 // From an area's legs to the factors of its block of the table that all areas share: once for each position of the area's switches. A sum of at most
 // 64 conductances is exact in doubles, so that each leg goes straight into the matrix.
 ghost use Rattle.whole.specs.Plain.{◌+◌, ◌≤◌, ◌<◌, ◌≡◌, map, length};
-ghost use Rattle.whole.specs.Loans.{was, is};
 ghost use Rattle.paper.specs.Limits as Limits;
 ghost use Rattle.step_legs.specs.Wires.{legs_in, Wires};
 ghost use Rattle.step_legs.specs.Free.{Free};
@@ -23,7 +22,7 @@ use step_legs::Line;
 // by node its place among the free nodes; 32 for a node that is none of them
 fn places(free: &[usize]) -> [usize; Node::PLACES]
     requires { Free free.now }
-    ensures { Placed (was free) result (length (was free)) }
+    ensures { Placed free.now result (length free.now) }
 {
     let mut place = [Node::MAX as usize; Node::PLACES];
     let mut i = 0;
@@ -38,7 +37,7 @@ fn places(free: &[usize]) -> [usize; Node::PLACES]
 // Whole lines: the cells past the block take no part.
 fn clear(a: &mut Matrix, base: usize, n: usize)
     requires { (base + n ≤ Limits.node_end) × Square a.old }
-    ensures { Cleared base n n (was a) (is a) }
+    ensures { Cleared base n n a.old a.new }
 {
     let none = [0.0; Node::MAX as usize];
     let mut p = 0;
@@ -51,7 +50,7 @@ fn clear(a: &mut Matrix, base: usize, n: usize)
 // A leg of conductance g from place p to place q. The pivot is written last, so that a leg back to its own node only adds to it.
 fn join_line(line: &mut ByFree, n: usize, p: usize, q: usize, g: f64)
     requires { (n ≤ Limits.node_end) × (p < n) }
-    ensures { is line ≡ line_joined n p q g (was line) }
+    ensures { line.new ≡ line_joined n p q g line.old }
 {
     let pivot = line[p] + g;
     if q < n {
@@ -63,7 +62,7 @@ fn join_line(line: &mut ByFree, n: usize, p: usize, q: usize, g: f64)
 // A leg from ground or a fixed node has no line.
 fn join(a: &mut Matrix, base: usize, n: usize, p: usize, q: usize, g: f64)
     requires { base + n ≤ Limits.node_end }
-    ensures { is a ≡ joined base n p q g (was a) }
+    ensures { a.new ≡ joined base n p q g a.old }
 {
     if p < n {
         join_line(&mut a[base + p], n, p, q, g);
@@ -74,7 +73,7 @@ fn join(a: &mut Matrix, base: usize, n: usize, p: usize, q: usize, g: f64)
 fn fill(legs: &[Line], free: &[usize], place: &[usize; Node::PLACES], base: usize, a: &mut Matrix)
     requires wires { Wires legs.now × Free free.now × Placed free.now place.now (length free.now) }
     requires free_bound { (base + length free.now ≤ Limits.node_end) × Square a.old }
-    ensures { Block (legs_in (was legs)) (was free) base (was a) (is a) }
+    ensures { Block (legs_in legs.now) free.now base a.old a.new }
 {
     let n = free.len();
     clear(a, base, n);
@@ -91,8 +90,8 @@ fn fill(legs: &[Line], free: &[usize], place: &[usize; Node::PLACES], base: usiz
 // Lines base .. base + n of the table become the factors of the matrix of these legs; what they held does not matter.
 pub fn prepare(legs: &[Line], free: &[usize], base: usize, a: &mut Matrix)
     requires { Wires legs.now × Free free.now × (base + length free.now ≤ Limits.node_end) × Square a.old }
-    ensures serves { Serves base (length (was free)) (matrix_of (map bare (legs_in (was legs))) (was free)) (is a) }
-    ensures renewed { Renewed base (length (was free)) (was a) (is a) }
+    ensures serves { Serves base (length free.now) (matrix_of (map bare (legs_in legs.now)) free.now) a.new }
+    ensures renewed { Renewed base (length free.now) a.old a.new }
 {
     let n = free.len();
     let place = places(free);

@@ -3,7 +3,6 @@
 // What an area keeps for a position of its switches: its legs' conductances, that no node floats, and the factors of its matrix. A breaker's position is by
 // its latch in the records.
 ghost use Rattle.whole.specs.Plain.{ℕ, ◌≤◌, ◌≡◌, length};
-ghost use Rattle.whole.specs.Loans.{was, is};
 ghost use Rattle.paper.specs.Limits as Limits;
 ghost use Rattle.paper.specs.Areas.{Net};
 ghost use Rattle.step_factors.specs.Factors.{Square};
@@ -32,9 +31,9 @@ pub fn prepare(
 ) -> Prepared
     requires known { Known plan.now legs.old free.now base × Square a.old × (k ≤ Limits.steps_end) }
     requires records_len { length records.now ≡ Limits.record_words }
-    ensures prepares { (N : Net) (n : ℕ) → Standing N n (was plan) (was legs) (was free) base
-        → Prepares N n k (was records) base result (is legs) (is a) }
-    ensures renewed { Renewed base (length (was free)) (was a) (is a) }
+    ensures prepares { (N : Net) (n : ℕ) → Standing N n plan.now legs.old free.now base
+        → Prepares N n k records.now base result legs.new a.new }
+    ensures renewed { Renewed base (length free.now) a.old a.new }
 {
     let until = step_conduct::conduct(plan, legs, records, k);
     let node = step_floating::floating(legs, free);

@@ -3,7 +3,6 @@
 // What an accepted step of one area writes into the records: its count, its nodes' voltages and peaks, the words of its rows, the latches of breakers that part. A leg's
 // line has its current and what it passes on; nothing is worked out again.
 ghost use Rattle.whole.specs.Plain.{◌≤◌, ◌<◌, ◌≡◌, ◌&&◌, eqb, pos, nat_abs, length};
-ghost use Rattle.whole.specs.Loans.{was, is};
 ghost use Rattle.paper.specs.Limits as Limits;
 ghost use Rattle.step_legs.specs.Shares.{Volts};
 ghost use Rattle.step_latch.specs.Parting.{leg_parts};
@@ -25,7 +24,7 @@ fn size(x: i64) -> i64
 fn put_node(n: usize, x: i64, records: &mut [i64], k: usize)
     requires n_bound { (n ≤ Limits.node_end) × (nat_abs x ≤ Limits.voltage_end) × (k ≤ Limits.steps_end) }
     requires records_len { length records.old ≡ Limits.record_words }
-    ensures { is records ≡ node_put k n x (was records) }
+    ensures { records.new ≡ node_put k n x records.old }
 {
     records[sections::VOLTS + n - 1] = x;
     let reached = size(x);
@@ -40,7 +39,7 @@ fn put_node(n: usize, x: i64, records: &mut [i64], k: usize)
 fn put_nodes(nodes: &[usize], v: &[i64; Node::PLACES], records: &mut [i64], k: usize)
     requires nodes { Nodes nodes.now × Volts v.now × (k ≤ Limits.steps_end) }
     requires records_len { length records.old ≡ Limits.record_words }
-    ensures { is records ≡ nodes_put k (was v) (was nodes) (was records) }
+    ensures { records.new ≡ nodes_put k v.now nodes.now records.old }
 {
     let mut i = 0;
     while i < nodes.len() {
@@ -60,7 +59,7 @@ pub fn put_area(
 )
     requires nodes { Nodes nodes.now × Volts v.now × (length records.old ≡ Limits.record_words) }
     requires le_area { (1 ≤ area) × (area ≤ Limits.node_end) × (k ≤ Limits.steps_end) }
-    ensures { is records ≡ area_put k (was v) (was nodes) area (was records) }
+    ensures { records.new ≡ area_put k v.now nodes.now area records.old }
 {
     records[sections::COUNTS + (area - 1)] = k as i64;
     put_nodes(nodes, v, records, k);
@@ -77,8 +76,8 @@ pub fn put_leg(
     k: usize,
 ) -> bool
     requires { (l.row < Limits.row_end) × (length records.old ≡ Limits.record_words) × (k ≤ Limits.steps_end) }
-    ensures records_value { is records ≡ leg_put (was plan) k l current passed (was records) }
-    ensures value { result ≡ (eqb l.end 1 && leg_parts (was plan) k l current (was records)) }
+    ensures records_value { records.new ≡ leg_put plan.now k l current passed records.old }
+    ensures value { result ≡ (eqb l.end 1 && leg_parts plan.now k l current records.old) }
 {
     let row = l.row;
     if l.end != 1 {

@@ -2,7 +2,6 @@
 
 // What a line's end sends, into that end's store: "step s in place s mod 2d".
 ghost use Rattle.whole.specs.Plain.{◌+◌, ◌≤◌, ◌<◌, ◌%◌, ◌≡◌, length, set};
-ghost use Rattle.whole.specs.Loans.{was, is};
 ghost use Rattle.paper.specs.Limits as Limits;
 ghost use Rattle.step_send.specs.Stores.{is_from_end, is_to_end, sent_put, Slotted};
 
@@ -13,7 +12,7 @@ use step_legs::Wire;
 // The value of step s in place s mod the slots of one line end.
 fn put_slot(ring: &mut [i64], k: usize, x: i64)
     requires { 0 < length ring.old }
-    ensures { is ring ≡ set (was ring) (k % length (was ring)) x }
+    ensures { ring.new ≡ set ring.old (k % length ring.old) x }
 {
     let at = k % ring.len();
     ring[at] = x;
@@ -22,7 +21,7 @@ fn put_slot(ring: &mut [i64], k: usize, x: i64)
 // The line's words, which start in mid-store, are lent on to be written.
 fn put_sent(store: &mut [i64], start: usize, slots: usize, k: usize, x: i64)
     requires { (start + slots ≤ length store.old) × (0 < slots) }
-    ensures { is store ≡ set (was store) (start + k % slots) x }
+    ensures { store.new ≡ set store.old (start + k % slots) x }
 {
     let end = start + slots;
     put_slot(&mut store[start..end], k, x);
@@ -32,8 +31,8 @@ fn put_sent(store: &mut [i64], start: usize, slots: usize, k: usize, x: i64)
 pub fn send_leg(plan: &Table, l: Wire, x: i64, froms: &mut [i64], tos: &mut [i64], k: usize)
     requires slotted { Slotted plan.now l }
     requires froms_len { (length froms.old ≡ Limits.store_words) × (length tos.old ≡ Limits.store_words) }
-    ensures froms_value { is froms ≡ sent_put (was plan) k is_from_end l x (was froms) }
-    ensures tos_value { is tos ≡ sent_put (was plan) k is_to_end l x (was tos) }
+    ensures froms_value { froms.new ≡ sent_put plan.now k is_from_end l x froms.old }
+    ensures tos_value { tos.new ≡ sent_put plan.now k is_to_end l x tos.old }
 {
     if l.kind == kinds::LINE {
         let r = plan_rows::row_at(plan, l.row);

@@ -3,7 +3,6 @@
 // One right side for the factors that an area keeps: what its legs draw, the equations' right sides as doubles, and the voltages of its free nodes, or
 // refusal 15 with the lowest node whose double is outside the range.
 ghost use Rattle.whole.specs.Plain.{suc, ◌+◌, ◌≤◌, ◌<◌, ◌≡◌, map, length, word};
-ghost use Rattle.whole.specs.Loans.{was, is};
 ghost use Rattle.paper.specs.Limits as Limits;
 ghost use Rattle.paper.specs.Doubles.{in_range, nearest_of};
 ghost use Rattle.paper.specs.Solve.{settle, proposed};
@@ -25,7 +24,7 @@ use step_legs::Line;
 // by node, what its legs would draw with the node at 0
 fn draws(legs: &[Line], still: &[i64; Node::PLACES]) -> [i64; Node::PLACES]
     requires { Sized legs.now × Volts still.now }
-    ensures { Sums none (drawn (was still)) (legs_in (was legs)) result }
+    ensures { Sums none (drawn still.now) (legs_in legs.now) result }
 {
     let mut sums = [0; Node::PLACES];
     let mut j = 0;
@@ -47,7 +46,7 @@ fn right_sides(
 )
     requires free { Free free.now × Near (suc Limits.node_end) inject.now drawn.now }
     requires b_len { length b.old ≡ Limits.node_end }
-    ensures { Rights (length (was free)) (was free) (was inject) (was drawn) (is b) }
+    ensures { Rights (length free.now) free.now inject.now drawn.now b.new }
 {
     let mut i = 0;
     while i < free.len() {
@@ -62,7 +61,7 @@ fn right_sides(
 fn put(v: &mut [i64; Node::PLACES], p: usize, x: f64) -> bool
     requires { p < Limits.node_end + 1 }
     ensures value { result ≡ in_range x }
-    ensures v_value { is v ≡ settle (was v) p (nearest_of x) }
+    ensures v_value { v.new ≡ settle v.old p (nearest_of x) }
 {
     let near = num_double::nearest(x);
     match near {
@@ -78,7 +77,7 @@ fn put(v: &mut [i64; Node::PLACES], p: usize, x: f64) -> bool
 // "Each x within the voltage range goes to the nearest whole number .. one that isn't within it, not-a-number included, is RANGE."
 fn put_all(xs: &ByFree, free: &[usize], v: &mut [i64; Node::PLACES]) -> usize
     requires { Free free.now × (length free.now ≤ length xs.now) }
-    ensures { Solved (was free) (rounded (length (was free)) (was xs)) (was v) (is v) result }
+    ensures { Solved free.now (rounded (length free.now) xs.now) v.old v.new result }
 {
     let mut i = 0;
     while i < free.len() {
@@ -104,8 +103,8 @@ pub fn solve(
     requires sized { Sized legs.now × Volts v.old × InjectsWithin inject.now × Free free.now }
     requires free_bound { base + length free.now ≤ Limits.node_end }
     requires serves { Serves base (length free.now) (matrix_of (map bare (legs_in legs.now)) free.now) a.now }
-    ensures { Solved (was free) (proposed (legs_in (was legs)) (was free) (was v) (λ p. word (was inject) p))
-        (was v) (is v) result }
+    ensures { Solved free.now (proposed (legs_in legs.now) free.now v.old (λ p. word inject.now p))
+        v.old v.new result }
 {
     let drawn = draws(legs, v);
     let mut b = [0.0; Node::MAX as usize];

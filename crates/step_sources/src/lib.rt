@@ -2,7 +2,6 @@
 
 // "A source before its start is 0; from start, with n steps since": what an area's sources hold and inject at one step.
 ghost use Rattle.whole.specs.Plain.{◌*◌, ◌≤◌, ◌<◌, ◌≡◌, true, [], pos, nat_abs, le_z, length, get_or, nat};
-ghost use Rattle.whole.specs.Loans.{was, is};
 ghost use Rattle.paper.specs.Limits as Limits;
 ghost use Rattle.paper.specs.Rows.{is_fixing, is_iS};
 ghost use Rattle.step_legs.specs.Sums.{none};
@@ -24,7 +23,7 @@ struct Source {
 
 fn source_at(sources: &[SourceLine], j: usize) -> Source
     requires { Sources sources.now × (j < length sources.now) }
-    ensures { result ≡ source_at (was sources) j }
+    ensures { result ≡ source_at sources.now j }
 {
     let w = sources[j];
     Source {
@@ -81,8 +80,8 @@ fn drive_one(
 )
     requires sources { Sources sources.now × ((j < length sources.now) × (k ≤ Limits.steps_end)) }
     requires room { Room j v.old × Room j inject.old }
-    ensures v_value { is v ≡ give is_fixing k (was v) (get_or (was sources) j []) }
-    ensures inject_value { is inject ≡ give is_iS k (was inject) (get_or (was sources) j []) }
+    ensures v_value { v.new ≡ give is_fixing k v.old (get_or sources.now j []) }
+    ensures inject_value { inject.new ≡ give is_iS k inject.old (get_or sources.now j []) }
 {
     let s = source_at(sources, j);
     let n = (k as i64) - s.start;
@@ -108,9 +107,9 @@ pub fn drive(
 )
     requires sources { Sources sources.now × (k ≤ Limits.steps_end) }
     requires v_value { (v.old ≡ none) × (inject.old ≡ none) }
-    ensures v_value_2 { is v ≡ given is_fixing k (was sources) }
-    ensures inject_value { is inject ≡ given is_iS k (was sources) }
-    ensures injects_within { InjectsWithin (is inject) }
+    ensures v_value_2 { v.new ≡ given is_fixing k sources.now }
+    ensures inject_value { inject.new ≡ given is_iS k sources.now }
+    ensures injects_within { InjectsWithin inject.new }
 {
     let mut j = 0;
     while j < sources.len() {

@@ -2,8 +2,7 @@
 
 // One step of one area, from what is kept for it: 15 to 17 in turn, or the step is taken and written.
 ghost use Rattle.whole.specs.Plain.{◌≡◌};
-ghost use Rattle.whole.specs.Loans.{was, is};
-ghost use Rattle.paper.specs.Lent.{before, after};
+ghost use Rattle.paper.specs.Advance.{memory};
 ghost use Rattle.step_take.specs.Stepping.{at_of, Movable, Moves};
 
 use paper::{Advance, Node};
@@ -54,8 +53,8 @@ pub fn stepped(
 ) -> Outcome
     requires { Movable plan.now legs.old nodes.now sources.now factors.now records.old froms.old
         tos.old o turn }
-    ensures { Moves (was plan) (was nodes) (was sources) (was factors) o turn (was legs)
-        (before records froms tos) result (is legs) (after records froms tos) }
+    ensures { Moves plan.now nodes.now sources.now factors.now o turn legs.old
+        (memory records.old froms.old tos.old) result legs.new (memory records.new froms.new tos.new) }
 {
     let legs_from = o.legs;
     let legs_to = o.legs_end;

@@ -2,7 +2,6 @@
 
 // One step of one area tried, on what is kept for its switches' positions: 15, 16 and 17 in turn, or the voltages. Nothing lent for the study is written.
 ghost use Rattle.whole.specs.Plain.{ℕ, drop, ◌-◌, ◌≡◌, nat};
-ghost use Rattle.whole.specs.Loans.{was, is};
 ghost use Rattle.paper.specs.Answers.{accepted};
 ghost use Rattle.paper.specs.Areas.{Net};
 ghost use Rattle.plan_rows.specs.Planned.{row_in};
@@ -57,8 +56,8 @@ fn judged(
     requires { Judging legs.now free.now (drop 1 leaving.now) (drop one injected.now) at }
     ensures { result
         ≡ in_flow at.k
-        (first_past (nat at.limit) (drop 1 (was leaving)) (drop one (was injected)) (was free)) (first_row (was legs))
-        (row_in (was plan) (first_row (was legs) - 1)).number }
+        (first_past (nat at.limit) (drop 1 leaving.now) (drop one injected.now) free.now) (first_row legs.now)
+        (row_in plan.now (first_row legs.now - 1)).number }
 {
     let node = step_flow::balance(leaving, injected, one, free, at.limit);
     if node != 0 {
@@ -89,9 +88,9 @@ pub fn try_step<'a>(
     requires { Known plan.now sources.now free.now legs.old factors.now records.now froms.now tos.now
         at × (v.old ≡ none) }
     ensures tries { (N : Net) (a : ℕ)
-        → Trying N a (was plan) (was sources) (was free) (was legs) (was factors) (was records) (was froms) (was tos) at
-        → Tries N a at.k (was records) (was froms) (was tos) (is legs) result (is v) }
-    ensures same_but { SameBut (was legs) (is legs) }
+        → Trying N a plan.now sources.now free.now legs.old factors.now records.now froms.now tos.now at
+        → Tries N a at.k records.now froms.now tos.now legs.new result v.new }
+    ensures same_but { SameBut legs.old legs.new }
 {
     let mut injected = [0; Node::PLACES];
     step_sources::drive(sources, at.k, v, &mut injected);

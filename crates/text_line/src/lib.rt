@@ -2,7 +2,6 @@
 
 // One line of the study text as a row: "Lines end in LF, the last one too; fields are parted by one tab."
 ghost use Rattle.whole.specs.Plain.{◌≤◌, ◌<◌, ◌+◌, ◌≡◌, length, drop};
-ghost use Rattle.whole.specs.Loans.{was};
 ghost use Rattle.text_line.specs.Parts.{ends, field_of, starts_with};
 ghost use Rattle.text_line.specs.Walks.{field_at, fields_at, line_at};
 
@@ -23,7 +22,7 @@ fn is_end(b: u8) -> bool
 // The next tab or LF, or the text's end.
 fn end_of(text: &[u8], at: usize) -> usize
     requires { at ≤ length text.now }
-    ensures { result ≡ at + length (field_of (drop at (was text))) }
+    ensures { result ≡ at + length (field_of (drop at text.now)) }
 {
     let mut i = at;
     while i < text.len() {
@@ -36,7 +35,7 @@ fn end_of(text: &[u8], at: usize) -> usize
 }
 
 fn is_at(text: &[u8], at: usize, b: u8) -> bool
-    ensures { result ≡ starts_with b (drop at (was text)) }
+    ensures { result ≡ starts_with b (drop at text.now) }
 {
     if at < text.len() {
         return text[at] == b;
@@ -47,7 +46,7 @@ fn is_at(text: &[u8], at: usize, b: u8) -> bool
 // The field i of a line of a kind: a tab and a number.
 fn field_at(text: &[u8], kind: usize, i: usize, walk: Walk) -> Walk
     requires { (kind < 10) × ((i < 5) × (walk.at ≤ length text.now)) }
-    ensures { result ≡ field_at (was text) kind i walk }
+    ensures { result ≡ field_at text.now kind i walk }
 {
     let at = walk.at;
     let mut row = walk.row;
@@ -69,7 +68,7 @@ fn field_at(text: &[u8], kind: usize, i: usize, walk: Walk) -> Walk
 
 fn fields_at(text: &[u8], kind: usize, first: Walk) -> Walk
     requires { (kind < 10) × (first.at ≤ length text.now) }
-    ensures { result ≡ fields_at (was text) kind first }
+    ensures { result ≡ fields_at text.now kind first }
 {
     let n = text_kinds::fields(kind);
     let mut walk = first;
@@ -85,7 +84,7 @@ fn fields_at(text: &[u8], kind: usize, first: Walk) -> Walk
 // The line that begins at a place, up to its LF.
 pub fn line_at(text: &[u8], at: usize) -> Walk
     requires { at ≤ length text.now }
-    ensures { result ≡ line_at (was text) at }
+    ensures { result ≡ line_at text.now at }
 {
     let end = end_of(text, at);
     let kind = text_words::kind_of(&text[at..end]);

@@ -3,7 +3,6 @@
 // All lines of the study text, one after the other, into a network record; or the first faulty line and its fault.
 ghost use Rattle.whole.specs.Plain.{◌≤◌, ◌<◌, ◌+◌, ◌≡◌, true, false, ◌&&◌, bool_beq, eqb, ltb, pos, length, replicate};
 ghost use Rattle.whole.specs.Plain.{sets};
-ghost use Rattle.whole.specs.Loans.{was, is};
 ghost use Rattle.paper.specs.Limits as Limits;
 ghost use Rattle.paper.specs.Rows.{kind, is_study};
 ghost use Rattle.paper.specs.Reading.{lines_of};
@@ -28,7 +27,7 @@ pub struct Progress {
 
 fn lay(net: &mut [i64], place: usize, row: [i64; 8])
     requires { place + 8 ≤ length net.old }
-    ensures { is net ≡ sets (was net) place row }
+    ensures { net.new ≡ sets net.old place row }
 {
     let mut i = 0;
     while i < 8 {
@@ -40,7 +39,7 @@ fn lay(net: &mut [i64], place: usize, row: [i64; 8])
 
 fn put_row(net: &mut [i64], n: usize, row: [i64; 8])
     requires { (length net.old ≡ Limits.network_words) × (n < Limits.row_end) }
-    ensures { is net ≡ put_row n row (was net) }
+    ensures { net.new ≡ put_row n row net.old }
 {
     lay(net, 8 + 8 * n, row);
     net[3] = (n + 1) as i64;
@@ -48,7 +47,7 @@ fn put_row(net: &mut [i64], n: usize, row: [i64; 8])
 
 fn put_study(net: &mut [i64], row: [i64; 8])
     requires { length net.old ≡ Limits.network_words }
-    ensures { is net ≡ put_study row (was net) }
+    ensures { net.new ≡ put_study row net.old }
 {
     let length = row[1];
     let steps = row[2];
@@ -61,7 +60,7 @@ fn put_study(net: &mut [i64], row: [i64; 8])
 fn put_line(net: &mut [i64], n: usize, row: [i64; 8])
     requires { (length net.old ≡ Limits.network_words)
         × ((kind row < 10) × (is_study row ≡ false → n < Limits.row_end)) }
-    ensures { is net ≡ put_line n row (was net) }
+    ensures { net.new ≡ put_line n row net.old }
 {
     if text_faults::kind_of(row) == 0 {
         put_study(net, row);
@@ -102,7 +101,7 @@ fn fault_of(walk: Walk, seen: Seen, first: bool) -> u64
 
 fn next_line(text: &[u8], p: Progress, net: &mut [i64]) -> Progress
     requires { (State text.now p net.old) × ((p.fault ≡ 0) × (p.at < length text.now)) }
-    ensures { Next (was text) p result (is net) }
+    ensures { Next text.now p result net.new }
 {
     let at = p.at;
     let seen = p.seen;
@@ -153,7 +152,7 @@ fn closed(p: Progress) -> Progress
 
 pub fn read_study(text: &[u8], net: &mut [i64]) -> Progress
     requires { net.old ≡ replicate Limits.network_words (pos 0) }
-    ensures { Ends (lines_of (was text)) result (is net) }
+    ensures { Ends (lines_of text.now) result net.new }
 {
     let seen = text_faults::nothing_seen();
     let mut p = Progress {

@@ -6,7 +6,6 @@ ghost use Rattle.whole.specs.Plain.{◌≤◌, ◌<◌, ◌+◌, ◌≡◌, true
 ghost use Rattle.whole.specs.Plain.{same_bytes};
 ghost use Rattle.paper.specs.Rows.{kinds, word_of};
 ghost use Rattle.paper.specs.Text.{digit, place_of};
-ghost use Rattle.whole.specs.Loans.{was};
 ghost use Rattle.text_words.specs.Numbers.{held, digits_of, plain_of, read_number};
 ghost use Rattle.text_words.specs.Words.{letters_of, Only};
 
@@ -46,7 +45,7 @@ fn push(v: u64, b: u8) -> u64
 
 fn all_digits(s: &[u8], start: usize) -> Digits
     requires { start ≤ length s.now }
-    ensures { result ≡ digits_of (drop start (was s)) }
+    ensures { result ≡ digits_of (drop start s.now) }
 {
     let mut v: u64 = 0;
     let mut i = start;
@@ -67,7 +66,7 @@ fn all_digits(s: &[u8], start: usize) -> Digits
 // Digits without a leading zero, or 0 alone where it may stand.
 fn plain(s: &[u8], start: usize, zero: bool) -> Digits
     requires { start ≤ length s.now }
-    ensures { result ≡ plain_of zero (drop start (was s)) }
+    ensures { result ≡ plain_of zero (drop start s.now) }
 {
     if s.len() <= start {
         return Digits {
@@ -86,7 +85,7 @@ fn plain(s: &[u8], start: usize, zero: bool) -> Digits
 }
 
 fn starts_minus(s: &[u8]) -> bool
-    ensures { result ≡ eqb (get_or (was s) 0 0) 45 }
+    ensures { result ≡ eqb (get_or s.now 0 0) 45 }
 {
     if s.len() == 0 {
         return false;
@@ -96,7 +95,7 @@ fn starts_minus(s: &[u8]) -> bool
 
 // A field's number, and whether it is well spelt where a minus may stand, or may not.
 pub fn read_number(s: &[u8], signed: bool) -> Number
-    ensures { result ≡ read_number signed (was s) }
+    ensures { result ≡ read_number signed s.now }
 {
     if signed & starts_minus(s) {
         let n = plain(s, 1, false);
@@ -150,7 +149,7 @@ pub fn letters_of(kind: usize) -> [u8; 5]
 
 fn is_word(word: &[u8], kind: usize) -> bool
     requires { kind < 10 }
-    ensures { result ≡ same_bytes (word_of kind) (was word) }
+    ensures { result ≡ same_bytes (word_of kind) word.now }
 {
     if word.len() != length_of(kind) {
         return false;
@@ -168,7 +167,7 @@ fn is_word(word: &[u8], kind: usize) -> bool
 
 // A word's second byte, 0 where it has none.
 fn second_of(word: &[u8]) -> u8
-    ensures { result ≡ get_or (was word) 1 0 }
+    ensures { result ≡ get_or word.now 1 0 }
 {
     if word.len() < 2 {
         return 0;
@@ -209,7 +208,7 @@ fn candidate(first: u8, second: u8, length: usize) -> usize
 
 // The kind that a word names, or the number of kinds.
 pub fn kind_of(word: &[u8]) -> usize
-    ensures { result ≡ place_of 0 kinds (was word) }
+    ensures { result ≡ place_of 0 kinds word.now }
 {
     if word.len() == 0 {
         return paper::kinds::COUNT;

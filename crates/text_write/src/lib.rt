@@ -3,7 +3,6 @@
 // A study's text from its network record, put into a lent buffer line by line, in table order; each function answers the next place. The words,
 // and how many fields follow them, come from the table of kinds.
 ghost use Rattle.whole.specs.Plain.{◌+◌, ◌≤◌, ◌<◌, ◌≡◌, true, length};
-ghost use Rattle.whole.specs.Loans.{was, is};
 ghost use Rattle.paper.specs.Rows.{word_of};
 ghost use Rattle.paper.specs.Network.{is_network, table_of};
 ghost use Rattle.paper.specs.Listing.{shown_all, line_of};
@@ -19,7 +18,7 @@ use list_digits::Pairs;
 
 fn put_kind(kind: usize, out: &mut [u8], at: usize) -> usize
     requires { (kind < 10) × (at + length (word_of kind) ≤ length out.old) }
-    ensures { Puts (was out) at (word_of kind) result (is out) }
+    ensures { Puts out.old at (word_of kind) result out.new }
 {
     let letters = text_words::letters_of(kind);
     let end = text_words::length_of(kind);
@@ -29,7 +28,7 @@ fn put_kind(kind: usize, out: &mut [u8], at: usize) -> usize
 // a tab and a number
 fn put_field(pairs: &Pairs, x: i64, out: &mut [u8], at: usize) -> usize
     requires { (pairs.now ≡ all_pairs) × (at + length (field x) ≤ length out.old) }
-    ensures { Puts (was out) at (field x) result (is out) }
+    ensures { Puts out.old at (field x) result out.new }
 {
     let next = list_ends::put_byte(out, at, b'\t');
     list_numerals::put_number_by(pairs, out, next, x)
@@ -38,7 +37,7 @@ fn put_field(pairs: &Pairs, x: i64, out: &mut [u8], at: usize) -> usize
 // all numbers of a line, and its end
 fn put_fields(pairs: &Pairs, fields: &[i64], out: &mut [u8], at: usize) -> usize
     requires { (pairs.now ≡ all_pairs) × (at + length (shown_all fields.now) ≤ length out.old) }
-    ensures { Puts (was out) at (shown_all (was fields)) result (is out) }
+    ensures { Puts out.old at (shown_all fields.now) result out.new }
 {
     let mut next = at;
     let mut i = 0;
@@ -52,7 +51,7 @@ fn put_fields(pairs: &Pairs, fields: &[i64], out: &mut [u8], at: usize) -> usize
 fn put_line(pairs: &Pairs, kind: usize, fields: &[i64], out: &mut [u8], at: usize) -> usize
     requires pairs_value { (pairs.now ≡ all_pairs) × (kind < 10) }
     requires fields_in_bounds { at + length (line_of (word_of kind) fields.now) ≤ length out.old }
-    ensures { Puts (was out) at (line_of (word_of kind) (was fields)) result (is out) }
+    ensures { Puts out.old at (line_of (word_of kind) fields.now) result out.new }
 {
     let next = put_kind(kind, out, at);
     put_fields(pairs, fields, out, next)
@@ -64,7 +63,7 @@ fn put_line(pairs: &Pairs, kind: usize, fields: &[i64], out: &mut [u8], at: usiz
 fn put_row(pairs: &Pairs, net: &[i64], i: usize, out: &mut [u8], at: usize) -> usize
     requires pairs_value { (pairs.now ≡ all_pairs) × (is_network net.now ≡ true) × (i < length (net_in net.now).rows) }
     requires i_in_bounds { at + length (row_line (row_at (net_in net.now) i)) ≤ length out.old }
-    ensures { Puts (was out) at (row_line (row_at (net_in (was net)) i)) result (is out) }
+    ensures { Puts out.old at (row_line (row_at (net_in net.now) i)) result out.new }
 {
     let kind = plan_record::kind(net, i);
     let first = 9 + 8 * i;
@@ -75,7 +74,7 @@ fn put_row(pairs: &Pairs, net: &[i64], i: usize, out: &mut [u8], at: usize) -> u
 fn put_rows(pairs: &Pairs, net: &[i64], rows: usize, out: &mut [u8], at: usize) -> usize
     requires pairs_value { (pairs.now ≡ all_pairs) × (is_network net.now ≡ true) × (rows ≡ length (net_in net.now).rows) }
     requires net_in_bounds { at + length (text_of (net_in net.now).rows) ≤ length out.old }
-    ensures { Puts (was out) at (text_of (net_in (was net)).rows) result (is out) }
+    ensures { Puts out.old at (text_of (net_in net.now).rows) result out.new }
 {
     let mut next = at;
     let mut row = 0;
@@ -88,7 +87,7 @@ fn put_rows(pairs: &Pairs, net: &[i64], rows: usize, out: &mut [u8], at: usize) 
 
 pub fn put_study(net: &[i64], out: &mut [u8]) -> usize
     requires { (is_network net.now ≡ true) × (length (text_of (table_of net.now)) ≤ length out.old) }
-    ensures { Puts (was out) 0 (text_of (table_of (was net))) result (is out) }
+    ensures { Puts out.old 0 (text_of (table_of net.now)) result out.new }
 {
     let pairs = list_digits::pairs();
     let rows = plan_record::row_count(net);

@@ -5,7 +5,6 @@ pub mod Truths
 pub mod Repeats
 pub mod Turns
 pub mod Lists
-pub mod Loans
 pub mod Int
 pub mod Size
 pub mod Folds
