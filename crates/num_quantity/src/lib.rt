@@ -40,9 +40,8 @@ impl Conductance {
     pub const MIN: u64 = 1;
 
     pub fn new(x: u64) -> CheckedConductance
-        ensures* { do
-          ⌜ result ≡ cond (leb (← (⟦Conductance::MIN⟧).entry) x && leb x (← (⟦Conductance::MAX⟧).entry))
-              (CheckedConductance.Good (record { nanos = x })) CheckedConductance.Refused ⌝ }
+        ensures { result ≡ cond (leb Conductance.MIN x && leb x Conductance.MAX)
+              (CheckedConductance.Good (record { nanos = x })) CheckedConductance.Refused }
     {
         if (Conductance::MIN <= x) & (x <= Conductance::MAX) {
             return CheckedConductance::Good(Conductance { nanos: x });
@@ -69,9 +68,8 @@ impl History {
     pub const MIN: i64 = -History::MAX;
 
     pub fn new(x: i64) -> CheckedHistory
-        ensures* { do
-          ⌜ result ≡ cond (between (← (⟦History::MIN⟧).entry) (← (⟦History::MAX⟧).entry) x)
-              (CheckedHistory.Good (record { value = x })) CheckedHistory.Refused ⌝ }
+        ensures { result ≡ cond (between History.MIN History.MAX x)
+              (CheckedHistory.Good (record { value = x })) CheckedHistory.Refused }
     {
         if (History::MIN <= x) & (x <= History::MAX) {
             return CheckedHistory::Good(History { value: x });
