@@ -13,7 +13,7 @@ use paper::{Advance, Node};
 use plan_rows::{Table, Totals};
 
 // What it comes to: the refusal, k being 0, or the step k that the area may try, and the network's counts.
-#[derive(Drop)]
+#[derive(Clone, Copy)]
 pub struct Judged {
     pub answer: Advance,
     pub totals: Totals,

@@ -15,7 +15,7 @@ use paper::{Node, Room};
 use plan_rows::Table;
 
 // What a question comes to: a number, or nothing where there is no such node or branch; 8, 9.
-#[derive(Drop)]
+#[derive(Clone, Copy)]
 pub enum Asked {
     Told(u64),
     Nothing,

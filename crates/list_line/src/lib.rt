@@ -15,7 +15,7 @@ use list_digits::Pairs;
 // ---- what all lines of a step begin with: their letter and the step, a tab behind each
 
 // Of its 4 to 10 bytes the first four, the last four, and four between from `turn` on, so that it is put by three stores, however long it is.
-#[derive(Drop)]
+#[derive(Clone, Copy)]
 pub struct Head {
     pub letter: u8,
     pub step: u64,

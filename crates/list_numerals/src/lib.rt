@@ -10,7 +10,7 @@ ghost use Rattle.list_numerals.specs.Eights.{Cut, groups_of};
 use list_digits::Pairs;
 
 // A number's first digits, and how many groups of eight stand behind them: none, the low one, or both.
-#[derive(Drop)]
+#[derive(Clone, Copy)]
 struct Eights {
     top: u64,
     groups: usize,

@@ -13,7 +13,7 @@ use plan_rows::{Table, Totals};
 use step_legs::{Line, SourceLine};
 
 // What a call answers, and how many bytes it wrote.
-#[derive(Drop)]
+#[derive(Clone, Copy)]
 pub struct Piece {
     pub answer: Listing,
     pub count: usize,

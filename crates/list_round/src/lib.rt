@@ -14,14 +14,14 @@ use step_legs::{Line, SourceLine};
 use step_take::Turn;
 
 // All areas took the step; or the first that did not, and its answer.
-#[derive(Drop)]
+#[derive(Clone, Copy)]
 pub enum Round {
     Full,
     Refused(u64, Advance),
 }
 
 // Which step, by those that all areas have taken; how many areas there are; and the limit of what may be out of balance.
-#[derive(Drop)]
+#[derive(Clone, Copy)]
 pub struct Step {
     pub taken: usize,
     pub areas: usize,

@@ -5,12 +5,12 @@
 ghost use Rattle.whole.specs.Plain.{◌≡◌, ◌&&◌, cond, leb, between};
 
 // 0.1 V
-#[derive(Drop)]
+#[derive(Clone, Copy)]
 pub struct Voltage {
     pub tenths: i64,
 }
 
-#[derive(Drop)]
+#[derive(Clone, Copy)]
 pub enum CheckedVoltage {
     Good(Voltage),
     Refused,
@@ -23,12 +23,12 @@ impl Voltage {
 }
 
 // nS, of one branch
-#[derive(Drop)]
+#[derive(Clone, Copy)]
 pub struct Conductance {
     pub nanos: u64,
 }
 
-#[derive(Drop)]
+#[derive(Clone, Copy)]
 pub enum CheckedConductance {
     Good(Conductance),
     Refused,
@@ -51,12 +51,12 @@ impl Conductance {
 }
 
 // 0.1 nA, a history or a sent line value
-#[derive(Drop)]
+#[derive(Clone, Copy)]
 pub struct History {
     pub value: i64,
 }
 
-#[derive(Drop)]
+#[derive(Clone, Copy)]
 pub enum CheckedHistory {
     Good(History),
     Refused,
@@ -79,7 +79,7 @@ impl History {
 }
 
 // 0.1 nA, of one branch end
-#[derive(Drop)]
+#[derive(Clone, Copy)]
 pub struct Current;
 
 impl Current {
@@ -89,7 +89,7 @@ impl Current {
 }
 
 // 0.1 nA, into a node
-#[derive(Drop)]
+#[derive(Clone, Copy)]
 pub struct Injection;
 
 impl Injection {
@@ -99,7 +99,7 @@ impl Injection {
 }
 
 // 0 is ground
-#[derive(Drop)]
+#[derive(Clone, Copy)]
 pub struct Node;
 
 impl Node {
@@ -112,7 +112,7 @@ impl Node {
 }
 
 // ns
-#[derive(Drop)]
+#[derive(Clone, Copy)]
 pub struct StepLength;
 
 impl StepLength {
@@ -122,7 +122,7 @@ impl StepLength {
 }
 
 // how many steps a study has
-#[derive(Drop)]
+#[derive(Clone, Copy)]
 pub struct Steps;
 
 impl Steps {
@@ -132,7 +132,7 @@ impl Steps {
 }
 
 // 0.1 nA, what the currents leaving a node may miss its injection by
-#[derive(Drop)]
+#[derive(Clone, Copy)]
 pub struct Balance;
 
 impl Balance {

@@ -2,7 +2,7 @@
 // are held to these constants once (crate paper_ends).
 
 // mΩ, of R, LINE and SW
-#[derive(Drop)]
+#[derive(Clone, Copy)]
 pub struct Ohms;
 
 impl Ohms {
@@ -12,7 +12,7 @@ impl Ohms {
 }
 
 // nH
-#[derive(Drop)]
+#[derive(Clone, Copy)]
 pub struct Henries;
 
 impl Henries {
@@ -22,7 +22,7 @@ impl Henries {
 }
 
 // pF
-#[derive(Drop)]
+#[derive(Clone, Copy)]
 pub struct Farads;
 
 impl Farads {
@@ -32,7 +32,7 @@ impl Farads {
 }
 
 // ns, of a line
-#[derive(Drop)]
+#[derive(Clone, Copy)]
 pub struct Travel;
 
 impl Travel {
@@ -42,7 +42,7 @@ impl Travel {
 }
 
 // the step at which a switch closes or opens
-#[derive(Drop)]
+#[derive(Clone, Copy)]
 pub struct Switching;
 
 impl Switching {
@@ -52,7 +52,7 @@ impl Switching {
 }
 
 // the first step of a source
-#[derive(Drop)]
+#[derive(Clone, Copy)]
 pub struct Start;
 
 impl Start {
@@ -62,7 +62,7 @@ impl Start {
 }
 
 // how many steps a source takes to its peak
-#[derive(Drop)]
+#[derive(Clone, Copy)]
 pub struct Rise;
 
 impl Rise {
@@ -72,7 +72,7 @@ impl Rise {
 }
 
 // mHz, of a VC
-#[derive(Drop)]
+#[derive(Clone, Copy)]
 pub struct Frequency;
 
 impl Frequency {
@@ -82,7 +82,7 @@ impl Frequency {
 }
 
 // how many of each a study may have, and how many words or bytes of each are lent
-#[derive(Drop)]
+#[derive(Clone, Copy)]
 pub struct Room;
 
 impl Room {

@@ -13,7 +13,7 @@ use plan_rows::{Table, Totals};
 use step_legs::{Line, SourceLine};
 
 // Where an area's own stands: legs, nodes (the free ones first), sources; and the step before which what is prepared for it serves, 0 where nothing is.
-#[derive(Drop)]
+#[derive(Clone, Copy)]
 pub struct Own {
     pub legs: usize,
     pub legs_end: usize,

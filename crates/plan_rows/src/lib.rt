@@ -20,7 +20,7 @@ use paper::{Node, Room, kinds};
 // What a step needs of a row: its kind and its nodes, a source's other node being 0; its conductance; a line's travel time as whole steps and a rest of
 // the step length, how many slots it has in each store and where they begin; the steps at which a switch closes and opens; the area of each end, 0 for a
 // source; and the branch's number.
-#[derive(Drop)]
+#[derive(Clone, Copy)]
 pub struct Row {
     pub kind: usize,
     pub from: usize,
@@ -115,7 +115,7 @@ pub fn may_part(r: Row, k: usize) -> bool
 // ---- counts
 
 // How much of each thing there is: rows, nodes, areas, and slots of each store; the steps of the study, and the limit of what may be out of balance.
-#[derive(Drop)]
+#[derive(Clone, Copy)]
 pub struct Totals {
     pub rows: usize,
     pub nodes: usize,

@@ -10,7 +10,7 @@ use libc::{EINTR, STDIN_FILENO, STDOUT_FILENO};
 const TRIES: u64 = 1_000_000;
 
 // What one call came to: so many bytes moved, a signal before any was, or a failure, which errno names.
-#[derive(Drop)]
+#[derive(Clone, Copy)]
 pub enum Moved {
     Bytes(usize),
     Again,
@@ -18,7 +18,7 @@ pub enum Moved {
 }
 
 // What is read: so many bytes and then the end of the input or of the room; or a read that failed.
-#[derive(Drop)]
+#[derive(Clone, Copy)]
 pub enum Input {
     Whole(usize),
     Failed,

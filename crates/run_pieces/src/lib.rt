@@ -8,7 +8,7 @@ use list_pieces::Piece;
 use paper::{Advance, Listing, Steps};
 
 // What follows a piece of the listing: another; none after this last one, or after this area's refusal; none because the output did not take it.
-#[derive(Drop)]
+#[derive(Clone, Copy)]
 pub enum Next {
     More,
     Last(Listing),
@@ -17,7 +17,7 @@ pub enum Next {
 }
 
 // How many pieces were handed over, and what follows the last of them.
-#[derive(Drop)]
+#[derive(Clone, Copy)]
 pub struct Ended {
     pub pieces: u64,
     pub next: Next,

@@ -13,7 +13,7 @@ use paper::{Reading, Resetting, Room};
 use run_pieces::{Ended, Next};
 
 // What became of a text: a `bad` line, and whether it is written; or its listing.
-#[derive(Drop)]
+#[derive(Clone, Copy)]
 pub enum Outcome {
     Refused(bool),
     Listed(Ended),

@@ -32,7 +32,7 @@ fn passed_on(kind: usize, echo: i64) -> i64
 }
 
 // What a step finds of a leg.
-#[derive(Drop)]
+#[derive(Clone, Copy)]
 struct Found {
     current: i64,
     passed: i64,

@@ -13,7 +13,7 @@ ghost use Rattle.step_legs.specs.Shares.{Volts, drawn};
 use paper::Node;
 
 // One end of a row: from its node to another, with conductance g and history h; and which row's end it is, 1 the from end and 2 the to end.
-#[derive(Drop)]
+#[derive(Clone, Copy)]
 pub struct Wire {
     pub near: usize,
     pub far: usize,

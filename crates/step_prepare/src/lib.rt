@@ -14,7 +14,7 @@ use step_factors::Matrix;
 use step_legs::Line;
 
 // The lowest floating node, or 0 and the step before which what was prepared serves.
-#[derive(Drop)]
+#[derive(Clone, Copy)]
 pub struct Prepared {
     pub node: usize,
     pub until: usize,

@@ -6,7 +6,7 @@ ghost use Rattle.whole.specs.Plain.{◌+◌, ◌≤◌, ◌<◌, ◌≡◌, leng
 ghost use Rattle.step_received.specs.Received.{far_store, far_part, heard_from};
 
 // the end that reads
-#[derive(Drop)]
+#[derive(Clone, Copy)]
 pub enum Side {
     From,
     To,

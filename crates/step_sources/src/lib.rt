@@ -12,7 +12,7 @@ use paper::{Node, kinds};
 use step_legs::SourceLine;
 
 // One source: a VS, an IS or a VC at its node; its pace is the rise, or minus that of a VC's phase.
-#[derive(Drop)]
+#[derive(Clone, Copy)]
 struct Source {
     pub kind: usize,
     pub node: usize,

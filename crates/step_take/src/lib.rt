@@ -13,7 +13,7 @@ use step_legs::{Line, SourceLine};
 use step_try::At;
 
 // Whose step it is, which, and the limit of what may be out of balance.
-#[derive(Drop)]
+#[derive(Clone, Copy)]
 pub struct Turn {
     pub area: usize,
     pub k: usize,
@@ -32,7 +32,7 @@ fn at_of(o: Own, turn: Turn) -> At
 }
 
 // What a step came to, and whether a breaker of the area parted in it.
-#[derive(Drop)]
+#[derive(Clone, Copy)]
 pub struct Outcome {
     pub answer: Advance,
     pub parted: bool,

@@ -17,7 +17,7 @@ use step_factors::Matrix;
 use step_legs::{Line, SourceLine};
 
 // What a step is tried at: where the area's factors begin, the step, and the limit of what may be out of balance.
-#[derive(Drop)]
+#[derive(Clone, Copy)]
 pub struct At {
     pub base: usize,
     pub k: usize,

@@ -15,7 +15,7 @@ use num_quantity::{CheckedConductance, Conductance};
 use paper::{Node, Room};
 
 // What the rows before tell: the study's step length, how many branches and sources there are, the line slots of one end, and the nodes with a VS or a VC.
-#[derive(Drop)]
+#[derive(Clone, Copy)]
 pub struct Seen {
     pub step: u64,
     pub branches: usize,

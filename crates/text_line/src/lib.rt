@@ -6,7 +6,7 @@ ghost use Rattle.text_line.specs.Parts.{ends, field_of, starts_with};
 ghost use Rattle.text_line.specs.Walks.{field_at, fields_at, line_at};
 
 // A line as far as it is read: whether it is well formed so far, the next byte, and the row.
-#[derive(Drop)]
+#[derive(Clone, Copy)]
 pub struct Walk {
     pub ok: bool,
     pub at: usize,

@@ -15,7 +15,7 @@ use text_faults::Seen;
 use text_line::Walk;
 
 // As far as the text is read: the next byte, the number of the line that begins there, its fault or 0, and what is seen of the lines before it.
-#[derive(Drop)]
+#[derive(Clone, Copy)]
 pub struct Progress {
     pub at: usize,
     pub line: u64,

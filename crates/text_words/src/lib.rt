@@ -13,13 +13,13 @@ ghost use Rattle.text_words.specs.Words.{letters_of, Only};
 
 const MOST: u64 = 10_000_000_000_000_000;
 
-#[derive(Drop)]
+#[derive(Clone, Copy)]
 pub struct Digits {
     pub ok: bool,
     pub value: u64,
 }
 
-#[derive(Drop)]
+#[derive(Clone, Copy)]
 pub struct Number {
     pub ok: bool,
     pub value: i64,
