@@ -7,7 +7,7 @@ use Rattle.paper.specs.Rows.{Row, steps}
 use Rattle.paper.specs.Network.{is_network}
 use Rattle.paper.specs.Areas.{Net, area_count, branch_number}
 use Rattle.paper.specs.Records.{count_of, well_formed}
-use Rattle.paper.specs.Advance.{Memory, memory, Advanced, advanced, waits_for, first_late, ready, on_next, on_net, fits, advance_of}
+use Rattle.paper.specs.Advance.{Memory, Advanced, advanced, waits_for, first_late, ready, on_next, on_net, fits, advance_of}
 use Rattle.paper.specs.One.{Advances}
 use Rattle.laws_facts.specs.Nets.{net_in}
 

@@ -40,8 +40,8 @@ fn on_network(
     areas: &mut [usize; Node::PLACES],
     plan: &mut Table,
 ) -> Judged
-    requires net_value { (is_network net.now ≡ true) × Long records.now froms.now tos.now }
-    requires areas_len { (length areas.old ≡ Limits.node_end + 1) × (length plan.old ≡ Limits.row_end) }
+    requires passes { (is_network net.now ≡ true) × Long records.now froms.now tos.now }
+    requires long { (length areas.old ≡ Limits.node_end + 1) × (length plan.old ≡ Limits.row_end) }
     ensures { Judges (OnNet net.now area (memory records.now froms.now tos.now)) net.now area (memory records.now froms.now tos.now)
         result plan.new areas.new }
 {

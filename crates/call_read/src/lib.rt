@@ -7,6 +7,7 @@ ghost use Rattle.paper.specs.Reading as Paper;
 
 use paper::{Reading, Room};
 
+#[tactic(auto, unfolding(paper::specs::Reading::faulty))]
 fn faulty(line: u64, fault: u64) -> Reading
     ensures { result ≡ Paper.faulty line fault }
 {

@@ -1,7 +1,7 @@
 #![tactic(auto)]
 
-// What a customer links: the calls over lent memory, for Rattle and for C. None has a `requires`; each refuses instead. The calls for Rattle are those of
-// the crates below, by one name.
+// What a customer links: the calls over lent memory. None has a `requires`; each refuses instead. The calls for Rattle are those of the crates below, by one
+// name; the functions whose names begin with `emt_` answer in numbers, for C, which links them from the archive of emt_c.
 ghost use Rattle.paper.specs.Advance.{memory};
 ghost use Rattle.call_shape.specs.Asked.{areas_asked, area_asked, row_asked};
 ghost use Rattle.emt.specs.Numbered.{ReadsBy, ResetsBy, AdvancesBy, AdvancesIn, LooksBy, AsksBy, ListsBy, WritesBy};
@@ -15,8 +15,7 @@ use step_factors::Matrix;
 pub use call_read::read;
 
 // "the answer carries the line number (0 for 7 and 9)": it is written whatever the answer is.
-#[unsafe(no_mangle)]
-pub extern "C" fn emt_read(text: &[u8], network: &mut [i64], line: &mut u64) -> u64
+pub fn emt_read(text: &[u8], network: &mut [i64], line: &mut u64) -> u64
     ensures { ReadsBy text.now network.old result line.new network.new }
 {
     let answer = call_read::read(text, network);
@@ -27,8 +26,7 @@ pub extern "C" fn emt_read(text: &[u8], network: &mut [i64], line: &mut u64) -> 
 // "Resetting gives 9 or 8, or writes the records and both line stores all zero and answers 0."
 pub use call_reset::reset;
 
-#[unsafe(no_mangle)]
-pub extern "C" fn emt_reset(
+pub fn emt_reset(
     network: &[i64],
     records: &mut [i64],
     froms: &mut [i64],
@@ -43,8 +41,7 @@ pub extern "C" fn emt_reset(
 pub use call_advance::advance;
 
 // The new count of an area that has advanced, the node or branch that a refusal names, or 0: it is written whatever the answer is.
-#[unsafe(no_mangle)]
-pub extern "C" fn emt_advance(
+pub fn emt_advance(
     network: &[i64],
     records: &mut [i64],
     froms: &mut [i64],
@@ -66,8 +63,7 @@ pub use call_room::advance_in;
 const ROOM_BYTES: usize = 28672;
 
 // The caller states how many bytes the room has that it lends: "a lent length wrong" is 9 here too.
-#[unsafe(no_mangle)]
-pub extern "C" fn emt_advance_in_tables(
+pub fn emt_advance_in_tables(
     network: &[i64],
     records: &mut [i64],
     froms: &mut [i64],
@@ -95,8 +91,7 @@ pub extern "C" fn emt_advance_in_tables(
 pub use call_node::node;
 
 // All three are written whatever the answer is: 0 of a refusal.
-#[unsafe(no_mangle)]
-pub extern "C" fn emt_node(
+pub fn emt_node(
     network: &[i64],
     records: &[i64],
     node: usize,
@@ -117,8 +112,7 @@ pub extern "C" fn emt_node(
 // where there is no such node or branch; the number told is 0 then.
 pub use call_shape::{Asked, area, areas, row};
 
-#[unsafe(no_mangle)]
-pub extern "C" fn emt_areas(network: &[i64], count: &mut u64) -> u64
+pub fn emt_areas(network: &[i64], count: &mut u64) -> u64
     ensures { AsksBy (areas_asked network.now) result count.new }
 {
     let answer = call_shape::areas(network);
@@ -126,8 +120,7 @@ pub extern "C" fn emt_areas(network: &[i64], count: &mut u64) -> u64
     call_shape::asked_number(answer)
 }
 
-#[unsafe(no_mangle)]
-pub extern "C" fn emt_area(network: &[i64], node: usize, number: &mut u64) -> u64
+pub fn emt_area(network: &[i64], node: usize, number: &mut u64) -> u64
     ensures { AsksBy (area_asked network.now node) result number.new }
 {
     let answer = call_shape::area(network, node);
@@ -135,8 +128,7 @@ pub extern "C" fn emt_area(network: &[i64], node: usize, number: &mut u64) -> u6
     call_shape::asked_number(answer)
 }
 
-#[unsafe(no_mangle)]
-pub extern "C" fn emt_row(network: &[i64], branch: usize, place: &mut u64) -> u64
+pub fn emt_row(network: &[i64], branch: usize, place: &mut u64) -> u64
     ensures { AsksBy (row_asked network.now branch) result place.new }
 {
     let answer = call_shape::row(network, branch);
@@ -151,8 +143,7 @@ pub use list_pieces::Piece;
 
 // How many bytes are listed; and where an area's refusal stopped the listing, the area, the refusal's number and its place, else 0: all four are written
 // whatever the answer is.
-#[unsafe(no_mangle)]
-pub extern "C" fn emt_list(
+pub fn emt_list(
     network: &[i64],
     records: &mut [i64],
     froms: &mut [i64],
@@ -179,8 +170,7 @@ pub extern "C" fn emt_list(
 pub use call_write::write;
 
 // How many bytes are written, 0 where the call is refused: it is told whatever the answer is.
-#[unsafe(no_mangle)]
-pub extern "C" fn emt_write(network: &[i64], out: &mut [u8], written: &mut u64) -> u64
+pub fn emt_write(network: &[i64], out: &mut [u8], written: &mut u64) -> u64
     ensures { WritesBy network.now out.old result written.new out.new }
 {
     let answer = call_write::write(network, out);

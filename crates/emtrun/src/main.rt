@@ -4,8 +4,12 @@
 ghost use Rattle.whole.specs.Plain.{suc, ◌≡◌, length};
 ghost use Rattle.paper.specs.Limits as Limits;
 
+mod noting;
+
+use noting::Noting;
 use paper::Room;
 use run_bytes::Input;
+use std::io::{Error, Read, Write};
 
 const INPUT: usize = Room::TEXT + 1;
 
@@ -16,29 +20,41 @@ fn text_room() -> [u8; INPUT]
     [0; INPUT]
 }
 
-fn fail_at_input() {
-    os::fail(b"emtrun: standard input");
-}
-
-fn fail_at_output() {
-    os::fail(b"emtrun: standard output");
-}
-
-// All that is read is answered; nothing is, where a read fails.
-fn serve(text: &mut [u8])
-    requires { suc Limits.text_end ≡ length text.old }
-{
-    let input = run_bytes::read_all(text);
-    let Input::Whole(count) = input else {
-        fail_at_input();
+// What failed, and how: a line to standard error. Where that is not taken either, there is nothing left to say.
+fn fail(rt: &HostRuntime, what: &str, code: i32) {
+    let error = Error::from_raw_os_error(code);
+    let Ok(text) = format!(in rt.alloc(); "{error}") else {
         return;
     };
-    if !run_study::is_written(run_study::run(&text[..count])) {
-        fail_at_output();
+    // the words alone, without the number that stands behind them
+    let words = text.split(" (os error").next().unwrap_or("");
+    if eprintln!(rt; "emtrun: {what}: {words}").is_err() {
+        return;
     }
 }
 
-fn main() {
+// All that is read is answered; nothing is, where a read fails.
+fn serve<R: Read, W: Write>(
+    rt: &HostRuntime,
+    reader: &mut Noting<R>,
+    writer: &mut Noting<W>,
+    text: &mut [u8],
+)
+    requires { suc Limits.text_end ≡ length text.old }
+{
+    let input = run_bytes::read_all(reader, text);
+    let Input::Whole(count) = input else {
+        fail(rt, "standard input", reader.code);
+        return;
+    };
+    if !run_study::is_written(run_study::run(writer, &text[..count])) {
+        fail(rt, "standard output", writer.code);
+    }
+}
+
+fn main(rt: HostRuntime) {
     let mut text = text_room();
-    serve(&mut text);
+    let mut reader = Noting::of(rt.stdin());
+    let mut writer = Noting::of(rt.stdout());
+    serve(&rt, &mut reader, &mut writer, &mut text);
 }

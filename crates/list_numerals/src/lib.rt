@@ -49,8 +49,8 @@ fn eights_of(n: u64) -> Eights
 }
 
 fn put_groups(pairs: &Pairs, out: &mut [u8], at: usize, p: Eights) -> usize
-    requires pairs_value { (pairs.now ≡ all_pairs) × (p.middle < 10 ^ 8) × (p.low < 10 ^ 8) }
-    requires p_in_bounds { at + length (groups_of p) ≤ length out.old }
+    requires below { (pairs.now ≡ all_pairs) × (p.middle < 10 ^ 8) × (p.low < 10 ^ 8) }
+    requires room { at + length (groups_of p) ≤ length out.old }
     ensures { Puts out.old at (groups_of p) result out.new }
 {
     if p.groups == 0 {

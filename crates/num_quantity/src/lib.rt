@@ -41,7 +41,7 @@ impl Conductance {
 
     pub fn new(x: u64) -> CheckedConductance
         ensures { result ≡ cond (leb Conductance.MIN x && leb x Conductance.MAX)
-              (CheckedConductance.Good (record { nanos = x })) CheckedConductance.Refused }
+            (CheckedConductance.Good (record { nanos = x })) CheckedConductance.Refused }
     {
         if (Conductance::MIN <= x) & (x <= Conductance::MAX) {
             return CheckedConductance::Good(Conductance { nanos: x });
@@ -69,7 +69,7 @@ impl History {
 
     pub fn new(x: i64) -> CheckedHistory
         ensures { result ≡ cond (between History.MIN History.MAX x)
-              (CheckedHistory.Good (record { value = x })) CheckedHistory.Refused }
+            (CheckedHistory.Good (record { value = x })) CheckedHistory.Refused }
     {
         if (History::MIN <= x) & (x <= History::MAX) {
             return CheckedHistory::Good(History { value: x });

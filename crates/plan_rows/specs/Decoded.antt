@@ -16,7 +16,6 @@ use Rattle.laws_facts.specs.Nets.{NetSound, net_in, row_at, net_sound, slots_wit
 use Rattle.plan_record.specs.Mapped.{Mapped}
 use Rattle.plan_ends.specs.Own.{owner_of}
 use Rattle.text_faults.specs.Seen.{Sized, conductance_of}
-use Rattle.plan_rows.specs.declared.Row.{Row}
 use Rattle.plan_rows.specs.ByKind.{owner_by, source_else}
 use Rattle.plan_rows.specs.Planned.{conductance_at, to_at, row_of, Noded}
 

@@ -1,15 +1,15 @@
 #![tactic(auto)]
 
-// Standard input and standard output, by the kernel's read and write: a call that a signal interrupts is made again, and a failure is never taken for the end.
+// A reader's and a writer's bytes, as standard input and output: a call that a signal interrupts is made again, and a failure is never taken for the end.
 ghost use Rattle.whole.specs.Plain.{◌≤◌, ◌-◌, length};
 ghost use Rattle.run_bytes.specs.Moving.{Tells, Most, Brings, Held};
 
-use libc::{EINTR, STDIN_FILENO, STDOUT_FILENO};
+use std::io::{Error, ErrorKind, Read, Write};
 
 // How often a call is made again that a signal interrupts; after that it counts as one that failed.
 const TRIES: u64 = 1_000_000;
 
-// What one call came to: so many bytes moved, a signal before any was, or a failure, which errno names.
+// What one call came to: so many bytes moved, a signal before any was, or a failure.
 #[derive(Clone, Copy)]
 pub enum Moved {
     Bytes(usize),
@@ -24,33 +24,34 @@ pub enum Input {
     Failed,
 }
 
-fn told(answer: isize) -> Moved
+fn told(answer: Result<usize, Error>) -> Moved
     ensures { Tells answer result }
 {
-    if answer >= 0 {
-        return Moved::Bytes(answer as usize);
-    }
-    if os::errno() == EINTR {
+    let error = match answer {
+        Ok(count) => return Moved::Bytes(count),
+        Err(error) => error,
+    };
+    if error.kind() == ErrorKind::Interrupted {
         return Moved::Again;
     }
     Moved::Failed
 }
 
-fn read_once(text: &mut [u8], from: usize) -> Moved
+fn read_once<R: Read>(reader: &mut R, text: &mut [u8], from: usize) -> Moved
     requires { from ≤ length text.old }
     ensures { Brings text.old from result text.new }
 {
-    let answer = libc::read(STDIN_FILENO, &mut text[from..]);
+    let answer = reader.read(&mut text[from..]);
     told(answer)
 }
 
-fn read_on(text: &mut [u8], from: usize) -> Moved
+fn read_on<R: Read>(reader: &mut R, text: &mut [u8], from: usize) -> Moved
     requires { from ≤ length text.old }
     ensures { Brings text.old from result text.new }
 {
     let mut tries = 0;
     while tries < TRIES {
-        let moved = read_once(text, from);
+        let moved = read_once(reader, text, from);
         let Moved::Again = moved else {
             return moved;
         };
@@ -59,13 +60,13 @@ fn read_on(text: &mut [u8], from: usize) -> Moved
     Moved::Failed
 }
 
-// Standard input to its end, or as much of it as there is room for.
-pub fn read_all(text: &mut [u8]) -> Input
+// The reader's bytes to their end, or as much of it as there is room for.
+pub fn read_all<R: Read>(reader: &mut R, text: &mut [u8]) -> Input
     ensures { Held text.new result }
 {
     let mut done = 0;
     while done < text.len() {
-        let moved = read_on(text, done);
+        let moved = read_on(reader, text, done);
         let Moved::Bytes(more) = moved else {
             return Input::Failed;
         };
@@ -77,21 +78,21 @@ pub fn read_all(text: &mut [u8]) -> Input
     Input::Whole(done)
 }
 
-fn write_once(bytes: &[u8], from: usize) -> Moved
+fn write_once<W: Write>(writer: &mut W, bytes: &[u8], from: usize) -> Moved
     requires { from ≤ length bytes.now }
     ensures { Most (length bytes.now - from) result }
 {
-    let answer = libc::write(STDOUT_FILENO, &bytes[from..]);
+    let answer = writer.write(&bytes[from..]);
     told(answer)
 }
 
-fn write_on(bytes: &[u8], from: usize) -> Moved
+fn write_on<W: Write>(writer: &mut W, bytes: &[u8], from: usize) -> Moved
     requires { from ≤ length bytes.now }
     ensures { Most (length bytes.now - from) result }
 {
     let mut tries = 0;
     while tries < TRIES {
-        let moved = write_once(bytes, from);
+        let moved = write_once(writer, bytes, from);
         let Moved::Again = moved else {
             return moved;
         };
@@ -100,11 +101,11 @@ fn write_on(bytes: &[u8], from: usize) -> Moved
     Moved::Failed
 }
 
-// All bytes to standard output, and true; or false at the first write that fails or takes nothing.
-pub fn write_all(bytes: &[u8]) -> bool {
+// All bytes to the writer, and true; or false at the first write that fails or takes nothing.
+pub fn write_all<W: Write>(writer: &mut W, bytes: &[u8]) -> bool {
     let mut done = 0;
     while done < bytes.len() {
-        let moved = write_on(bytes, done);
+        let moved = write_on(writer, bytes, done);
         let Moved::Bytes(more) = moved else {
             return false;
         };

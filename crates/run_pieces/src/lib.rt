@@ -1,11 +1,12 @@
 #![tactic(auto)]
 
-// The listing of a study, piece after piece, each handed over to standard output before the next is made.
+// The listing of a study, piece after piece, each handed over to the output before the next is made.
 ghost use Rattle.paper.specs.Advance.{memory};
 ghost use Rattle.run_pieces.specs.Pieces.{Closes, Goes, Hands};
 
 use list_pieces::Piece;
 use paper::{Advance, Listing, Steps};
+use std::io::Write;
 
 // What follows a piece of the listing: another; none after this last one, or after this area's refusal; none because the output did not take it.
 #[derive(Clone, Copy)]
@@ -37,7 +38,8 @@ fn ending(answer: Listing) -> Next
 }
 
 // The next piece of the listing, handed over at once.
-fn list_piece(
+fn list_piece<W: Write>(
+    writer: &mut W,
     network: &[i64],
     records: &mut [i64],
     froms: &mut [i64],
@@ -49,7 +51,7 @@ fn list_piece(
     let piece: Piece = emt::list(network, records, froms, tos, out);
     let count = piece.count;
     let answer = piece.answer;
-    if !run_bytes::write_all(&out[..count]) {
+    if !run_bytes::write_all(writer, &out[..count]) {
         return Next::Unwritten;
     }
     let Listing::More = answer else {
@@ -59,7 +61,8 @@ fn list_piece(
 }
 
 // Piece after piece. Each lists one step at least, so that there are no more pieces than a study may have steps.
-pub fn list_all(
+pub fn list_all<W: Write>(
+    writer: &mut W,
     network: &[i64],
     records: &mut [i64],
     froms: &mut [i64],
@@ -70,7 +73,7 @@ pub fn list_all(
 {
     let mut pieces = 0;
     while pieces < Steps::MAX as u64 {
-        let next = list_piece(network, records, froms, tos, out);
+        let next = list_piece(writer, network, records, froms, tos, out);
         pieces += 1;
         let Next::More = next else {
             return Ended { pieces, next };

@@ -1,6 +1,6 @@
 #![tactic(auto)]
 
-// What becomes of a study text: a line that refuses it, or its listing from a reset. On slices alone; the kernel's calls are those of run_bytes.
+// What becomes of a study text: a line that refuses it, or its listing from a reset. On slices and a writer; what is read comes from run_bytes.
 ghost use Rattle.whole.specs.Plain.{◌≤◌, ◌≡◌, true, length};
 ghost use Rattle.paper.specs.Limits as Limits;
 ghost use Rattle.paper.specs.Network.{is_network};
@@ -11,6 +11,7 @@ ghost use Rattle.run_study.specs.Runs.{bad_line, Answers, taken, written_out};
 
 use paper::{Reading, Resetting, Room};
 use run_pieces::{Ended, Next};
+use std::io::Write;
 
 // What became of a text: a `bad` line, and whether it is written; or its listing.
 #[derive(Clone, Copy)]
@@ -33,7 +34,7 @@ fn store_room() -> [i64; Room::STORE]
 }
 
 // From a reset.
-fn list_study(network: &[i64]) -> Ended
+fn list_study<W: Write>(writer: &mut W, network: &[i64]) -> Ended
     requires { is_network network.now ≡ true }
     ensures { Hand network.now out_bytes fresh result }
 {
@@ -48,7 +49,14 @@ fn list_study(network: &[i64]) -> Ended
             next: Next::Unwritten,
         };
     };
-    run_pieces::list_all(network, &mut records, &mut froms, &mut tos, &mut out)
+    run_pieces::list_all(
+        writer,
+        network,
+        &mut records,
+        &mut froms,
+        &mut tos,
+        &mut out,
+    )
 }
 
 fn put_refusal(answer: Reading, out: &mut [u8]) -> usize
@@ -63,21 +71,21 @@ fn put_refusal(answer: Reading, out: &mut [u8]) -> usize
     )
 }
 
-fn refuse(answer: Reading) -> bool {
+fn refuse<W: Write>(writer: &mut W, answer: Reading) -> bool {
     let mut out = [0; 46];
     let end = put_refusal(answer, &mut out);
-    run_bytes::write_all(&out[..end])
+    run_bytes::write_all(writer, &out[..end])
 }
 
-pub fn run(text: &[u8]) -> Outcome
+pub fn run<W: Write>(writer: &mut W, text: &[u8]) -> Outcome
     ensures { Answers text.now result }
 {
     let mut network = [0; Room::NETWORK];
     let answer = emt::read(text, &mut network);
     let Reading::Read = answer else {
-        return Outcome::Refused(refuse(answer));
+        return Outcome::Refused(refuse(writer, answer));
     };
-    Outcome::Listed(list_study(&network))
+    Outcome::Listed(list_study(writer, &network))
 }
 
 fn is_taken(next: Next) -> bool

@@ -20,8 +20,8 @@ const HISTORY: usize = 6;
 
 // What row i holds, as its end sees it: "a history has the sign its current has in leaving that node".
 fn held(records: &[i64], i: usize, end: usize) -> i64
-    requires i_bound { (i < Limits.row_end) × (length records.now ≡ Limits.record_words) }
-    requires i_bound_2 { nat_abs (word records.now (Records.history_at i)) ≤ Limits.history_end }
+    requires row_and_length { (i < Limits.row_end) × (length records.now ≡ Limits.record_words) }
+    requires held_bound { nat_abs (word records.now (Records.history_at i)) ≤ Limits.history_end }
     ensures { result ≡ facing end (word records.now (Records.history_at i)) }
 {
     let h = records[sections::HISTORIES + i];
@@ -43,7 +43,7 @@ fn side(end: usize) -> Side
 // What a line's far end sent d steps before step k, 0 before step 1.
 fn sent<'a>(r: Row, end: usize, froms: &'a [i64], tos: &'a [i64], k: usize, d: usize) -> i64
     requires ring { Ring r }
-    requires froms_len { (length froms.now ≡ Limits.store_words) × (length tos.now ≡ Limits.store_words) }
+    requires store_lengths { (length froms.now ≡ Limits.store_words) × (length tos.now ≡ Limits.store_words) }
     ensures { result ≡ sent_by r end froms.now tos.now k d }
 {
     step_received::received(froms, tos, side(end), r.place, r.slots, k, d)

@@ -3,7 +3,6 @@ use Rattle.whole.specs.Plain.{ℕ, ◌≤◌, ◌<◌, ◌≡◌, refl, sym, ◌
 use Rattle.whole.specs.Plain.{true≢false, List, [], ◌∷◌, tail, ℤ, pos, negsuc, length, get_or, drop, get_or-replicate}
 use Rattle.whole.specs.Plain.{arith, Words, word, between, empty, any, count, sum}
 use Rattle.whole.specs.Folds.{or_left}
-use Rattle.paper.specs.Limits as Limits
 use Rattle.paper.specs.Rows.{Row, bytes, kinds, kind, fields_of, is_study, is_branch, is_source, is_fixing, branch_kind, source_kind, fixing_kind, at, step_length}
 use Rattle.paper.specs.Classes.{kind_count, by_fixing}
 use Rattle.paper.specs.Conductance.{conductance, of_ohms, of_henries, of_farads}

@@ -1,9 +1,8 @@
 -- A small number as a signed word, and its negation. Assumes nothing.
 use Rattle.whole.specs.Plain.{ℕ, ◌≤◌, ◌≡◌, ◌∙◌, ap, true, List, [], ◌∷◌, eqb, ℤ, pos, neg_ℤ, ◌-ℤ◌, +ℤ_idl, get_or, length}
 use Rattle.whole.specs.Plain.{arith}
-use mir.Syntax.{w64}
-use mir.Val.{SFits, to_z, of_z}
-use mir.Facts.{to_z-of_z}
+use Rattle.std.specs.Int.{w64}
+use Rattle.std.proofs.Common.{SFits, to_z, of_z, to_z-of_z}
 use Rattle.whole.specs.Reads.{read_small}
 use Rattle.whole.specs.Int.{fits64, abs_neg}
 use Rattle.text_words.specs.Numbers.{held_end}

@@ -1,10 +1,9 @@
 -- The tests over many words: each magnitude at most its end, each sign; place by place and piece by piece. Assumes nothing.
-use Rattle.whole.specs.Plain.{ℕ, zero, suc, ◌+◌, ◌-◌, ◌≤◌, ◌<◌, ◌≡◌, refl, sym, ap, ◌∙◌, Bool, true, ◌&&◌}
-use Rattle.whole.specs.Plain.{and_assoc, List, [], ◌∷◌, ◌++◌, leb, eqb-zero-suc, leb-suc-zero, ℤ, pos, negsuc}
-use Rattle.whole.specs.Plain.{nat_abs, length, get_or, take, replicate, get_or-append, get_or-append-add, leb-true}
-use Rattle.whole.specs.Plain.{le-leb, arith, Words, z, word, up_to, same, every, within, filled}
+use Rattle.whole.specs.Plain.{ℕ, zero, suc, ◌≤◌, ◌<◌, ◌≡◌, refl, sym, ◌∙◌, Bool, true}
+use Rattle.whole.specs.Plain.{List, [], ◌∷◌, leb, eqb-zero-suc, leb-suc-zero, ℤ, pos, negsuc}
+use Rattle.whole.specs.Plain.{nat_abs, length, get_or, take, leb-true}
+use Rattle.whole.specs.Plain.{le-leb, arith, Words, z, word, up_to, same, every, within}
 use Rattle.whole.specs.Folds.{and_left, and_right, both}
-use Rattle.whole.specs.Filled.{length_filled}
 
 -- a word without an end is one whose end is 0
 pub none_same : (x : ℤ) → same z x ≡ up_to 0 x

@@ -1,0 +1,17 @@
+-- `list_line::put_head` meets its contract: the text is put, some of it twice. Assumes nothing.
+use Rattle.whole.specs.Plain.{◌+◌, ◌-◌, ℕ, ap, ◌∙◌, List, sets, arith}
+use Rattle.list_line.specs.Quads.{quad_bytes}
+use Rattle.list_line.specs.Heads.{head_put}
+use Rattle.list_line.proofs.put_head.Goals as goal
+
+pub returns : goal.returns
+returns c =
+    let h = c.args.head in
+    let at = c.args.at in
+    record {
+      place = omega (arith, c.requires.0.size);
+      buffer =
+          c.put_quad-3.ensures
+          ∙ ap (λ (m : List ℕ). sets m (at + h.size - 4) (quad_bytes h.last)) (c.put_quad-2.ensures ∙ ap (λ (m : List ℕ). sets m (at + h.turn) (quad_bytes h.middle)) c.put_quad.ensures)
+          ∙ head_put c.requires.0 c.args.out.now at;
+    }

@@ -1,0 +1,17 @@
+-- `plan_rows::named` meets its contract. Assumes nothing.
+use Rattle.whole.specs.Plain.{arith}
+use Rattle.laws_facts.specs.Nets.{net_sound}
+use Rattle.plan_rows.specs.Decoded.{from_in, named_is}
+use Rattle.plan_rows.proofs.named.Goals as goal
+
+pub number-requires : goal.number-requires
+number-requires c =
+    record {
+      net_value = c.requires.0;
+      i_in_bounds = (c.requires.1, omega arith);
+      j_value = (from_in (net_sound _ c.requires.0) c.args.i c.requires.1).is_nat;
+    }
+
+pub returns : goal.returns
+returns c =
+    omega (arith, c.larger.ensures, c.number.ensures, c.to_at.ensures, named_is (net_sound _ c.requires.0) c.args.i c.requires.1)

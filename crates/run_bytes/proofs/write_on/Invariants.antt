@@ -1,0 +1,6 @@
+-- No more calls are made than are left. Assumes nothing.
+use Rattle.whole.specs.Plain.{◌-◌}
+use Rattle.run_bytes.proofs.write_on.Given as goal
+
+abbrev pub decreases-loop-tries : goal.decreases-loop-tries
+decreases-loop-tries g l = 1000000 - l.tries

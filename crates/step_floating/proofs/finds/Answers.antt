@@ -1,0 +1,12 @@
+-- `step_floating::finds` meets its contract. Assumes nothing.
+use Rattle.whole.specs.Plain.{sym, ◌∙◌}
+use Rattle.step_floating.specs.Search.{finds}
+use Rattle.step_floating.proofs.finds.Goals as goal
+
+pub returns-then-meets : goal.returns-then-meets
+unfolding finds
+returns-then-meets c = rw (sym c.meets.ensures ∙ c.if-meets.true) c.reaches.ensures
+
+pub returns : goal.returns
+unfolding finds
+returns c = rw (sym c.meets.ensures ∙ c.if-meets.false)
