@@ -23,7 +23,6 @@ use Rattle.step_factors.specs.Blocks.{renewed_none}
 use Rattle.step_legs.specs.Written.{SameBut}
 use Rattle.step_own.specs.Ends.{Kept}
 use Rattle.step_own.specs.Laid.{conducting_same, SameLatches}
-use Rattle.step_prepare.specs.Serving as Serving
 use Rattle.step_prepare.specs.Serving.{Serving}
 use Rattle.step_try.specs.declared.At.{At}
 use Rattle.step_try.specs.Outcomes.{Tried, answered}

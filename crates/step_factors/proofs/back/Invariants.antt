@@ -1,0 +1,11 @@
+-- The invariant: the turns that are left lead to the answer. Assumes nothing.
+use Rattle.whole.specs.Plain.{◌≤◌, ◌≡◌}
+use Rattle.whole.specs.Turns.{downs}
+use Rattle.step_factors.specs.Factored.{row_back, back}
+use Rattle.step_factors.proofs.back.Given as goal
+
+abbrev pub invariant-loop-rows : goal.invariant-loop-rows
+invariant-loop-rows l = (l.rows ≤ l.n) × (downs l.rows (row_back l.base l.n l.a) l.x ≡ back l.base l.n l.a l.initial.x)
+
+abbrev pub decreases-loop-rows : goal.decreases-loop-rows
+decreases-loop-rows l = l.rows
