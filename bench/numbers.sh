@@ -10,7 +10,7 @@ trap 'rm -rf "$work"' EXIT
 
 archive=${LIBNUMBERS:-target/staticlib/libnum_c.a}
 if [ -z "${LIBNUMBERS:-}" ]; then
-    rt staticlib num_c >"$work/rt" 2>&1 || { tail -n 5 "$work/rt"; exit 1; }
+    tools/libemt num_c libnum_c.a >"$work/rt" 2>&1 || { tail -n 5 "$work/rt"; exit 1; }
 fi
 compilers=clang
 [ "$(uname -m)" != x86_64 ] || compilers="clang gcc"

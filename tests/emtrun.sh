@@ -79,9 +79,10 @@ failing() {
     check "$1: said" "$(cat "$work/said")" "${*: -1}"
 }
 flags=(-O2 -std=c11 -Wall -Wextra -Werror)
+kit=$(dirname "$(dirname "$(readlink -f "$(command -v rt)")")")/c
 if [ -n "${EMTRUN:-}" ]; then
     echo "EMTRUN is given: reads and writes that fail are left out"
-elif ! compile "$work/broken" tests/emtrun/failing.c target/obj/emtrun.o "$(dirname "$(dirname "$(readlink -f "$(command -v rt)")")")/lib/libos_c.a"; then
+elif ! compile "$work/broken" tests/emtrun/failing.c target/obj/emtrun.o "$kit/libos_c.a" "$kit/liblibc_c.a"; then
     check "emtrun with tests/emtrun/failing.c: linked" 1 0
 else
     broken=$(starter "$work/broken")

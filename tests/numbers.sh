@@ -19,7 +19,7 @@ for tool in rt $compiler $disassembler; do
     command -v $tool >/dev/null 2>&1 || stop "tests/numbers.sh needs '$tool'"
 done
 archive=${LIBNUMBERS:-target/staticlib/libnum_c.a}
-[ -n "${LIBNUMBERS:-}" ] || rt staticlib num_c >"$work/rt" 2>&1 || { tail -n 5 "$work/rt"; stop "the archive is not made"; }
+[ -n "${LIBNUMBERS:-}" ] || tools/libemt num_c libnum_c.a >"$work/rt" 2>&1 || { tail -n 5 "$work/rt"; stop "the archive is not made"; }
 
 flags=(-O1 -ffp-contract=off)
 compile "$work/compare" tests/numbers/compare.c "$archive" -lm || stop "the comparison does not compile"

@@ -1,7 +1,8 @@
 #![tactic(auto)]
 
 // One area's step, from tables that hold this area alone: what a call that advances does once it has judged.
-ghost use Rattle.whole.specs.Plain.{◌*◌, ◌≡◌, length};
+ghost use Rattle.std.specs.Prelude.{◌*◌, ◌≡◌};
+ghost use Rattle.whole.specs.Plain.{length};
 ghost use Rattle.paper.specs.Limits as Limits;
 ghost use Rattle.paper.specs.Advance as Paper;
 ghost use Rattle.paper.specs.Advance.{memory, advanced};

@@ -1,7 +1,7 @@
 #![tactic(auto)]
 
 // "When an answer is an enum, a definition gives this paper's number and values for each of its cases": the same in code.
-ghost use Rattle.whole.specs.Plain.{◌≡◌, ◌+◌};
+ghost use Rattle.std.specs.Prelude.{◌≡◌, ◌+◌};
 ghost use Rattle.paper.specs.Answers.{reading_number, reading_line, resetting_number, advance_number, advance_place, advance_count};
 
 use paper::{Advance, Reading, Resetting};

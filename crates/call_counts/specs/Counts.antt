@@ -1,5 +1,6 @@
 -- The areas' counts of steps, those at a line's two ends, and a breaker's latch against them, by the plan's rows. Assumes nothing.
-use Rattle.whole.specs.Plain.{ℕ, ◌+◌, ◌≤◌, ◌<◌, ◌≡◌, Bool, true, false, not, ◌&&◌, ◌||◌, and-true, List, [], ◌∷◌, leb, ltb, eqb, ℤ, pos}
+use Rattle.std.specs.Prelude.{◌+◌, ◌≤◌, ◌<◌, ◌≡◌, ◌&&◌, ◌||◌, ◌∷◌}
+use Rattle.whole.specs.Plain.{ℕ, Bool, true, false, not, and-true, List, [], leb, ltb, eqb, ℤ, pos}
 use Rattle.whole.specs.Plain.{non_neg, length, eq-eqb, ne_eqb, le-leb, lt-leb, Words, word, nat}
 use Rattle.whole.specs.Truths.{and-false}
 use Rattle.paper.specs.Limits as Limits

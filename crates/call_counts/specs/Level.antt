@@ -1,5 +1,6 @@
 -- Areas that have all taken as many steps. Assumes nothing.
-use Rattle.whole.specs.Plain.{ℕ, ◌≤◌, ◌<◌, ◌≡◌, Bool, cond, List, eqb, eq-eqb, ne_eqb, arith, Words, every, numbers}
+use Rattle.std.specs.Prelude.{◌≤◌, ◌<◌, ◌≡◌}
+use Rattle.whole.specs.Plain.{ℕ, Bool, cond, List, eqb, eq-eqb, ne_eqb, arith, Words, every, numbers}
 use Rattle.paper.specs.Areas.{Net}
 use Rattle.paper.specs.Records.{count_of}
 use Rattle.paper.specs.Pieces.{steps_taken, level}

@@ -1,5 +1,6 @@
 -- The plan's lines are the network's: whose counts are compared, and for which row an area waits. Assumes nothing.
-use Rattle.whole.specs.Plain.{ℕ, ◌+◌, ◌≤◌, ◌<◌, max, ◌≡◌, refl, sym, ap, subst, ◌∙◌, true, false, List, [], length, drop}
+use Rattle.std.specs.Prelude.{◌+◌, ◌≤◌, ◌<◌, ◌≡◌}
+use Rattle.whole.specs.Plain.{ℕ, max, refl, sym, ap, subst, ◌∙◌, true, false, List, [], length, drop}
 use Rattle.whole.specs.Plain.{drop_of_length-le, drop-cons, le_trans, div-le_self, eq-eqb, arith, Words, word, nat}
 use Rattle.std.proofs.Common.{add-one}
 use Rattle.paper.specs.Rows as Rows

@@ -2,7 +2,8 @@
 
 // The areas' counts of steps, by the plan: how far those at a line's two ends may part, and a breaker's latch against that of its area (parts of refusal 10);
 // when an area must wait (refusal 13), and how many steps all have taken.
-ghost use Rattle.whole.specs.Plain.{◌≤◌, ◌<◌, ◌≡◌, length, every, numbers};
+ghost use Rattle.std.specs.Prelude.{◌≤◌, ◌<◌, ◌≡◌};
+ghost use Rattle.whole.specs.Plain.{length, every, numbers};
 ghost use Rattle.paper.specs.Areas.{Net};
 ghost use Rattle.paper.specs.Records.{count_of};
 ghost use Rattle.paper.specs.Advance.{first_late};

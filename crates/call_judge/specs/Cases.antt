@@ -1,6 +1,7 @@
 -- The answers of an advance, case by case. Assumes nothing.
-use Rattle.whole.specs.Plain.{ℕ, zero, suc, ◌+◌, ◌≤◌, ◌<◌, ◌≡◌, refl, sym, ap, ◌∙◌, Bool, true, false, cond, ◌&&◌, List}
-use Rattle.whole.specs.Plain.{[], ◌∷◌, leb, length, le-leb, lt-leb, arith, Words}
+use Rattle.std.specs.Prelude.{◌+◌, ◌≤◌, ◌<◌, ◌≡◌, ◌&&◌, ◌∷◌}
+use Rattle.whole.specs.Plain.{ℕ, zero, suc, refl, sym, ap, ◌∙◌, Bool, true, false, cond, List}
+use Rattle.whole.specs.Plain.{[], leb, length, le-leb, lt-leb, arith, Words}
 use Rattle.paper.specs.declared.Advance.{Advance}
 use Rattle.paper.specs.declared.Advance.TheVariants.{Network, Store, State, Area, Done, Wait}
 use Rattle.paper.specs.Rows.{Row, steps}

@@ -1,7 +1,7 @@
 -- A network's plan, the step that comes next, and the tables of one area alone. Assumes nothing.
-use Rattle.whole.specs.Plain.{ℕ, suc, ◌-◌, ◌≤◌, ◌<◌, ◌≡◌, sym, ap, subst, ◌∙◌, Bool, true, List, length, set}
+use Rattle.whole.specs.Plain.{ℕ, suc, sym, ap, subst, ◌∙◌, Bool, true, List, length, set}
 use Rattle.whole.specs.Plain.{length-set, arith, Words}
-use Rattle.std.specs.Prelude.{Float}
+use Rattle.std.specs.Prelude.{Float, ◌-◌, ◌≤◌, ◌<◌, ◌≡◌}
 use Rattle.paper.specs.Rows as Rows
 use Rattle.paper.specs.Network.{is_network}
 use Rattle.paper.specs.Areas.{Net, area_count, branch_number}

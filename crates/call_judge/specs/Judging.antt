@@ -1,5 +1,6 @@
 -- What the tests before a step come to: a refusal, or a step that the area may try. Assumes nothing.
-use Rattle.whole.specs.Plain.{ℕ, ◌≡◌, refl, List, Words}
+use Rattle.std.specs.Prelude.{◌≡◌}
+use Rattle.whole.specs.Plain.{ℕ, refl, List, Words}
 use Rattle.paper.specs.declared.Advance.{Advance}
 use Rattle.paper.specs.Advance.{Memory, advanced, ready, on_net}
 use Rattle.laws_facts.specs.Nets.{net_in}

@@ -1,7 +1,8 @@
 #![tactic(auto)]
 
 // What is judged before an area's step is tried: "Advancing: 9, 8, then 10 to 17", as far as 13. Nothing is written but the plan and the areas.
-ghost use Rattle.whole.specs.Plain.{◌+◌, ◌≡◌, true, length};
+ghost use Rattle.std.specs.Prelude.{◌+◌, ◌≡◌};
+ghost use Rattle.whole.specs.Plain.{true, length};
 ghost use Rattle.paper.specs.Limits as Limits;
 ghost use Rattle.paper.specs.Network.{is_network};
 ghost use Rattle.paper.specs.One.{Advances};

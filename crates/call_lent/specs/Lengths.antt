@@ -1,5 +1,6 @@
 -- The four lengths, from their test. Assumes nothing.
-use Rattle.whole.specs.Plain.{◌≡◌, true, ◌&&◌, eqb, length, eqb-true, Words}
+use Rattle.std.specs.Prelude.{◌≡◌, ◌&&◌}
+use Rattle.whole.specs.Plain.{true, eqb, length, eqb-true, Words}
 use Rattle.whole.specs.Folds.{and_left, and_right}
 use Rattle.paper.specs.Limits as Limits
 use Rattle.paper.specs.Advance.{Memory, fits}

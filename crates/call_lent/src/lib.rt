@@ -1,7 +1,7 @@
 #![tactic(auto)]
 
 // 9 STORE: "a lent length wrong: network 1,024 signed 64-bit words, .. line stores 4,096 each"; with peaks (02) "Records become 1,024 words"
-ghost use Rattle.whole.specs.Plain.{◌≡◌};
+ghost use Rattle.std.specs.Prelude.{◌≡◌};
 ghost use Rattle.paper.specs.Advance as Paper;
 ghost use Rattle.paper.specs.Advance.{memory};
 

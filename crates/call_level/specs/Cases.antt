@@ -1,5 +1,6 @@
 -- What a listing of a network that passes answers, case by case. Assumes nothing.
-use Rattle.whole.specs.Plain.{ℕ, ◌≡◌, refl, ◌∙◌, Bool, true, false, cond, not, ◌&&◌, ◌||◌, List, []}
+use Rattle.std.specs.Prelude.{◌≡◌, ◌&&◌, ◌||◌}
+use Rattle.whole.specs.Plain.{ℕ, refl, ◌∙◌, Bool, true, false, cond, not, List, []}
 use Rattle.whole.specs.Plain.{arith, Words}
 use Rattle.paper.specs.declared.Listing.{Listing}
 use Rattle.paper.specs.declared.Listing.TheVariants.{State}

@@ -1,5 +1,6 @@
 -- A state that was judged to be in step. Assumes nothing.
-use Rattle.whole.specs.Plain.{◌≡◌, true, ◌&&◌, Words}
+use Rattle.std.specs.Prelude.{◌≡◌, ◌&&◌}
+use Rattle.whole.specs.Plain.{true, Words}
 use Rattle.whole.specs.Folds.{and_left, and_right}
 use Rattle.paper.specs.Network.{is_network}
 use Rattle.paper.specs.Records.{well_formed}

@@ -1,7 +1,8 @@
 #![tactic(auto)]
 
 // A listing's last test, and the piece: 10, or the state is well formed and all areas have taken as many steps.
-ghost use Rattle.whole.specs.Plain.{◌≤◌, ◌≡◌, true, length};
+ghost use Rattle.std.specs.Prelude.{◌≤◌, ◌≡◌};
+ghost use Rattle.whole.specs.Plain.{true, length};
 ghost use Rattle.paper.specs.Limits as Limits;
 ghost use Rattle.paper.specs.Network.{is_network};
 ghost use Rattle.paper.specs.Pieces.{on_level};

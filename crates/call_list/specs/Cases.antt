@@ -1,5 +1,6 @@
 -- The answers of a listing, case by case. Assumes nothing.
-use Rattle.whole.specs.Plain.{ℕ, ◌≤◌, ◌<◌, ◌≡◌, true, false, List, [], length}
+use Rattle.std.specs.Prelude.{◌≤◌, ◌<◌, ◌≡◌}
+use Rattle.whole.specs.Plain.{ℕ, true, false, List, [], length}
 use Rattle.whole.specs.Plain.{le-ltb, lt-ltb, arith, Words}
 use Rattle.paper.specs.declared.Listing.{Listing}
 use Rattle.paper.specs.declared.Listing.TheVariants.{Network, Store}

@@ -1,6 +1,7 @@
 -- What is judged of a lent network record: each row by its eight words after what is seen of those before, and the words that no row has.
 -- Assumes nothing.
-use Rattle.whole.specs.Plain.{ℕ, ◌+◌, ◌*◌, Bool, ◌&&◌, ◌||◌, [], ◌∷◌, leb, ltb, eqb, length, take, drop, Words, z, word}
+use Rattle.std.specs.Prelude.{◌+◌, ◌*◌, ◌&&◌, ◌||◌, ◌∷◌}
+use Rattle.whole.specs.Plain.{ℕ, Bool, [], leb, ltb, eqb, length, take, drop, Words, z, word}
 use Rattle.whole.specs.Plain.{every, up_to}
 use Rattle.paper.specs.Rows.{kind, fields_of}
 use Rattle.text_faults.specs.declared.Seen.{Seen}

@@ -1,6 +1,7 @@
 -- The judgement is refusal 8's, both ways. Assumes nothing.
-use Rattle.whole.specs.Plain.{ℕ, suc, ◌+◌, ◌*◌, ◌-◌, ◌/◌, ◌%◌, ◌≤◌, ◌<◌, ◌≡◌, refl, sym, ap, ◌∙◌, Bool, true, false}
-use Rattle.whole.specs.Plain.{◌&&◌, [], ◌∷◌, ◌++◌, leb, eqb, pos, negsuc, length, take, drop, length-take, length-drop}
+use Rattle.std.specs.Prelude.{◌+◌, ◌*◌, ◌-◌, ◌/◌, ◌%◌, ◌≤◌, ◌<◌, ◌≡◌, ◌&&◌, ◌∷◌, ◌++◌}
+use Rattle.whole.specs.Plain.{ℕ, suc, refl, sym, ap, ◌∙◌, Bool, true, false}
+use Rattle.whole.specs.Plain.{[], leb, eqb, pos, negsuc, length, take, drop, length-take, length-drop}
 use Rattle.whole.specs.Plain.{length-append, get_or-append, get_or-eq_default, take_all, get_or-take, get_or-drop}
 use Rattle.whole.specs.Plain.{get_or_at, length-take-le, ext_get_or, leb-true, le-leb, eqb-true, eq-eqb, ne_eqb, dec_lt}
 use Rattle.whole.specs.Plain.{ℕ_discrete, arith, Words, z, word, nat, between, every, up_to, same, same_words, empty}

@@ -1,6 +1,7 @@
 -- The other way: a record that passes refusal 8 passes each test of the judgement, so one that fails a test is refused. Assumes nothing.
-use Rattle.whole.specs.Plain.{ℕ, suc, ◌+◌, ◌*◌, ◌≤◌, ◌<◌, ◌≡◌, refl, sym, ap, ◌∙◌, true, false, ◌&&◌, ◌||◌, bool_beq}
-use Rattle.whole.specs.Plain.{true≢false, [], ◌∷◌, leb, ltb, eqb, ℤ, pos, negsuc, lt_z, length, get_or, take, drop}
+use Rattle.std.specs.Prelude.{◌+◌, ◌*◌, ◌≤◌, ◌<◌, ◌≡◌, ◌&&◌, ◌||◌, ◌∷◌}
+use Rattle.whole.specs.Plain.{ℕ, suc, refl, sym, ap, ◌∙◌, true, false, bool_beq}
+use Rattle.whole.specs.Plain.{true≢false, [], leb, ltb, eqb, ℤ, pos, negsuc, lt_z, length, get_or, take, drop}
 use Rattle.whole.specs.Plain.{length-take, length-drop, get_or-take, get_or-drop, le-leb, le-ltb, ltb-false, eqb-true}
 use Rattle.whole.specs.Plain.{eq-eqb, ne_eqb, arith, Words, z, word, nat, up_to, empty}
 use Rattle.whole.specs.Folds.{and_right, both, every_if}

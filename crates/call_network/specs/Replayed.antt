@@ -1,6 +1,7 @@
 -- A record's rows, replayed one by one. Assumes nothing.
-use Rattle.whole.specs.Plain.{ℕ, zero, suc, ◌+◌, ◌*◌, ◌-◌, ◌≤◌, ◌<◌, ◌≡◌, refl, sym, ap, ◌∙◌, true, false, ◌&&◌, ◌||◌}
-use Rattle.whole.specs.Plain.{bool_beq, [], ◌∷◌, ◌++◌, append_assoc, append-nil, ltb, lit≤, ℤ, pos, negsuc, le_z, length}
+use Rattle.std.specs.Prelude.{◌+◌, ◌*◌, ◌-◌, ◌≤◌, ◌<◌, ◌≡◌, ◌&&◌, ◌||◌, ◌∷◌, ◌++◌}
+use Rattle.whole.specs.Plain.{ℕ, zero, suc, refl, sym, ap, ◌∙◌, true, false}
+use Rattle.whole.specs.Plain.{bool_beq, [], append_assoc, append-nil, ltb, lit≤, ℤ, pos, negsuc, le_z, length}
 use Rattle.whole.specs.Plain.{get_or, take, drop, length-take, length-drop, get_or-eq_default, take-suc, drop-drop}
 use Rattle.whole.specs.Plain.{get_or-take, get_or-drop, ext_get_or, leb-true, eq-eqb, le-leb, le-ltb, dec_lt, arith, Words, z}
 use Rattle.whole.specs.Plain.{word, nat, up_to, empty, fold}

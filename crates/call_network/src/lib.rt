@@ -1,7 +1,8 @@
 #![tactic(auto)]
 
 // 8 NETWORK: "lent network record not one the reader could write". The rows are replayed through the one function of faults that the reader goes by.
-ghost use Rattle.whole.specs.Plain.{◌≤◌, ◌<◌, ◌≡◌, true, length};
+ghost use Rattle.std.specs.Prelude.{◌≤◌, ◌<◌, ◌≡◌};
+ghost use Rattle.whole.specs.Plain.{true, length};
 ghost use Rattle.paper.specs.Limits as Limits;
 ghost use Rattle.paper.specs.Rows.{kind};
 ghost use Rattle.paper.specs.Network.{is_network};

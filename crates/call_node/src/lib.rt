@@ -2,7 +2,8 @@
 
 // A node's voltage, its largest magnitude and the first step where it came, asked by node number: 9, 8, 10 as far as it is of the records, 2 where there is
 // no such node. Nothing is lent to be written.
-ghost use Rattle.whole.specs.Plain.{◌≤◌, ◌≡◌, true, length};
+ghost use Rattle.std.specs.Prelude.{◌≤◌, ◌≡◌};
+ghost use Rattle.whole.specs.Plain.{true, length};
 ghost use Rattle.paper.specs.Limits as Limits;
 ghost use Rattle.paper.specs.Areas.{Net};
 ghost use Rattle.paper.specs.Network.{is_network};

@@ -1,7 +1,8 @@
 #![tactic(auto)]
 
 // The next piece of a listing, from tables that hold all areas: a call that is refused before does not pay for them.
-ghost use Rattle.whole.specs.Plain.{◌≤◌, length};
+ghost use Rattle.std.specs.Prelude.{◌≤◌};
+ghost use Rattle.whole.specs.Plain.{length};
 ghost use Rattle.paper.specs.Limits as Limits;
 ghost use Rattle.paper.specs.Pieces.{steps_taken, piece_of};
 ghost use Rattle.paper.specs.Advance.{memory};

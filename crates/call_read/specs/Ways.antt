@@ -1,5 +1,6 @@
 -- The ways through a reading: 9, 7, a faulty line, or the record. Assumes nothing.
-use Rattle.whole.specs.Plain.{ℕ, suc, ◌+◌, ◌≤◌, ◌<◌, ◌≡◌, sym, ◌∙◌, List, ◌++◌, append-nil, get_or, length, take, drop}
+use Rattle.std.specs.Prelude.{◌+◌, ◌≤◌, ◌<◌, ◌≡◌, ◌++◌}
+use Rattle.whole.specs.Plain.{ℕ, suc, sym, ◌∙◌, List, append-nil, get_or, length, take, drop}
 use Rattle.whole.specs.Plain.{set, length-append, length-drop, drop_of_length-le, take-suc, take_all, drop-cons, set_at}
 use Rattle.whole.specs.Plain.{append_snoc, length-take-le, eq-eqb, ne_eqb, lt-ltb, le-ltb, arith, Words, z}
 use Rattle.std.proofs.Common.{add-one}

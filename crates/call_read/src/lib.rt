@@ -1,7 +1,8 @@
 #![tactic(auto)]
 
 // "Reading: 9, 7, then the first faulty line, in it 1 to 6 in turn; the answer carries the line number (0 for 7 and 9)."
-ghost use Rattle.whole.specs.Plain.{◌≡◌, length};
+ghost use Rattle.std.specs.Prelude.{◌≡◌};
+ghost use Rattle.whole.specs.Plain.{length};
 ghost use Rattle.paper.specs.One.{Reads};
 ghost use Rattle.paper.specs.Reading as Paper;
 

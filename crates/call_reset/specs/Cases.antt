@@ -1,5 +1,6 @@
 -- The answers of a reset, case by case. Assumes nothing.
-use Rattle.whole.specs.Plain.{◌≡◌, true, false, pos, length, replicate, Words}
+use Rattle.std.specs.Prelude.{◌≡◌}
+use Rattle.whole.specs.Plain.{true, false, pos, length, replicate, Words}
 use Rattle.paper.specs.declared.Resetting.TheVariants.{Reset, Network, Store}
 use Rattle.paper.specs.Network.{is_network}
 use Rattle.paper.specs.Advance.{Memory, memory, fits}

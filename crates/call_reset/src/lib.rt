@@ -1,7 +1,7 @@
 #![tactic(auto)]
 
 // "Resetting gives 9 or 8, or writes the records and both line stores all zero and answers 0."
-ghost use Rattle.whole.specs.Plain.{◌≡◌};
+ghost use Rattle.std.specs.Prelude.{◌≡◌};
 ghost use Rattle.paper.specs.One.{Resets};
 ghost use Rattle.paper.specs.Advance.{memory};
 

@@ -1,5 +1,6 @@
 -- How one study is laid out, worked: node 4 is named by no row, and is an area of its own. Assumes nothing.
-use Rattle.whole.specs.Plain.{◌≡◌, refl, [], ◌∷◌, pos, replicate, set, Words, z}
+use Rattle.std.specs.Prelude.{◌≡◌, ◌∷◌}
+use Rattle.whole.specs.Plain.{refl, [], pos, replicate, set, Words, z}
 use Rattle.paper.specs.Limits as Limits
 use Rattle.paper.specs.Reading.{read_of}
 use Rattle.paper.specs.Computing.{computing}

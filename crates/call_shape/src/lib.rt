@@ -2,7 +2,8 @@
 
 // How a network is laid out, asked of its record alone: how many areas it has, a node's area, a branch's row. 9, 8, 2 where there is no such node or branch.
 // Nothing is lent to be written.
-ghost use Rattle.whole.specs.Plain.{suc, ◌≤◌, ◌≡◌, true, length};
+ghost use Rattle.std.specs.Prelude.{◌≤◌, ◌≡◌};
+ghost use Rattle.whole.specs.Plain.{suc, true, length};
 ghost use Rattle.paper.specs.Limits as Limits;
 ghost use Rattle.paper.specs.Areas.{area_count};
 ghost use Rattle.paper.specs.Network.{is_network};

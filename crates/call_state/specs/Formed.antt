@@ -1,5 +1,6 @@
 -- 10 STATE: what the judge decides by the plan is `well_formed`, of every network that the plan is of. Assumes nothing.
-use Rattle.whole.specs.Plain.{ℕ, ◌+◌, ◌-◌, ◌≤◌, ◌≡◌, refl, sym, ap, ◌∙◌, Bool, true, false, cond, ◌&&◌, ◌||◌, and_assoc}
+use Rattle.std.specs.Prelude.{◌+◌, ◌-◌, ◌≤◌, ◌≡◌, ◌&&◌, ◌||◌}
+use Rattle.whole.specs.Plain.{ℕ, refl, sym, ap, ◌∙◌, Bool, true, false, cond, and_assoc}
 use Rattle.whole.specs.Plain.{and_comm, and-true, List, [], non_neg, length, take, get_or-eq_default, lt-ltb, le-ltb, zero-add}
 use Rattle.whole.specs.Plain.{arith, Words, word, up_to, every, within, sum, numbers}
 use Rattle.whole.specs.Folds.{and_left, and_right, both}

@@ -1,5 +1,6 @@
 -- What each part of the judge of records and line stores decides, by the plan. Assumes nothing.
-use Rattle.whole.specs.Plain.{ℕ, ◌+◌, ◌-◌, ◌≤◌, ◌≡◌, Bool, cond, ◌&&◌, ◌||◌, List, [], ◌∷◌, pos, non_neg, length, get_or, take, drop}
+use Rattle.std.specs.Prelude.{◌+◌, ◌-◌, ◌≤◌, ◌≡◌, ◌&&◌, ◌||◌, ◌∷◌}
+use Rattle.whole.specs.Plain.{ℕ, Bool, cond, List, [], pos, non_neg, length, get_or, take, drop}
 use Rattle.whole.specs.Plain.{Words, word, up_to, every, numbers}
 use Rattle.paper.specs.Limits as Limits
 use Rattle.paper.specs.Rows as Rows

@@ -1,5 +1,6 @@
 -- Histories and sent values of a well-formed state are within their end. Assumes nothing.
-use Rattle.whole.specs.Plain.{ℕ, zero, suc, ◌≤◌, ◌≡◌, true, ◌&&◌, get_or, replicate, le_trans, arith, Words}
+use Rattle.std.specs.Prelude.{◌≤◌, ◌≡◌, ◌&&◌}
+use Rattle.whole.specs.Plain.{ℕ, zero, suc, true, get_or, replicate, le_trans, arith, Words}
 use Rattle.whole.specs.Folds.{and_left, and_right}
 use Rattle.whole.specs.Within.{within_at}
 use Rattle.paper.specs.Limits as Limits

@@ -1,6 +1,7 @@
 -- Tests of memory's words by their places: part by part, and of the records section by section. Assumes nothing.
-use Rattle.whole.specs.Plain.{ℕ, zero, suc, ◌+◌, ◌-◌, ◌≤◌, ◌<◌, ◌≡◌, refl, sym, ap, ◌∙◌, Bool, true, ◌&&◌, and_assoc}
-use Rattle.whole.specs.Plain.{and_comm, List, [], ◌∷◌, eqb, length, get_or, take, drop, replicate, get_or-replicate}
+use Rattle.std.specs.Prelude.{◌+◌, ◌-◌, ◌≤◌, ◌<◌, ◌≡◌, ◌&&◌, ◌∷◌}
+use Rattle.whole.specs.Plain.{ℕ, zero, suc, refl, sym, ap, ◌∙◌, Bool, true, and_assoc}
+use Rattle.whole.specs.Plain.{and_comm, List, [], eqb, length, get_or, take, drop, replicate, get_or-replicate}
 use Rattle.whole.specs.Plain.{length-take, length-drop, length-replicate, get_or-eq_default, get_or-take, get_or-drop}
 use Rattle.whole.specs.Plain.{eqb-true, arith, Words, z, word, up_to, every, within, sum, numbers}
 use Rattle.whole.specs.Folds.{and_left, and_right, every_append, numbers_append}

@@ -2,7 +2,8 @@
 
 // 10 STATE: lent records and line stores, judged exactly, by the plan. No function has the network record: what is said is said of every network that the
 // plan is of.
-ghost use Rattle.whole.specs.Plain.{◌+◌, ◌≤◌, ◌<◌, ◌≡◌, ◌&&◌, cond, T, nat_abs, non_neg, length, get_or, up_to, word, every, numbers};
+ghost use Rattle.std.specs.Prelude.{◌+◌, ◌≤◌, ◌<◌, ◌≡◌, ◌&&◌};
+ghost use Rattle.whole.specs.Plain.{cond, T, nat_abs, non_neg, length, get_or, up_to, word, every, numbers};
 ghost use Rattle.paper.specs.Limits as Limits;
 ghost use Rattle.paper.specs.Areas.{Net};
 ghost use Rattle.paper.specs.Records.{peak_formed, records_formed, well_formed};

@@ -1,7 +1,7 @@
 #![tactic(auto)]
 
 // The numbers and values of what the other calls answer, as call_answers has them of reading, resetting and advancing: asking for a node, listing, writing.
-ghost use Rattle.whole.specs.Plain.{◌≡◌};
+ghost use Rattle.std.specs.Prelude.{◌≡◌};
 ghost use Rattle.paper.specs.Answers.{writing_number, writing_bytes};
 ghost use Rattle.paper.specs.Looking.{looking_number, told_voltage, told_peak, told_step};
 ghost use Rattle.paper.specs.Pieces.{listing_number, stop_area, stop_number, stop_place};

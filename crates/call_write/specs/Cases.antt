@@ -1,5 +1,6 @@
 -- The answers of a writing, case by case. Assumes nothing.
-use Rattle.whole.specs.Plain.{ℕ, ◌<◌, ◌≤◌, ◌≡◌, ap, ◌∙◌, true, false, List, length, ne_eqb, eq-eqb, lt-ltb}
+use Rattle.std.specs.Prelude.{◌<◌, ◌≤◌, ◌≡◌}
+use Rattle.whole.specs.Plain.{ℕ, ap, ◌∙◌, true, false, List, length, ne_eqb, eq-eqb, lt-ltb}
 use Rattle.whole.specs.Plain.{le-ltb, arith, Words}
 use Rattle.paper.specs.declared.Writing.TheVariants.{Wrote, Network, Store}
 use Rattle.paper.specs.Limits as Limits

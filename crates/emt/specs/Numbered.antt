@@ -1,6 +1,7 @@
 -- The calls as C sees them: the paper's number for the answer, and beside it the line, the place or the count, or what stopped a listing;
 -- and T-one, that each contract leaves nothing open. Assumes nothing.
-use Rattle.whole.specs.Plain.{ℕ, ◌+◌, ◌*◌, ◌≡◌, sym, ◌∙◌, cond, eqb, eq-eqb, ne_eqb, List, ◌++◌, ℤ, length, drop, Words}
+use Rattle.std.specs.Prelude.{◌+◌, ◌*◌, ◌≡◌, ◌++◌}
+use Rattle.whole.specs.Plain.{ℕ, sym, ◌∙◌, cond, eqb, eq-eqb, ne_eqb, List, ℤ, length, drop, Words}
 use Rattle.paper.specs.declared.Advance.TheVariants.{Store}
 use Rattle.paper.specs.Limits as Limits
 use Rattle.paper.specs.Answers.{reading_number, reading_line, resetting_number, advance_number, advance_place, advance_count}

@@ -1,7 +1,8 @@
 #![tactic(auto)]
 
 // emtrun: a study text on standard input, its listing on standard output. Between the two stands nothing but functions on slices, each held to the definitions.
-ghost use Rattle.whole.specs.Plain.{suc, ◌≡◌, length};
+ghost use Rattle.std.specs.Prelude.{◌≡◌};
+ghost use Rattle.whole.specs.Plain.{suc, length};
 ghost use Rattle.paper.specs.Limits as Limits;
 
 mod noting;

@@ -1,5 +1,6 @@
 -- Worked examples of the requests of document 02, in the form of E1 to E10: a table for each request and one theorem over it. Assumes nothing.
-use Rattle.whole.specs.Plain.{ℕ, ◌≡◌, refl, List, [], ◌∷◌, map, ℤ, pos, negsuc, take, set, replicate, Words, z}
+use Rattle.std.specs.Prelude.{◌≡◌, ◌∷◌}
+use Rattle.whole.specs.Plain.{ℕ, refl, List, [], map, ℤ, pos, negsuc, take, set, replicate, Words, z}
 use Rattle.paper.specs.declared.Reading.TheVariants.{Read}
 use Rattle.paper.specs.declared.Advance.TheVariants.{Took, Floating}
 use Rattle.paper.specs.declared.Writing.{Writing}

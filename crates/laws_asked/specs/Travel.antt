@@ -1,7 +1,8 @@
 -- "Travel times between steps": worked examples as one table with one theorem over it, in the form of E1 to E10; and where every travel time is a whole
 -- number of steps, 01's definitions are what they were. Assumes nothing.
-use Rattle.whole.specs.Plain.{ℕ, zero, suc, ◌+◌, ◌-◌, ◌*◌, ◌%◌, ◌≤◌, ◌<◌, ◌≡◌, refl, ◌∙◌, Bool, true, false, cond, not, ◌&&◌}
-use Rattle.whole.specs.Plain.{List, [], ◌∷◌, map, eqb, ltb, ℤ, length, get_or, take, eq-eqb, le-ltb, mod-add-div', zero-mul, arith, Words, z, word, sum}
+use Rattle.std.specs.Prelude.{◌+◌, ◌-◌, ◌*◌, ◌%◌, ◌≤◌, ◌<◌, ◌≡◌, ◌&&◌, ◌∷◌}
+use Rattle.whole.specs.Plain.{ℕ, zero, suc, refl, ◌∙◌, Bool, true, false, cond, not}
+use Rattle.whole.specs.Plain.{List, [], map, eqb, ltb, ℤ, length, get_or, take, eq-eqb, le-ltb, mod-add-div', zero-mul, arith, Words, z, word, sum}
 use Rattle.paper.specs.declared.Reading.TheVariants.{Read, Full}
 use Rattle.paper.specs.declared.Advance.TheVariants.{Took, Wait}
 use Rattle.paper.specs.Rows.{Row, is_line, travel, step_length}

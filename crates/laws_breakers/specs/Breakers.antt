@@ -1,7 +1,8 @@
 -- T-parts: over every run from a reset, an SW's latch is the first accepted step x of its area, "at or after open - 1 and later than its closing step, at which
 -- its current is zero or of opposite sign to that of step" x - 1; it is 0 while there is none; and "it is open from step" x "+ 1 and stays so". Assumes nothing.
-use Rattle.whole.specs.Plain.{ℕ, suc, ◌-◌, ◌≤◌, ◌<◌, max, ◌≡◌, refl, sym, ap, ◌∙◌, subst, ◌⊎◌, inl, inr, Bool, true, false, cond, not, ◌&&◌}
-use Rattle.whole.specs.Plain.{true≢false, List, [], ◌∷◌, ◌++◌, leb, ltb, ℤ, pos, lt_z, length, length-append, leb-true, ltb-true}
+use Rattle.std.specs.Prelude.{◌-◌, ◌≤◌, ◌<◌, ◌≡◌, ◌⊎◌, ◌&&◌, ◌∷◌, ◌++◌}
+use Rattle.whole.specs.Plain.{ℕ, suc, max, refl, sym, ap, ◌∙◌, subst, inl, inr, Bool, true, false, cond, not}
+use Rattle.whole.specs.Plain.{true≢false, List, [], leb, ltb, ℤ, pos, lt_z, length, length-append, leb-true, ltb-true}
 use Rattle.whole.specs.Plain.{ltb-false, le-leb, lt-ltb, lt-leb, not-true, not-false, dec_le, arith, Words, z, word, nat}
 use Rattle.whole.specs.Folds.{and_left, and_right, both}
 use Rattle.paper.specs.declared.Advance.TheVariants.{Took}

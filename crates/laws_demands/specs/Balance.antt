@@ -1,6 +1,7 @@
 -- "Balance.": the sum over a step's legs that refusal 16 judges is the sum over the rows of the currents in the records. Assumes nothing.
-use Rattle.whole.specs.Plain.{ℕ, zero, suc, ◌+◌, ◌<◌, ◌≡◌, refl, sym, ap, ◌∙◌, Bool, true, false, cond, List, [], ◌∷◌}
-use Rattle.whole.specs.Plain.{map, eqb, ℤ, pos, neg_ℤ, ◌+ℤ◌, ◌-ℤ◌, ◌*ℤ◌, +ℤ_assoc, length, get_or, ne_eqb, ℕ_discrete}
+use Rattle.std.specs.Prelude.{◌+◌, ◌<◌, ◌≡◌, ◌∷◌, ◌+ℤ◌, ◌-ℤ◌, ◌*ℤ◌}
+use Rattle.whole.specs.Plain.{ℕ, zero, suc, refl, sym, ap, ◌∙◌, Bool, true, false, cond, List, []}
+use Rattle.whole.specs.Plain.{map, eqb, ℤ, pos, neg_ℤ, +ℤ_assoc, length, get_or, ne_eqb, ℕ_discrete}
 use Rattle.whole.specs.Plain.{arith, z, word, numbers, total}
 use Rattle.whole.specs.Folds.{both}
 use Rattle.whole.specs.Int.{ring_laws}

@@ -1,6 +1,7 @@
 -- "Branch equations": the memory that a step proposes obeys them, accepted or not. Assumes nothing.
-use Rattle.whole.specs.Plain.{ℕ, zero, suc, ◌+◌, ◌-◌, ◌≤◌, ◌<◌, ◌≡◌, refl, sym, ap, ◌∙◌, ◌⊎◌, inl, inr, Bool, true}
-use Rattle.whole.specs.Plain.{false, cond, ◌&&◌, ◌||◌, or-true, List, eqb, ℤ, neg_ℤ, ◌+ℤ◌, ◌-ℤ◌, ◌*ℤ◌, +ℤ_comm}
+use Rattle.std.specs.Prelude.{◌+◌, ◌-◌, ◌≤◌, ◌<◌, ◌≡◌, ◌⊎◌, ◌&&◌, ◌||◌, ◌+ℤ◌, ◌-ℤ◌, ◌*ℤ◌}
+use Rattle.whole.specs.Plain.{ℕ, zero, suc, refl, sym, ap, ◌∙◌, inl, inr, Bool, true}
+use Rattle.whole.specs.Plain.{false, cond, or-true, List, eqb, ℤ, neg_ℤ, +ℤ_comm}
 use Rattle.whole.specs.Plain.{+ℤ_idr, zero-*ℤ, neg_ℤ-+ℤ, length, get_or, eq-eqb, eqb-true, ne_eqb, arith}
 use Rattle.whole.specs.Plain.{Words, z, word, numbers}
 use Rattle.whole.specs.Folds.{both, get_d_map, get_d_numbers, length_numbers}

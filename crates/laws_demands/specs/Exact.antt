@@ -1,5 +1,6 @@
 -- T-exact: each answer to an advance comes exactly when document 01 says, with its place. Assumes nothing.
-use Rattle.whole.specs.Plain.{ℕ, zero, suc, ◌<◌, ◌≡◌, refl, sym, ap, ◌∙◌, subst, ◌↔◌, Bool, true, false, true≢false}
+use Rattle.std.specs.Prelude.{◌<◌, ◌≡◌, ◌↔◌}
+use Rattle.whole.specs.Plain.{ℕ, zero, suc, refl, sym, ap, ◌∙◌, subst, Bool, true, false, true≢false}
 use Rattle.whole.specs.Plain.{List, [], leb, length, get_or, leb-true, leb-false, le-leb, lt-leb, arith, Words}
 use Rattle.paper.specs.declared.Advance.{Advance}
 use Rattle.paper.specs.declared.Advance.TheVariants.{Took, Store, Network, State, Area, Done, Wait, Floating, Range, Unbalanced, History}

@@ -1,7 +1,8 @@
 -- 17 HISTORY: "a next history or sent value beyond 10^17": the row that the step's search finds. Assumes nothing.
-use Rattle.whole.specs.Plain.{ℕ, suc, ◌+◌, ◌<◌, ◌≡◌, refl, sym, ap, ◌∙◌, ◌≢◌, ◌⊎◌, inl, inr, Bool, true, false, cond}
-use Rattle.whole.specs.Plain.{not, ◌&&◌, ◌||◌, and-false, true≢false, [], eqb, leb, ℤ, pos, neg_ℤ, nat_abs, ◌+ℤ◌, ◌-ℤ◌}
-use Rattle.whole.specs.Plain.{◌*ℤ◌, zero-*ℤ, length, get_or, ne_eqb, leb-false, lt-leb, ℕ_discrete, arith, Words, z, word}
+use Rattle.std.specs.Prelude.{◌+◌, ◌<◌, ◌≡◌, ◌≢◌, ◌⊎◌, ◌&&◌, ◌||◌, ◌+ℤ◌, ◌-ℤ◌, ◌*ℤ◌}
+use Rattle.whole.specs.Plain.{ℕ, suc, refl, sym, ap, ◌∙◌, inl, inr, Bool, true, false, cond}
+use Rattle.whole.specs.Plain.{not, and-false, true≢false, [], eqb, leb, ℤ, pos, neg_ℤ, nat_abs}
+use Rattle.whole.specs.Plain.{zero-*ℤ, length, get_or, ne_eqb, leb-false, lt-leb, ℕ_discrete, arith, Words, z, word}
 use Rattle.whole.specs.Plain.{up_to}
 use Rattle.whole.specs.Folds.{both}
 use Rattle.whole.specs.Int.{ring_laws, abs_neg}

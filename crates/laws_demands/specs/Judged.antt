@@ -1,5 +1,6 @@
 -- What is lent passes refusals 9, 8 and 10, or the call is answered with the first that it does not pass. Assumes nothing.
-use Rattle.whole.specs.Plain.{ℕ, ◌≡◌, refl, Bool, true, false, ◌&&◌, eqb, length, eqb-true, Words}
+use Rattle.std.specs.Prelude.{◌≡◌, ◌&&◌}
+use Rattle.whole.specs.Plain.{ℕ, refl, Bool, true, false, eqb, length, eqb-true, Words}
 use Rattle.paper.specs.declared.Advance.TheVariants.{Store, Network, State}
 use Rattle.whole.specs.Folds.{and_left, and_right}
 use Rattle.paper.specs.Limits as Limits

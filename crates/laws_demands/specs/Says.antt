@@ -1,5 +1,6 @@
 -- When each answer to an advance of area a comes, in document 01's words. Definitions only, to be held beside the paper. Assumes nothing.
-use Rattle.whole.specs.Plain.{ℕ, suc, ◌≤◌, ◌<◌, ◌≡◌, true, false, length, Words}
+use Rattle.std.specs.Prelude.{◌≤◌, ◌<◌, ◌≡◌}
+use Rattle.whole.specs.Plain.{ℕ, suc, true, false, length, Words}
 use Rattle.paper.specs.declared.Advance.{Advance}
 use Rattle.paper.specs.declared.Advance.TheVariants.{Took, Store, Network, State, Area, Done, Wait, Floating, Range, Unbalanced, History}
 use Rattle.paper.specs.Rows.{is_line, steps}

@@ -1,5 +1,6 @@
 -- T-fresh, T-stays and T-local, of the calls themselves. Assumes nothing.
-use Rattle.whole.specs.Plain.{ℕ, ◌≡◌, sym, ◌∙◌, true, length-replicate, eq-eqb, Words, z}
+use Rattle.std.specs.Prelude.{◌≡◌}
+use Rattle.whole.specs.Plain.{ℕ, sym, ◌∙◌, true, length-replicate, eq-eqb, Words, z}
 use Rattle.paper.specs.declared.Resetting.TheVariants.{Reset}
 use Rattle.whole.specs.Folds.{both}
 use Rattle.paper.specs.Limits as Limits

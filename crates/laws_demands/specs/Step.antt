@@ -1,5 +1,6 @@
 -- T-step: the step that 16 and 17 judge is the offer of the branch equations, and an accepted step writes it. Assumes nothing.
-use Rattle.whole.specs.Plain.{ℕ, ◌≡◌, refl, sym, ap, ◌∙◌, inr, ℤ, get_or, eq-eqb, Words, word}
+use Rattle.std.specs.Prelude.{◌≡◌}
+use Rattle.whole.specs.Plain.{ℕ, refl, sym, ap, ◌∙◌, inr, ℤ, get_or, eq-eqb, Words, word}
 use Rattle.paper.specs.declared.Advance.TheVariants.{Took}
 use Rattle.paper.specs.Doubles.{as_voltage}
 use Rattle.whole.specs.Folds.{and_left, and_right, both}

@@ -1,10 +1,10 @@
 -- The voltages that a step proposes, node by node: ground's, a fixed node's, a free node's. Assumes nothing.
-use Rattle.whole.specs.Plain.{ℕ, zero, suc, ◌≤◌, ◌<◌, ◌≡◌, refl, sym, ap, ◌∙◌, ◌⊎◌, inl, inr, Bool, true, false, cond}
-use Rattle.whole.specs.Plain.{not, true≢false, List, [], ◌∷◌, Mem-cases_cons, Mem-not_nil, eqb, ℤ, pos}
+use Rattle.whole.specs.Plain.{ℕ, zero, suc, refl, sym, ap, ◌∙◌, inl, inr, Bool, true, false, cond}
+use Rattle.whole.specs.Plain.{not, true≢false, List, [], Mem-cases_cons, Mem-not_nil, eqb, ℤ, pos}
 use Rattle.whole.specs.Plain.{length, get_or, set, length-set, take, length-map, replicate, length-replicate}
 use Rattle.whole.specs.Plain.{get_or-set_same, get_or-set_other, get_or-take, length-take-le, eq-eqb, arith, Words, z, word}
 use Rattle.whole.specs.Plain.{any, keep, numbers, first}
-use Rattle.std.specs.Prelude.{Float}
+use Rattle.std.specs.Prelude.{Float, ◌≤◌, ◌<◌, ◌≡◌, ◌⊎◌, ◌∷◌}
 use Rattle.std.specs.Float.Ieee.{nan}
 use Rattle.std.specs.Float.{fin}
 use Rattle.whole.specs.Folds.{get_d_map, length_keep, count_le, length_numbers, none_at}

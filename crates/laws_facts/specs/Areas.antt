@@ -1,7 +1,8 @@
 -- The areas of a table that passes: each node off ground has one, numbered from 1; joined nodes have one area, and nodes of one area are joined by
 -- a path. Assumes nothing.
-use Rattle.whole.specs.Plain.{ℕ, zero, suc, ◌+◌, ◌-◌, ◌≤◌, ◌<◌, max, ◌≡◌, refl, sym, ap, ◌∙◌, inl, ◌↔◌, true, List, []}
-use Rattle.whole.specs.Plain.{◌∷◌, length, get_or, length-map, eq-eqb, ne_eqb, dec_lt, ℕ_discrete, arith, count, numbers}
+use Rattle.std.specs.Prelude.{◌+◌, ◌-◌, ◌≤◌, ◌<◌, ◌≡◌, ◌↔◌, ◌∷◌}
+use Rattle.whole.specs.Plain.{ℕ, zero, suc, max, refl, sym, ap, ◌∙◌, inl, true, List, []}
+use Rattle.whole.specs.Plain.{length, get_or, length-map, eq-eqb, ne_eqb, dec_lt, ℕ_discrete, arith, count, numbers}
 use Rattle.whole.specs.Plain.{fold}
 use Rattle.whole.specs.Turns.{turns}
 use Rattle.whole.specs.Folds.{count_append, count_le, length_numbers, numbers_append, numbers_more, get_d_map}

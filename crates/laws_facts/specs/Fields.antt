@@ -1,6 +1,7 @@
 -- A row without the faults NODE and VALUE has each field of its kind, in its range. Assumes nothing.
-use Rattle.whole.specs.Plain.{ℕ, zero, suc, ◌≤◌, ◌<◌, ◌≡◌, refl, sym, subst, Bool, true, false, not, ◌&&◌, ◌||◌}
-use Rattle.whole.specs.Plain.{true≢false, List, [], ◌∷◌, tail, T, leb, ltb, ltb→lt, ℤ, pos, negsuc, length, get_or}
+use Rattle.std.specs.Prelude.{◌≤◌, ◌<◌, ◌≡◌, ◌&&◌, ◌||◌, ◌∷◌}
+use Rattle.whole.specs.Plain.{ℕ, zero, suc, refl, sym, subst, Bool, true, false, not}
+use Rattle.whole.specs.Plain.{true≢false, List, [], tail, T, leb, ltb, ltb→lt, ℤ, pos, negsuc, length, get_or}
 use Rattle.whole.specs.Plain.{leb-true, not-false, arith, Words, z, word, nat, between}
 use Rattle.whole.specs.Folds.{and_left, and_right, or_left, or_right}
 use Rattle.paper.specs.Rows.{Row, Field, fields_of, kind}

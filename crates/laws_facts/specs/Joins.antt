@@ -1,6 +1,7 @@
 -- The joins of a table that passes: each is a row's, between two nodes off ground. Assumes nothing.
-use Rattle.whole.specs.Plain.{ℕ, suc, ◌≤◌, ◌<◌, ◌≡◌, refl, ◌⊎◌, inl, inr, Bool, true, false, cond, not, ◌&&◌, List, []}
-use Rattle.whole.specs.Plain.{◌∷◌, Mem-cases_cons, Mem-not_nil, map, eqb, length, get_or, not-true, eqb-false}
+use Rattle.std.specs.Prelude.{◌≤◌, ◌<◌, ◌≡◌, ◌⊎◌, ◌&&◌, ◌∷◌}
+use Rattle.whole.specs.Plain.{ℕ, suc, refl, inl, inr, Bool, true, false, cond, not, List, []}
+use Rattle.whole.specs.Plain.{Mem-cases_cons, Mem-not_nil, map, eqb, length, get_or, not-true, eqb-false}
 use Rattle.whole.specs.Plain.{arith, keep}
 use Rattle.whole.specs.Folds.{and_left, and_right}
 use Rattle.whole.specs.Members.{among_at, among_keep, among_map}

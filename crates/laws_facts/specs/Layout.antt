@@ -1,6 +1,7 @@
 -- Where a network record that passes has its rows: the words of row i stand from word 8 + 8·i on, and all other words are 0. Assumes nothing.
-use Rattle.whole.specs.Plain.{ℕ, zero, suc, ◌+◌, ◌*◌, ◌-◌, ◌≤◌, ◌<◌, ◌≡◌, refl, sym, ap, ◌∙◌, true, ◌&&◌, true≢false}
-use Rattle.whole.specs.Plain.{List, [], ◌∷◌, ◌++◌, tail, lit≤, ℤ, pos, negsuc, length, get_or, take, drop, length-append}
+use Rattle.std.specs.Prelude.{◌+◌, ◌*◌, ◌-◌, ◌≤◌, ◌<◌, ◌≡◌, ◌&&◌, ◌∷◌, ◌++◌}
+use Rattle.whole.specs.Plain.{ℕ, zero, suc, refl, sym, ap, ◌∙◌, true, true≢false}
+use Rattle.whole.specs.Plain.{List, [], tail, lit≤, ℤ, pos, negsuc, length, get_or, take, drop, length-append}
 use Rattle.whole.specs.Plain.{length-take, get_or-append, get_or-eq_default, get_or-take, get_or-append-add, eqb-true}
 use Rattle.whole.specs.Plain.{arith, Words, z, word, nat, between, same, same_words, filled}
 use Rattle.whole.specs.Folds.{and_left, and_right}

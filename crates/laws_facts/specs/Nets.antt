@@ -1,7 +1,8 @@
 -- The facts of a network, in one record: all that a step, a check or a promise may take as known of a record that passes refusal 8, or of a table
 -- that passes. Assumes nothing.
-use Rattle.whole.specs.Plain.{ℕ, zero, suc, ◌+◌, ◌*◌, ◌≤◌, ◌<◌, max, ◌≡◌, refl, sym, ap, ◌∙◌, ◌↔◌, Bool, true, false}
-use Rattle.whole.specs.Plain.{List, [], ◌∷◌, lit≤, ℤ, pos, length, get_or, take, get_or-eq_default, ne_eqb, dec_lt}
+use Rattle.std.specs.Prelude.{◌+◌, ◌*◌, ◌≤◌, ◌<◌, ◌≡◌, ◌↔◌, ◌∷◌}
+use Rattle.whole.specs.Plain.{ℕ, zero, suc, max, refl, sym, ap, ◌∙◌, Bool, true, false}
+use Rattle.whole.specs.Plain.{List, [], lit≤, ℤ, pos, length, get_or, take, get_or-eq_default, ne_eqb, dec_lt}
 use Rattle.whole.specs.Plain.{arith, Words, z, word, nat, count}
 use Rattle.std.proofs.Common.{add-one}
 use Rattle.whole.specs.Folds.{count_next}

@@ -1,5 +1,6 @@
 -- The places that an advance's answer names: a node from 1 to 32, a branch from 1 to 64. Assumes nothing.
-use Rattle.whole.specs.Plain.{ℕ, ◌≤◌, ◌≡◌, refl, Bool, true, false, not, arith, Words}
+use Rattle.std.specs.Prelude.{◌≤◌, ◌≡◌}
+use Rattle.whole.specs.Plain.{ℕ, refl, Bool, true, false, not, arith, Words}
 use Rattle.paper.specs.declared.Advance.{Advance}
 use Rattle.paper.specs.declared.Advance.TheVariants.{Took, Network, Store, State, Area, Done, Wait, Floating, Range, Unbalanced, History}
 use Rattle.paper.specs.Limits as Limits

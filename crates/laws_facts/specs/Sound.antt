@@ -1,6 +1,7 @@
 -- What a row without faults 2 to 4 is, by its kind, in the paper's words. Assumes nothing.
-use Rattle.whole.specs.Plain.{ℕ, suc, ◌+◌, ◌*◌, ◌≤◌, ◌<◌, max, ◌≡◌, refl, sym, ◌∙◌, ◌≢◌, Bool, true, false}
-use Rattle.whole.specs.Plain.{cond, not, ◌&&◌, ◌||◌, true≢false, false≢true, List, [], ◌∷◌, tail, leb, ltb, eqb, lit≤, ℤ}
+use Rattle.std.specs.Prelude.{◌+◌, ◌*◌, ◌≤◌, ◌<◌, ◌≡◌, ◌≢◌, ◌&&◌, ◌||◌, ◌∷◌}
+use Rattle.whole.specs.Plain.{ℕ, suc, max, refl, sym, ◌∙◌, Bool, true, false}
+use Rattle.whole.specs.Plain.{cond, not, true≢false, false≢true, List, [], tail, leb, ltb, eqb, lit≤, ℤ}
 use Rattle.whole.specs.Plain.{pos, negsuc, nat_abs, leb-true, leb-false, ltb-false, eqb-true, eqb-false, not-false}
 use Rattle.whole.specs.Plain.{arith, z, word, between}
 use Rattle.std.proofs.Common.{le-div_iff_mul-le}

@@ -1,5 +1,6 @@
 -- What a table that passes has: every row sound, at most 64 branches and 16 sources, slots that fit the stores, one VS or VC to a node. Assumes nothing.
-use Rattle.whole.specs.Plain.{ℕ, ◌+◌, ◌≤◌, ◌<◌, ◌≡◌, sym, ap, ◌∙◌, true, false, ◌&&◌, true≢false, List, [], ◌∷◌, leb}
+use Rattle.std.specs.Prelude.{◌+◌, ◌≤◌, ◌<◌, ◌≡◌, ◌&&◌, ◌∷◌}
+use Rattle.whole.specs.Plain.{ℕ, sym, ap, ◌∙◌, true, false, true≢false, List, [], leb}
 use Rattle.whole.specs.Plain.{ltb, eqb, length, get_or, take, length-take, take-length, get_or-take, eqb-true, dec_lt, arith}
 use Rattle.whole.specs.Plain.{any, count, sum}
 use Rattle.whole.specs.Folds.{and_left, and_right, none_at}

@@ -1,6 +1,7 @@
 -- What a line's end receives, by what it reads: one value of the far end where the travel time is a whole number of steps, two where it lies between
 -- steps, and never more than these. Assumes nothing.
-use Rattle.whole.specs.Plain.{ℕ, ◌+◌, ◌-◌, ◌*◌, ◌≤◌, ◌<◌, ◌≡◌, refl, sym, ◌∙◌, ◌≢◌, Bool, true, false, cond, eqb, ltb, ℤ, nat_abs}
+use Rattle.std.specs.Prelude.{◌+◌, ◌-◌, ◌*◌, ◌≤◌, ◌<◌, ◌≡◌, ◌≢◌}
+use Rattle.whole.specs.Plain.{ℕ, refl, sym, ◌∙◌, Bool, true, false, cond, eqb, ltb, ℤ, nat_abs}
 use Rattle.whole.specs.Plain.{eqb-true, eqb-false, ltb-true, eq-eqb, ne_eqb, mod-lt, le_of_lt, arith, z}
 use Rattle.whole.specs.Mixing.{mixed_none, mixed_size}
 use Rattle.paper.specs.Rows.{Row, is_line, step_length}

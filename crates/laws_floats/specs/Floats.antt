@@ -1,5 +1,6 @@
 -- T-floats: the search names node n exactly when n is the lowest free node of the area from which there is no path. Assumes nothing.
-use Rattle.whole.specs.Plain.{ℕ, suc, ◌<◌, ◌≡◌, refl, sym, ap, ◌∙◌, Bool, true, false, not, true≢false, List, eqb}
+use Rattle.std.specs.Prelude.{◌<◌, ◌≡◌}
+use Rattle.whole.specs.Plain.{ℕ, suc, refl, sym, ap, ◌∙◌, Bool, true, false, not, true≢false, List, eqb}
 use Rattle.whole.specs.Plain.{eqb-true, eq-eqb, not-false, Words}
 use Rattle.whole.specs.Rising.{Rising, rising_numbers, rising_keep, Lowest, lowest_first, first_lowest}
 use Rattle.paper.specs.Spread.{mark}

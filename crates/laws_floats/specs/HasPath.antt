@@ -1,6 +1,7 @@
 -- "A free node needs a path of conducting branches (R, L, C, closed SW) to ground, to a fixed node, or to a node with a line end, itself included."
 -- In the paper's own terms, over the rows: no legs, no marks, no search. Assumes nothing.
-use Rattle.whole.specs.Plain.{ℕ, ◌<◌, ◌≡◌, ◌⊎◌, true, false, length, Words}
+use Rattle.std.specs.Prelude.{◌<◌, ◌≡◌, ◌⊎◌}
+use Rattle.whole.specs.Plain.{ℕ, true, false, length, Words}
 use Rattle.paper.specs.Rows.{Row, is_branch, is_line, from, to}
 use Rattle.paper.specs.Areas.{Net, fixed}
 use Rattle.paper.specs.Legs.{is_open}

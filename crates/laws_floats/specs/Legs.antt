@@ -1,6 +1,7 @@
 -- The legs that conduct, and the rows that they are of: a line's end is a leg to ground, and every other is an R, L, C or closed SW. Assumes nothing.
-use Rattle.whole.specs.Plain.{ℕ, ◌<◌, ◌≡◌, refl, sym, ap, subst, ◌⊎◌, inl, inr, Bool, true, false, cond, not, ◌&&◌}
-use Rattle.whole.specs.Plain.{true≢false, List, [], ◌∷◌, Mem-cases_cons, Mem-not_nil, eqb, ℤ, length, get_or}
+use Rattle.std.specs.Prelude.{◌<◌, ◌≡◌, ◌⊎◌, ◌&&◌, ◌∷◌}
+use Rattle.whole.specs.Plain.{ℕ, refl, sym, ap, subst, inl, inr, Bool, true, false, cond, not}
+use Rattle.whole.specs.Plain.{true≢false, List, [], Mem-cases_cons, Mem-not_nil, eqb, ℤ, length, get_or}
 use Rattle.whole.specs.Plain.{eq-eqb, arith, Words, z, word, numbers}
 use Rattle.whole.specs.Folds.{and_left}
 use Rattle.whole.specs.Members.{Among, top, below, among_map, map_among, among_numbers, numbers_among}

@@ -1,5 +1,6 @@
 -- The search's marks against the paper's paths: a node of the area comes to mark 0 exactly when it has a path. Assumes nothing.
-use Rattle.whole.specs.Plain.{ℕ, suc, ◌≤◌, ◌<◌, ◌≡◌, refl, sym, ap, ◌∙◌, subst, ◌⊎◌, inl, inr, true, List, ℤ, length}
+use Rattle.std.specs.Prelude.{◌≤◌, ◌<◌, ◌≡◌, ◌⊎◌}
+use Rattle.whole.specs.Plain.{ℕ, suc, refl, sym, ap, ◌∙◌, subst, inl, inr, true, List, ℤ, length}
 use Rattle.whole.specs.Plain.{eq-eqb, ne_eqb, ℕ_discrete, arith, Words, keep}
 use Rattle.whole.specs.Members.{Among, among_map, map_among, among_keep, keep_among}
 use Rattle.paper.specs.Rows.{Row, is_branch, is_line, from, to}

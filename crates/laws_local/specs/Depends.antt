@@ -1,7 +1,8 @@
 -- "Over two well-formed states, an advance depends on nothing but the network, its own area's records, the far counts and the far values it
 -- reads." Assumes nothing.
-use Rattle.whole.specs.Plain.{ℕ, zero, suc, ◌+◌, ◌≤◌, ◌<◌, ◌≡◌, refl, sym, ap, ◌∙◌, subst, inl, Bool, true, false}
-use Rattle.whole.specs.Plain.{cond, ◌&&◌, ◌||◌, List, [], ◌∷◌, leb, ltb, ℤ, length, get_or, leb-true, eqb-true}
+use Rattle.std.specs.Prelude.{◌+◌, ◌≤◌, ◌<◌, ◌≡◌, ◌&&◌, ◌||◌, ◌∷◌}
+use Rattle.whole.specs.Plain.{ℕ, zero, suc, refl, sym, ap, ◌∙◌, subst, inl, Bool, true, false}
+use Rattle.whole.specs.Plain.{cond, List, [], leb, ltb, ℤ, length, get_or, leb-true, eqb-true}
 use Rattle.whole.specs.Plain.{arith, Words, z, word, nat}
 use Rattle.paper.specs.declared.Advance.{Advance}
 use Rattle.paper.specs.declared.Advance.TheVariants.{Wait}

@@ -1,5 +1,6 @@
 -- The nodes of an area, as the step lists them. Assumes nothing.
-use Rattle.whole.specs.Plain.{ℕ, ◌≤◌, ◌≡◌, false, not, eqb, eqb-true, eq-eqb, not-true, arith, numbers}
+use Rattle.std.specs.Prelude.{◌≤◌, ◌≡◌}
+use Rattle.whole.specs.Plain.{ℕ, false, not, eqb, eqb-true, eq-eqb, not-true, arith, numbers}
 use Rattle.whole.specs.Members.{Among, among_keep, keep_among, among_numbers, numbers_among}
 use Rattle.paper.specs.Areas.{Net, area_of, nodes_of, fixed, free_of}
 

@@ -1,5 +1,6 @@
 -- What a call over a well-formed state comes to: 11, 12, 13, one of 14 to 17, or a step. Assumes nothing.
-use Rattle.whole.specs.Plain.{ℕ, zero, suc, ◌≤◌, ◌<◌, ◌≡◌, refl, sym, ap, ◌∙◌, Bool, true, false, ◌&&◌, true≢false}
+use Rattle.std.specs.Prelude.{◌≤◌, ◌<◌, ◌≡◌, ◌&&◌}
+use Rattle.whole.specs.Plain.{ℕ, zero, suc, refl, sym, ap, ◌∙◌, Bool, true, false, true≢false}
 use Rattle.whole.specs.Plain.{List, leb, leb-true, leb-false, Words}
 use Rattle.paper.specs.declared.Advance.{Advance}
 use Rattle.paper.specs.declared.Advance.TheVariants.{Took, Area, Done, Wait, Floating, Range, Unbalanced, History}

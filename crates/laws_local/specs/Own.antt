@@ -1,6 +1,7 @@
 -- "An area's advance" and its own words: whose counts and ends of rows are; a step's legs are made of its own records. Assumes nothing.
-use Rattle.whole.specs.Plain.{ℕ, zero, suc, ◌+◌, ◌-◌, ◌≤◌, ◌<◌, ◌≡◌, refl, sym, ap, ◌∙◌, ◌≢◌, Bool, true, false, cond}
-use Rattle.whole.specs.Plain.{◌&&◌, ◌||◌, true≢false, List, [], map, eqb, ltb, ℤ, length, get_or, length-map, eqb-true}
+use Rattle.std.specs.Prelude.{◌+◌, ◌-◌, ◌≤◌, ◌<◌, ◌≡◌, ◌≢◌, ◌&&◌, ◌||◌}
+use Rattle.whole.specs.Plain.{ℕ, zero, suc, refl, sym, ap, ◌∙◌, Bool, true, false, cond}
+use Rattle.whole.specs.Plain.{true≢false, List, [], map, eqb, ltb, ℤ, length, get_or, length-map, eqb-true}
 use Rattle.whole.specs.Plain.{lt-ltb, arith, Words, z, word, numbers}
 use Rattle.whole.specs.Folds.{and_right, length_numbers, get_d_numbers, get_d_map}
 use Rattle.paper.specs.Classes.{line_branch}

@@ -1,7 +1,8 @@
 -- "An area's advance writes only the slots of its own line ends": whose each word of a line store is, and that a call leaves every word of the
 -- records and stores that is not its area's. Assumes nothing.
-use Rattle.whole.specs.Plain.{ℕ, zero, suc, ◌+◌, ◌%◌, ◌≤◌, ◌<◌, ◌≡◌, refl, ap, ◌∙◌, ◌≢◌, true, cond, ◌&&◌, List, []}
-use Rattle.whole.specs.Plain.{◌∷◌, leb, ltb, length, get_or, take, leb-true, lt-ltb, le-ltb, le-leb, mod-lt, arith, Words}
+use Rattle.std.specs.Prelude.{◌+◌, ◌%◌, ◌≤◌, ◌<◌, ◌≡◌, ◌≢◌, ◌&&◌, ◌∷◌}
+use Rattle.whole.specs.Plain.{ℕ, zero, suc, refl, ap, ◌∙◌, true, cond, List, []}
+use Rattle.whole.specs.Plain.{leb, ltb, length, get_or, take, leb-true, lt-ltb, le-ltb, le-leb, mod-lt, arith, Words}
 use Rattle.whole.specs.Plain.{word, sum}
 use Rattle.whole.specs.Folds.{and_left, and_right}
 use Rattle.paper.specs.Rows.{Row, is_line, from, to}

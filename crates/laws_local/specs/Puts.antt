@@ -1,6 +1,7 @@
 -- Turns that each write some words: what they leave, and what the last one to write a word puts there. Assumes nothing.
-use Rattle.whole.specs.Plain.{ℕ, zero, suc, ◌+◌, ◌-◌, ◌<◌, ◌≡◌, refl, sym, ap, ◌∙◌, ◌≢◌, Bool, true, false, true≢false}
-use Rattle.whole.specs.Plain.{[], ◌∷◌, ℤ, length, set, length-set, get_or-set_same, get_or-set_other, ℕ_discrete, arith}
+use Rattle.std.specs.Prelude.{◌+◌, ◌-◌, ◌<◌, ◌≡◌, ◌≢◌, ◌∷◌}
+use Rattle.whole.specs.Plain.{ℕ, zero, suc, refl, sym, ap, ◌∙◌, Bool, true, false, true≢false}
+use Rattle.whole.specs.Plain.{[], ℤ, length, set, length-set, get_or-set_same, get_or-set_other, ℕ_discrete, arith}
 use Rattle.whole.specs.Plain.{Words, z, word}
 use Rattle.whole.specs.Turns.{turns}
 use Rattle.whole.specs.TurnLaws.{turns_keeps, turns_join, turns_last}

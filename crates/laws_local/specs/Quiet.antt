@@ -1,6 +1,7 @@
 -- What an area is about to hear is not touched by another area's step, where neither waits: the slots of a ring are 2q, and 2q + 1 where two values are
 -- read. Assumes nothing.
-use Rattle.whole.specs.Plain.{ℕ, suc, ◌+◌, ◌%◌, ◌≤◌, ◌<◌, ◌≡◌, subst, ◌≢◌, true, List, length, mod-lt, arith}
+use Rattle.std.specs.Prelude.{◌+◌, ◌%◌, ◌≤◌, ◌<◌, ◌≡◌, ◌≢◌}
+use Rattle.whole.specs.Plain.{ℕ, suc, subst, true, List, length, mod-lt, arith}
 use Rattle.whole.specs.Plain.{Words, word}
 use Rattle.laws_order.specs.Ring.{ring_apart}
 use Rattle.whole.specs.Folds.{and_left, and_right}

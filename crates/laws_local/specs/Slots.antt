@@ -1,6 +1,7 @@
 -- "Each line end keeps its last" sent values "in a store of its own; slots stand in table order", step s in place s mod their number: no two lines
 -- share a slot, and a step writes one slot of each of its own line ends. Assumes nothing.
-use Rattle.whole.specs.Plain.{ℕ, ◌+◌, ◌*◌, ◌%◌, ◌≤◌, ◌<◌, ◌≡◌, refl, sym, ap, ◌∙◌, ◌≢◌, Bool, true, ◌&&◌, List, ℤ}
+use Rattle.std.specs.Prelude.{◌+◌, ◌*◌, ◌%◌, ◌≤◌, ◌<◌, ◌≡◌, ◌≢◌, ◌&&◌}
+use Rattle.whole.specs.Plain.{ℕ, refl, sym, ap, ◌∙◌, Bool, true, List, ℤ}
 use Rattle.whole.specs.Plain.{length, mod-lt, add_left_cancel, dec_lt, arith, Words, word}
 use Rattle.whole.specs.Folds.{and_left}
 use Rattle.paper.specs.Rows.{is_line}

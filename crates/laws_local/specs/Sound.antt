@@ -1,5 +1,6 @@
 -- What an area's advance needs of its network: a part of what every network that passes refusal 8 has. Assumes nothing.
-use Rattle.whole.specs.Plain.{ℕ, ◌≤◌, ◌<◌, ◌≡◌, sym, ap, ◌∙◌, true, true≢false, [], length, get_or-eq_default, dec_lt}
+use Rattle.std.specs.Prelude.{◌≤◌, ◌<◌, ◌≡◌}
+use Rattle.whole.specs.Plain.{ℕ, sym, ap, ◌∙◌, true, true≢false, [], length, get_or-eq_default, dec_lt}
 use Rattle.whole.specs.Plain.{arith}
 use Rattle.paper.specs.Limits as Limits
 use Rattle.paper.specs.Rows.{kinds, branch_kind, is_branch, is_line, from, to}

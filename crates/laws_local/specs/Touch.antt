@@ -1,6 +1,7 @@
 -- Two memories over which the same step writes: each word of them is left alone in both, or is the same in both afterwards. Assumes nothing.
-use Rattle.whole.specs.Plain.{ℕ, zero, suc, ◌-◌, ◌≤◌, ◌<◌, ◌≡◌, refl, sym, ap, ◌∙◌, ◌⊎◌, inl, inr, Bool, true, false, List}
-use Rattle.whole.specs.Plain.{◌+◌, [], ◌∷◌, ltb, ℤ, length, set, length-set, get_or-set_other, suc_inj, suc-ne-zero, ℕ_discrete}
+use Rattle.std.specs.Prelude.{◌-◌, ◌≤◌, ◌<◌, ◌≡◌, ◌⊎◌, ◌+◌, ◌∷◌}
+use Rattle.whole.specs.Plain.{ℕ, zero, suc, refl, sym, ap, ◌∙◌, inl, inr, Bool, true, false, List}
+use Rattle.whole.specs.Plain.{[], ltb, ℤ, length, set, length-set, get_or-set_other, suc_inj, suc-ne-zero, ℕ_discrete}
 use Rattle.whole.specs.Plain.{dec_lt, arith, Words, z, word}
 use Rattle.whole.specs.Members.{Among, All, all_among}
 use Rattle.whole.specs.Turns.{run, turns}

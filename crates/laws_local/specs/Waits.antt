@@ -1,6 +1,7 @@
 -- 13 WAIT: "a far area's count is below k - d". Assumes nothing.
-use Rattle.whole.specs.Plain.{ℕ, suc, ◌+◌, ◌≤◌, ◌<◌, ◌≡◌, refl, sym, ◌∙◌, ◌⊎◌, inl, inr, Bool, true, false, ◌&&◌, ◌||◌}
-use Rattle.whole.specs.Plain.{or-true, true≢false, List, [], ◌∷◌, length, ltb-true, ltb-false, lt-ltb, eqb-true, eq-eqb}
+use Rattle.std.specs.Prelude.{◌+◌, ◌≤◌, ◌<◌, ◌≡◌, ◌⊎◌, ◌&&◌, ◌||◌, ◌∷◌}
+use Rattle.whole.specs.Plain.{ℕ, suc, refl, sym, ◌∙◌, inl, inr, Bool, true, false}
+use Rattle.whole.specs.Plain.{or-true, true≢false, List, [], length, ltb-true, ltb-false, lt-ltb, eqb-true, eq-eqb}
 use Rattle.whole.specs.Plain.{arith, Words}
 use Rattle.whole.specs.Places.{place, place_none, none_place}
 use Rattle.paper.specs.Rows.{Row, is_line, from, to}

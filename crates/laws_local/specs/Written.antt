@@ -1,6 +1,7 @@
 -- The records after an accepted step: the words of its area, what it puts there, and that it writes no others. Assumes nothing.
-use Rattle.whole.specs.Plain.{ℕ, zero, suc, ◌+◌, ◌-◌, ◌≤◌, ◌<◌, ◌≡◌, refl, sym, ap, ◌∙◌, subst, ◌≢◌, true, cond, ◌&&◌, ◌||◌, List, []}
-use Rattle.whole.specs.Plain.{◌∷◌, ltb, pos, length, get_or-eq_default, eq-eqb, ne_eqb, lt-ltb, arith, Words, z, word}
+use Rattle.std.specs.Prelude.{◌+◌, ◌-◌, ◌≤◌, ◌<◌, ◌≡◌, ◌≢◌, ◌&&◌, ◌||◌, ◌∷◌}
+use Rattle.whole.specs.Plain.{ℕ, zero, suc, refl, sym, ap, ◌∙◌, subst, true, cond, List, []}
+use Rattle.whole.specs.Plain.{ltb, pos, length, get_or-eq_default, eq-eqb, ne_eqb, lt-ltb, arith, Words, z, word}
 use Rattle.whole.specs.Folds.{and_left, and_right}
 use Rattle.whole.specs.Members.{Among}
 use Rattle.paper.specs.Limits as Limits

@@ -1,5 +1,6 @@
 -- What a call of `list` leaves in lent memory is what the advances that it makes leave: those that are accepted, in their order. Assumes nothing.
-use Rattle.whole.specs.Plain.{ℕ, suc, ◌+◌, ◌≡◌, refl, sym, ap, ◌∙◌, subst, Bool, true, false, not, ◌||◌, List, [], ◌∷◌, ◌++◌, leb}
+use Rattle.std.specs.Prelude.{◌+◌, ◌≡◌, ◌||◌, ◌∷◌, ◌++◌}
+use Rattle.whole.specs.Plain.{ℕ, suc, refl, sym, ap, ◌∙◌, subst, Bool, true, false, not, List, [], leb}
 use Rattle.whole.specs.Plain.{ltb, length, Words}
 use Rattle.whole.specs.TurnLaws.{turns_keeps}
 use Rattle.paper.specs.Limits as Limits

@@ -1,6 +1,7 @@
 -- Runs that mix the two calls which advance: from a reset, any list of calls of `advance` and of `list`, refused ones among them. Each leaves what a
 -- run of advances leaves, so the promises of such runs are promises of mixed ones. Assumes nothing.
-use Rattle.whole.specs.Plain.{ℕ, ◌≡◌, refl, sym, ap, ◌∙◌, true, List, [], ◌∷◌, ◌++◌, length, Words, ◌≤◌, ◌<◌}
+use Rattle.std.specs.Prelude.{◌≡◌, ◌∷◌, ◌++◌, ◌≤◌, ◌<◌}
+use Rattle.whole.specs.Plain.{ℕ, refl, sym, ap, ◌∙◌, true, List, [], length, Words}
 use Rattle.paper.specs.Rows.{is_line, is_breaker}
 use Rattle.paper.specs.Records.{count_of}
 use Rattle.paper.specs.Advance.{Memory, advance_of}

@@ -1,5 +1,6 @@
 -- Two studies worked to their end, in several orders. Assumes nothing.
-use Rattle.whole.specs.Plain.{ℕ, ◌≡◌, refl, List, [], ◌∷◌, map, length, replicate, z, numbers}
+use Rattle.std.specs.Prelude.{◌≡◌, ◌∷◌}
+use Rattle.whole.specs.Plain.{ℕ, refl, List, [], map, length, replicate, z, numbers}
 use Rattle.paper.specs.declared.Advance.{Advance}
 use Rattle.paper.specs.declared.Advance.TheVariants.{Done, Wait, Floating}
 use Rattle.paper.specs.Limits as Limits

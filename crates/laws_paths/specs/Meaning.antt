@@ -1,5 +1,6 @@
 -- What the areas and the search for floating nodes mean, by paths. Assumes nothing.
-use Rattle.whole.specs.Plain.{ℕ, suc, ◌≤◌, ◌<◌, ◌≡◌, refl, sym, ap, ◌∙◌, ◌⊎◌, inl, inr, ◌↔◌, Bool, true, false, cond}
+use Rattle.std.specs.Prelude.{◌≤◌, ◌<◌, ◌≡◌, ◌⊎◌, ◌↔◌}
+use Rattle.whole.specs.Plain.{ℕ, suc, refl, sym, ap, ◌∙◌, inl, inr, Bool, true, false, cond}
 use Rattle.whole.specs.Plain.{List, map, length, get_or, length-map, get_or-eq_default, dec_lt, arith, keep, numbers}
 use Rattle.whole.specs.Plain.{first}
 use Rattle.whole.specs.Folds.{length_numbers, get_d_numbers, get_d_map}

@@ -1,6 +1,7 @@
 -- "a path": what the rounds of `Spread` find out. The mark of a node is the first mark of some node that hangs together with it
 -- (`spread_sound`); that it is at most that of each such node is `spread_complete` of Reached. Assumes nothing.
-use Rattle.whole.specs.Plain.{ℕ, zero, suc, ◌≡◌, refl, ap, subst, ◌⊎◌, inl, inr, List, [], ◌∷◌, get_or, set, dec_le, arith}
+use Rattle.std.specs.Prelude.{◌≡◌, ◌⊎◌, ◌∷◌}
+use Rattle.whole.specs.Plain.{ℕ, zero, suc, refl, ap, subst, inl, inr, List, [], get_or, set, dec_le, arith}
 use Rattle.whole.specs.Plain.{fold}
 use Rattle.whole.specs.Members.{Among}
 use Rattle.whole.specs.Members as Members

@@ -1,6 +1,7 @@
 -- "a path": a path need not be longer than there are nodes, so the rounds find every one. Assumes nothing.
-use Rattle.whole.specs.Plain.{ℕ, zero, suc, ◌+◌, ◌≤◌, ◌<◌, ◌≡◌, refl, sym, ◌∙◌, subst, ◌≢◌, ◌⊎◌, inl, inr, Bool, true}
-use Rattle.whole.specs.Plain.{false, not, ◌&&◌, and-true, and-false, true≢false, List, eqb, ltb, length, eq-eqb, ne_eqb}
+use Rattle.std.specs.Prelude.{◌+◌, ◌≤◌, ◌<◌, ◌≡◌, ◌≢◌, ◌⊎◌, ◌&&◌}
+use Rattle.whole.specs.Plain.{ℕ, zero, suc, refl, sym, ◌∙◌, subst, inl, inr, Bool, true}
+use Rattle.whole.specs.Plain.{false, not, and-true, and-false, true≢false, List, eqb, ltb, length, eq-eqb, ne_eqb}
 use Rattle.whole.specs.Plain.{ltb-true, lt-ltb, ℕ_discrete, arith, count, numbers}
 use Rattle.whole.specs.Folds.{and_left}
 use Rattle.whole.specs.Turns.{run, turns}

@@ -1,5 +1,6 @@
 -- What a round does to the marks: none rises, and each comes to its neighbours' at most. Assumes nothing.
-use Rattle.whole.specs.Plain.{ℕ, zero, suc, ◌≤◌, ◌<◌, ◌≡◌, refl, ap, ◌∙◌, inl, inr, List, [], ◌∷◌, Mem-cases_cons}
+use Rattle.std.specs.Prelude.{◌≤◌, ◌<◌, ◌≡◌, ◌∷◌}
+use Rattle.whole.specs.Plain.{ℕ, zero, suc, refl, ap, ◌∙◌, inl, inr, List, [], Mem-cases_cons}
 use Rattle.whole.specs.Plain.{Mem-not_nil, length, set, length-set, get_or-set_same, arith, fold}
 use Rattle.whole.specs.Turns.{run}
 use Rattle.paper.specs.Spread.{Join, mark, lower, joined, round}

@@ -1,7 +1,8 @@
 -- T-peak: over every run from a reset, a node's peak and its step "equal the maximum over all accepted steps of that node's area and its first place;
 -- before any step both are 0". Assumes nothing.
-use Rattle.whole.specs.Plain.{ℕ, suc, ◌≤◌, ◌<◌, ◌≡◌, refl, sym, ap, ◌∙◌, subst, ◌≢◌, ◌⊎◌, inl, inr, Bool, true, false, cond, ◌||◌}
-use Rattle.whole.specs.Plain.{true≢false, List, [], ◌∷◌, ◌++◌, eqb, ℤ, pos, negsuc, nat_abs, lt_z, non_neg, length}
+use Rattle.std.specs.Prelude.{◌≤◌, ◌<◌, ◌≡◌, ◌≢◌, ◌⊎◌, ◌||◌, ◌∷◌, ◌++◌}
+use Rattle.whole.specs.Plain.{ℕ, suc, refl, sym, ap, ◌∙◌, subst, inl, inr, Bool, true, false, cond}
+use Rattle.whole.specs.Plain.{true≢false, List, [], eqb, ℤ, pos, negsuc, nat_abs, lt_z, non_neg, length}
 use Rattle.whole.specs.Plain.{length-append, eqb-true, eqb-false, ltb-true, ltb-false, arith, Words, z, word, nat}
 use Rattle.paper.specs.declared.Advance.TheVariants.{Took}
 use Rattle.paper.specs.Limits as Limits

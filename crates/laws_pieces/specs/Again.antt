@@ -1,6 +1,7 @@
 -- T-again: what a call answers after one that a refused area stopped. Nothing is undone: where area 1 was refused all areas stand where the last full step
 -- left them, and the same is answered again; else some have taken a step more than others, which is refused by 10. Assumes nothing.
-use Rattle.whole.specs.Plain.{ℕ, suc, ◌+◌, ◌-◌, ◌≤◌, ◌<◌, ◌≡◌, ◌≢◌, refl, sym, ap, ◌∙◌, Bool, true, false, cond, not, ◌||◌, List, [], ◌++◌, ltb}
+use Rattle.std.specs.Prelude.{◌+◌, ◌-◌, ◌≤◌, ◌<◌, ◌≡◌, ◌≢◌, ◌||◌, ◌++◌}
+use Rattle.whole.specs.Plain.{ℕ, suc, refl, sym, ap, ◌∙◌, Bool, true, false, cond, not, List, [], ltb}
 use Rattle.whole.specs.Plain.{le-leb, dec_le, arith, Words, not-false}
 use Rattle.paper.specs.declared.Advance.{Advance}
 use Rattle.paper.specs.declared.Listing.TheVariants.{Stopped, Network, Store, State}

@@ -1,5 +1,6 @@
 -- T-pieces: the pieces that repeated calls list, one after another, are the listing, whatever the lengths of the buffers. Assumes nothing.
-use Rattle.whole.specs.Plain.{ℕ, zero, suc, ◌+◌, ◌-◌, ◌≤◌, ◌<◌, ◌≡◌, refl, sym, ap, ◌∙◌, true, List, [], ◌++◌, length}
+use Rattle.std.specs.Prelude.{◌+◌, ◌-◌, ◌≤◌, ◌<◌, ◌≡◌, ◌++◌}
+use Rattle.whole.specs.Plain.{ℕ, zero, suc, refl, sym, ap, ◌∙◌, true, List, [], length}
 use Rattle.whole.specs.Plain.{le-leb, lt-leb, dec_le, arith, Words}
 use Rattle.std.proofs.Common.{add-one}
 use Rattle.paper.specs.declared.Listing.{Listing}

@@ -1,5 +1,6 @@
 -- A network without areas: it has no nodes and no rows, and a run of it lists nothing before its last line. Assumes nothing.
-use Rattle.whole.specs.Plain.{ℕ, suc, ◌<◌, ◌+◌, ◌≡◌, refl, sym, ap, ◌∙◌, Bool, true, false, cond, [], length, dec_lt}
+use Rattle.std.specs.Prelude.{◌<◌, ◌+◌, ◌≡◌}
+use Rattle.whole.specs.Plain.{ℕ, suc, refl, sym, ap, ◌∙◌, Bool, true, false, cond, [], length, dec_lt}
 use Rattle.whole.specs.Plain.{arith, Words, numbers}
 use Rattle.whole.specs.Turns.{turns_done}
 use Rattle.whole.specs.TurnLaws.{turns_keeps}

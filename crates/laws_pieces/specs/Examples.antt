@@ -1,5 +1,6 @@
 -- E3 by pieces: a buffer of 4,160 bytes takes one step at a time; and two nodes that float, in the first area and in the second. Assumes nothing.
-use Rattle.whole.specs.Plain.{◌≡◌, refl, [], ◌∷◌, replicate, Words, z}
+use Rattle.std.specs.Prelude.{◌≡◌, ◌∷◌}
+use Rattle.whole.specs.Plain.{refl, [], replicate, Words, z}
 use Rattle.paper.specs.declared.Listing.TheVariants.{More, Done, Stopped, State}
 use Rattle.paper.specs.declared.Advance.TheVariants.{Floating}
 use Rattle.paper.specs.Limits as Limits

@@ -1,5 +1,6 @@
 -- T-kept, of listing: a call refused with 8, 9 or 10 writes nothing and leaves all lent memory as it was. Assumes nothing.
-use Rattle.whole.specs.Plain.{ℕ, suc, ◌+◌, ◌≡◌, refl, sym, ◌∙◌, Bool, true, false, not, ◌||◌, true≢false, List, [], leb}
+use Rattle.std.specs.Prelude.{◌+◌, ◌≡◌, ◌||◌}
+use Rattle.whole.specs.Plain.{ℕ, suc, refl, sym, ◌∙◌, Bool, true, false, not, true≢false, List, [], leb}
 use Rattle.whole.specs.Plain.{ltb, length, arith, Words}
 use Rattle.paper.specs.declared.Listing.{Listing}
 use Rattle.paper.specs.declared.Listing.TheVariants.{More, Done, Stopped, Network, Store, State}

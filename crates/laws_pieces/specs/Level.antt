@@ -1,6 +1,7 @@
 -- States in step: all areas have taken k steps, or those before one of them have taken one more. There no area waits for another, and an accepted
 -- advance leads on. Assumes nothing.
-use Rattle.whole.specs.Plain.{ℕ, suc, ◌+◌, ◌-◌, ◌≤◌, ◌<◌, ◌≡◌, sym, ap, ◌∙◌, true, false, true≢false, eqb, length, le-leb, lt-leb, eqb-true, ℕ_discrete, dec_lt, arith, Words, numbers}
+use Rattle.std.specs.Prelude.{◌+◌, ◌-◌, ◌≤◌, ◌<◌, ◌≡◌}
+use Rattle.whole.specs.Plain.{ℕ, suc, sym, ap, ◌∙◌, true, false, true≢false, eqb, length, le-leb, lt-leb, eqb-true, ℕ_discrete, dec_lt, arith, Words, numbers}
 use Rattle.whole.specs.Folds.{both, every_at, length_numbers, get_d_numbers}
 use Rattle.paper.specs.Rows.{from, to, steps}
 use Rattle.paper.specs.Network.{is_network}

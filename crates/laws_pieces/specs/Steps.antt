@@ -1,5 +1,6 @@
 -- A full step from a state in step: all areas take it and its lines are listed, or a refused area ends the piece. Assumes nothing.
-use Rattle.whole.specs.Plain.{ℕ, zero, suc, ◌+◌, ◌-◌, ◌≤◌, ◌<◌, ◌≡◌, refl, ap, ◌∙◌, true, false, List, ◌++◌, arith}
+use Rattle.std.specs.Prelude.{◌+◌, ◌-◌, ◌≤◌, ◌<◌, ◌≡◌, ◌++◌}
+use Rattle.whole.specs.Plain.{ℕ, zero, suc, refl, ap, ◌∙◌, true, false, List, arith}
 use Rattle.whole.specs.Plain.{Words}
 use Rattle.paper.specs.declared.Listing.TheVariants.{Stopped}
 use Rattle.whole.specs.Turns.{run, turns}

@@ -1,5 +1,6 @@
 -- T-pieces, of a whole run: from a reset, the pieces of at most as many calls as the study has steps are the listing. Assumes nothing.
-use Rattle.whole.specs.Plain.{ℕ, ◌+◌, ◌-◌, ◌≤◌, ◌<◌, ◌≡◌, refl, sym, ap, ◌∙◌, Bool, true, cond, not, List, [], ◌∷◌, ◌++◌}
+use Rattle.std.specs.Prelude.{◌+◌, ◌-◌, ◌≤◌, ◌<◌, ◌≡◌, ◌∷◌, ◌++◌}
+use Rattle.whole.specs.Plain.{ℕ, refl, sym, ap, ◌∙◌, Bool, true, cond, not, List, []}
 use Rattle.whole.specs.Plain.{append-nil, leb, eqb, pos, length, replicate, eq-eqb, ne_eqb, le-ltb, leb-true, le_trans}
 use Rattle.whole.specs.Plain.{ℕ_discrete, arith, Words, z, nat, every, numbers}
 use Rattle.paper.specs.declared.Reading.{Reading}

@@ -1,6 +1,7 @@
 -- T-ends and T-reach: any two orders that go on until every area answers DONE, WAIT or one of 14 to 17 end alike; and an area that no chain of lines
 -- ties to a stopped one has then taken all its steps. Assumes nothing.
-use Rattle.whole.specs.Plain.{ℕ, zero, suc, ◌≤◌, ◌<◌, ◌≡◌, refl, sym, ◌∙◌, inl, inr, Bool, true, false, true≢false, List}
+use Rattle.std.specs.Prelude.{◌≤◌, ◌<◌, ◌≡◌}
+use Rattle.whole.specs.Plain.{ℕ, zero, suc, refl, sym, ◌∙◌, inl, inr, Bool, true, false, true≢false, List}
 use Rattle.whole.specs.Plain.{length, zero-add, arith, Words}
 use Rattle.std.proofs.Common.{le_antisymm}
 use Rattle.paper.specs.declared.Advance.{Advance}

@@ -1,7 +1,8 @@
 -- T-received: what a line end hears at its area's accepted step k is what it receives of what the far end sent at its own accepted steps of that run:
 -- at k - q, where the travel time lies between steps also at k - q - 1, and 0 before step 1; and there is one such step. Assumes nothing.
-use Rattle.whole.specs.Plain.{ℕ, suc, ◌+◌, ◌≤◌, ◌<◌, ◌≡◌, refl, sym, ap, ◌∙◌, ◌⊎◌, inl, inr, Bool, true, false}
-use Rattle.whole.specs.Plain.{◌&&◌, List, [], ◌∷◌, ◌++◌, eqb, ℤ, length, eq-eqb, arith, Words, word}
+use Rattle.std.specs.Prelude.{◌+◌, ◌≤◌, ◌<◌, ◌≡◌, ◌⊎◌, ◌&&◌, ◌∷◌, ◌++◌}
+use Rattle.whole.specs.Plain.{ℕ, suc, refl, sym, ap, ◌∙◌, inl, inr, Bool, true, false}
+use Rattle.whole.specs.Plain.{List, [], eqb, ℤ, length, eq-eqb, arith, Words, word}
 use Rattle.paper.specs.declared.Advance.{Advance}
 use Rattle.paper.specs.declared.Advance.TheVariants.{Took}
 use Rattle.paper.specs.Answers.{accepted}

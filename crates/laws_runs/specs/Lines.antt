@@ -1,6 +1,7 @@
 -- T-received in voltages and currents alone: at an accepted step k of a run, the current of a line's end is g·v and what it receives of what the far
 -- end's g·v and current came to at its own accepted steps of that run, with a minus. No store is spoken of. Assumes nothing.
-use Rattle.whole.specs.Plain.{ℕ, ◌<◌, ◌≡◌, refl, sym, ap, ◌∙◌, true, List, ℤ, neg_ℤ, ◌+ℤ◌, length}
+use Rattle.std.specs.Prelude.{◌<◌, ◌≡◌, ◌+ℤ◌}
+use Rattle.whole.specs.Plain.{ℕ, refl, sym, ap, ◌∙◌, true, List, ℤ, neg_ℤ, length}
 use Rattle.whole.specs.Plain.{Words, word}
 use Rattle.paper.specs.declared.Advance.TheVariants.{Took}
 use Rattle.paper.specs.Rows.{is_line}

@@ -1,6 +1,7 @@
 -- What an area lives through in a run: only its own accepted steps change its words. So what holds of them is shown by a fold over these steps: at the
 -- reset, at a call that is refused or of another area, and at each accepted step. Assumes nothing.
-use Rattle.whole.specs.Plain.{ℕ, ◌≡◌, refl, sym, ap, ◌∙◌, subst, ◌≢◌, Bool, true, false, true≢false, List, [], ◌∷◌, ◌++◌}
+use Rattle.std.specs.Prelude.{◌≡◌, ◌≢◌, ◌∷◌, ◌++◌}
+use Rattle.whole.specs.Plain.{ℕ, refl, sym, ap, ◌∙◌, subst, Bool, true, false, true≢false, List, []}
 use Rattle.whole.specs.Plain.{append_assoc, append-nil, length, length-append, append_snoc, ℕ_discrete, arith, Words, nat}
 use Rattle.paper.specs.declared.Advance.TheVariants.{Took}
 use Rattle.paper.specs.Answers.{accepted}

@@ -1,6 +1,7 @@
 -- The calls of an area as moves that do not disturb one another: each writes only its own words, reads only those and what it hears, and what
 -- another is about to hear is left alone. Assumes nothing.
-use Rattle.whole.specs.Plain.{ℕ, suc, ◌≤◌, ◌≡◌, refl, sym, ap, ◌∙◌, ◌≢◌, true, false, cond, not, ◌&&◌, true≢false, List}
+use Rattle.std.specs.Prelude.{◌≤◌, ◌≡◌, ◌≢◌, ◌&&◌}
+use Rattle.whole.specs.Plain.{ℕ, suc, refl, sym, ap, ◌∙◌, true, false, cond, not, true≢false, List}
 use Rattle.whole.specs.Plain.{[], leb, ℤ, ext_get_or, leb-true, ℕ_discrete, arith, Words, z, word}
 use Rattle.paper.specs.declared.Advance.{Advance}
 use Rattle.paper.specs.declared.Advance.TheVariants.{Took, Network, Store, State, Area, Done, Wait, Floating, Range, Unbalanced, History}

@@ -1,6 +1,7 @@
 -- Demand 3: any two orders of calls, refused ones among them, with equal counts of accepted advances in every area, agree in everything. Assumes
 -- nothing.
-use Rattle.whole.specs.Plain.{ℕ, ◌≡◌, refl, sym, ap, ◌∙◌, true, false, ◌&&◌, List, [], ◌∷◌, eqb, length, eqb-true}
+use Rattle.std.specs.Prelude.{◌≡◌, ◌&&◌, ◌∷◌}
+use Rattle.whole.specs.Plain.{ℕ, refl, sym, ap, ◌∙◌, true, false, List, [], eqb, length, eqb-true}
 use Rattle.whole.specs.Plain.{dec_le, Words}
 use Rattle.whole.specs.Folds.{and_left, and_right}
 use Rattle.paper.specs.Answers.{accepted}

@@ -1,7 +1,8 @@
 -- What a line end sent in a run: of the steps that its area has taken, the last are in their slots, each as it stood right after that accepted step.
 -- Assumes nothing.
-use Rattle.whole.specs.Plain.{ℕ, suc, ◌+◌, ◌-◌, ◌%◌, ◌≤◌, ◌<◌, ◌≡◌, refl, sym, ap, ◌∙◌, subst, ◌≢◌, Bool, true, false}
-use Rattle.whole.specs.Plain.{List, [], ◌∷◌, ◌++◌, append_assoc, append-nil, ℤ, length, append_snoc, mod-lt, ℕ_discrete}
+use Rattle.std.specs.Prelude.{◌+◌, ◌-◌, ◌%◌, ◌≤◌, ◌<◌, ◌≡◌, ◌≢◌, ◌∷◌, ◌++◌}
+use Rattle.whole.specs.Plain.{ℕ, suc, refl, sym, ap, ◌∙◌, subst, Bool, true, false}
+use Rattle.whole.specs.Plain.{List, [], append_assoc, append-nil, ℤ, length, append_snoc, mod-lt, ℕ_discrete}
 use Rattle.whole.specs.Plain.{arith, Words, word}
 use Rattle.paper.specs.declared.Advance.TheVariants.{Took}
 use Rattle.whole.specs.Folds.{and_left}

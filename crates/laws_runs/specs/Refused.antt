@@ -1,7 +1,8 @@
 -- What a run is answered: never 8, 9 or 10; a refusal of 14 to 17 at the same step in every order; never 13 where an area has the fewest steps.
 -- Assumes nothing.
-use Rattle.whole.specs.Plain.{ℕ, suc, ◌+◌, ◌≤◌, ◌≡◌, refl, sym, ap, ◌∙◌, subst, ◌≢◌, Bool, true, false, ◌&&◌, List, []}
-use Rattle.whole.specs.Plain.{◌∷◌, eqb, length, eqb-true, eqb-false, arith, Words, z, nat}
+use Rattle.std.specs.Prelude.{◌+◌, ◌≤◌, ◌≡◌, ◌≢◌, ◌&&◌, ◌∷◌}
+use Rattle.whole.specs.Plain.{ℕ, suc, refl, sym, ap, ◌∙◌, subst, Bool, true, false, List, []}
+use Rattle.whole.specs.Plain.{eqb, length, eqb-true, eqb-false, arith, Words, z, nat}
 use Rattle.paper.specs.declared.Advance.{Advance}
 use Rattle.paper.specs.Limits as Limits
 use Rattle.paper.specs.Answers.{accepted, advance_number}

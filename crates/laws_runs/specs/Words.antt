@@ -1,6 +1,7 @@
 -- T-order, of every step on the way: not only do two orders end alike, each area's own words right after each of its accepted steps are the same in
 -- both. Assumes nothing.
-use Rattle.whole.specs.Plain.{ℕ, suc, ◌≡◌, refl, sym, ap, ◌∙◌, fun_ext, Bool, true, false, cond, ◌&&◌, List, [], ◌∷◌}
+use Rattle.std.specs.Prelude.{◌≡◌, ◌&&◌, ◌∷◌}
+use Rattle.whole.specs.Plain.{ℕ, suc, refl, sym, ap, ◌∙◌, fun_ext, Bool, true, false, cond, List, []}
 use Rattle.whole.specs.Plain.{eqb, ℤ, length, eqb-true, Words, z}
 use Rattle.paper.specs.declared.Advance.{Advance}
 use Rattle.paper.specs.Answers.{accepted}

@@ -1,6 +1,7 @@
 -- "Numbers are decimal without leading zeros": each number has one spelling, and each spelling is of one number. Assumes nothing.
-use Rattle.whole.specs.Plain.{ℕ, zero, suc, ◌+◌, ◌*◌, ◌-◌, ◌/◌, ◌%◌, ◌^◌, ◌≤◌, ◌<◌, ◌≡◌, refl, sym, ap, ◌∙◌, subst}
-use Rattle.whole.specs.Plain.{Bool, true, false, not, ◌&&◌, true≢false, List, [], ◌∷◌, ◌++◌, append_assoc, append-nil}
+use Rattle.std.specs.Prelude.{◌+◌, ◌*◌, ◌-◌, ◌/◌, ◌%◌, ◌^◌, ◌≤◌, ◌<◌, ◌≡◌, ◌&&◌, ◌∷◌, ◌++◌}
+use Rattle.whole.specs.Plain.{ℕ, zero, suc, refl, sym, ap, ◌∙◌, subst}
+use Rattle.whole.specs.Plain.{Bool, true, false, not, true≢false, List, [], append_assoc, append-nil}
 use Rattle.whole.specs.Plain.{leb, eqb, length, length-append, leb-true, le-leb, eqb-false, eq-eqb, ne_eqb, not-true}
 use Rattle.whole.specs.Plain.{pow-suc, dec_lt, arith, every, fold}
 use Rattle.whole.specs.Folds.{and_left, and_right, both, fold_append, every_append}

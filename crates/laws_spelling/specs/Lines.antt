@@ -1,6 +1,7 @@
 -- A line and the row that it says: "a line's word, fields or spelling". Assumes nothing.
-use Rattle.whole.specs.Plain.{ℕ, zero, suc, ◌+◌, ◌≤◌, ◌<◌, ◌≡◌, refl, sym, ap, ◌∙◌, Bool, true, false, cond, not, ◌&&◌}
-use Rattle.whole.specs.Plain.{bool_beq, true≢false, List, [], ◌∷◌, map, tail, eqb, ltb, pos, length, get_or, eqb-true}
+use Rattle.std.specs.Prelude.{◌+◌, ◌≤◌, ◌<◌, ◌≡◌, ◌&&◌, ◌∷◌}
+use Rattle.whole.specs.Plain.{ℕ, zero, suc, refl, sym, ap, ◌∙◌, Bool, true, false, cond, not}
+use Rattle.whole.specs.Plain.{bool_beq, true≢false, List, [], map, tail, eqb, ltb, pos, length, get_or, eqb-true}
 use Rattle.whole.specs.Plain.{eqb-false, ne_eqb, ltb-true, not-true, zero-add, arith, Words, every, same_bytes, numbers}
 use Rattle.whole.specs.Folds.{length_numbers, and_left, and_right, both, every_weaken, every_at, get_d_numbers}
 use Rattle.paper.specs.Rows.{Row, Kind, bytes, kinds, unknown, no_kind, word_of, fields_of, kind, is_study}

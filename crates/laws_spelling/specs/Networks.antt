@@ -1,6 +1,7 @@
 -- T-network: a record passes the check of refusal 8 exactly when some text is read to it. Assumes nothing.
-use Rattle.whole.specs.Plain.{ℕ, zero, suc, ◌+◌, ◌*◌, ◌≤◌, ◌<◌, ◌≡◌, refl, sym, ap, ◌∙◌, subst, ◌≢◌, ◌↔◌, Bool, true}
-use Rattle.whole.specs.Plain.{false, cond, not, ◌&&◌, bool_beq, true≢false, List, [], ◌∷◌, ◌++◌, map, append_assoc}
+use Rattle.std.specs.Prelude.{◌+◌, ◌*◌, ◌≤◌, ◌<◌, ◌≡◌, ◌≢◌, ◌↔◌, ◌&&◌, ◌∷◌, ◌++◌}
+use Rattle.whole.specs.Plain.{ℕ, zero, suc, refl, sym, ap, ◌∙◌, subst, Bool, true}
+use Rattle.whole.specs.Plain.{false, cond, not, bool_beq, true≢false, List, [], map, append_assoc}
 use Rattle.whole.specs.Plain.{append-nil, eqb, leb, ltb, length, get_or, take, drop, replicate, length-append}
 use Rattle.whole.specs.Plain.{length-take, length-map, length-replicate, eqb-true, eq-eqb, le-ltb, le-leb, ℕ_discrete}
 use Rattle.whole.specs.Plain.{arith, Words, z, nat, every, empty, fold}

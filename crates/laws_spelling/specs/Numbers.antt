@@ -1,6 +1,7 @@
 -- A field's number and its spelling: "a minus stands only before a nonzero peak". Assumes nothing.
-use Rattle.whole.specs.Plain.{ℕ, zero, suc, ◌^◌, ◌≤◌, ◌<◌, ◌≡◌, refl, sym, ap, ◌∙◌, Bool, true, false, not, ◌&&◌, ◌||◌}
-use Rattle.whole.specs.Plain.{or-true, true≢false, List, [], ◌∷◌, map, ltb, eqb, ℤ, pos, negsuc, neg_ℤ, nat_abs, non_neg}
+use Rattle.std.specs.Prelude.{◌^◌, ◌≤◌, ◌<◌, ◌≡◌, ◌&&◌, ◌||◌, ◌∷◌}
+use Rattle.whole.specs.Plain.{ℕ, zero, suc, refl, sym, ap, ◌∙◌, Bool, true, false, not}
+use Rattle.whole.specs.Plain.{or-true, true≢false, List, [], map, ltb, eqb, ℤ, pos, negsuc, neg_ℤ, nat_abs, non_neg}
 use Rattle.whole.specs.Plain.{length, get_or, eqb-true, ne_eqb, lt-ltb, dec_lt, arith, Words, every}
 use Rattle.whole.specs.Folds.{and_left, and_right, both, every_weaken}
 use Rattle.paper.specs.Rows.{Field, signed}

@@ -1,6 +1,7 @@
 -- Pieces parted by a byte, and put together again. Assumes nothing.
-use Rattle.whole.specs.Plain.{ℕ, ◌+◌, ◌*◌, ◌≤◌, ◌<◌, ◌≡◌, refl, sym, ap, ◌∙◌, ◌≢◌, Bool, true, false, not, List, [], ◌∷◌}
-use Rattle.whole.specs.Plain.{◌++◌, eqb, ltb, length, length-append, eqb-true, eq-eqb, ne_eqb, ltb-true, not-true}
+use Rattle.std.specs.Prelude.{◌+◌, ◌*◌, ◌≤◌, ◌<◌, ◌≡◌, ◌≢◌, ◌∷◌, ◌++◌}
+use Rattle.whole.specs.Plain.{ℕ, refl, sym, ap, ◌∙◌, Bool, true, false, not, List, []}
+use Rattle.whole.specs.Plain.{eqb, ltb, length, length-append, eqb-true, eq-eqb, ne_eqb, ltb-true, not-true}
 use Rattle.whole.specs.Plain.{arith, every, lead, final}
 use Rattle.whole.specs.Folds.{and_left, and_right, both, every_append}
 use Rattle.paper.specs.Text.{split, cut}

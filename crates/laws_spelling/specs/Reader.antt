@@ -1,6 +1,7 @@
 -- The reader goes by the lines of a spelling alone, finds no FORM in it, and takes no other text. Assumes nothing.
-use Rattle.whole.specs.Plain.{ℕ, zero, suc, ◌<◌, ◌≤◌, ◌≡◌, refl, sym, ap, ◌∙◌, ◌≢◌, Bool, true, false, cond, not, ◌||◌}
-use Rattle.whole.specs.Plain.{bool_beq, true≢false, List, [], ◌∷◌, ◌++◌, map, tail, append_assoc, append-nil, eqb, ltb}
+use Rattle.std.specs.Prelude.{◌<◌, ◌≤◌, ◌≡◌, ◌≢◌, ◌||◌, ◌∷◌, ◌++◌}
+use Rattle.whole.specs.Plain.{ℕ, zero, suc, refl, sym, ap, ◌∙◌, Bool, true, false, cond, not}
+use Rattle.whole.specs.Plain.{bool_beq, true≢false, List, [], map, tail, append_assoc, append-nil, eqb, ltb}
 use Rattle.whole.specs.Plain.{lit≤, length, get_or, ne_eqb, arith, Words, empty, lead, final, fold}
 use Rattle.whole.specs.Folds.{both, fold_keeps}
 use Rattle.paper.specs.declared.Reading.{Reading}

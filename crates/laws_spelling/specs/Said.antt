@@ -1,6 +1,7 @@
 -- The rows of a network record are lines that a text can say, in few bytes. Assumes nothing.
-use Rattle.whole.specs.Plain.{ℕ, suc, ◌≤◌, ◌<◌, ◌≡◌, refl, sym, ap, ◌∙◌, Bool, true, false, ◌&&◌, ◌||◌, or-true, true≢false}
-use Rattle.whole.specs.Plain.{List, [], ◌∷◌, map, tail, leb, ltb, ℤ, pos, negsuc, nat_abs, le_z, lt_z, non_neg, length}
+use Rattle.std.specs.Prelude.{◌≤◌, ◌<◌, ◌≡◌, ◌&&◌, ◌||◌, ◌∷◌}
+use Rattle.whole.specs.Plain.{ℕ, suc, refl, sym, ap, ◌∙◌, Bool, true, false, or-true, true≢false}
+use Rattle.whole.specs.Plain.{List, [], map, tail, leb, ltb, ℤ, pos, negsuc, nat_abs, le_z, lt_z, non_neg, length}
 use Rattle.whole.specs.Plain.{get_or, length-map, leb-true, le-leb, lt-ltb, arith, Words, z, word, between, every}
 use Rattle.whole.specs.Folds.{and_left, and_right, both, every_at, every_map, every_weaken}
 use Rattle.paper.specs.Limits as Limits

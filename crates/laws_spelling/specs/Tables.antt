@@ -1,6 +1,7 @@
 -- A table of lines that passes, written down as a record, is a network: what the record says is the table again. Assumes nothing.
-use Rattle.whole.specs.Plain.{ℕ, suc, ◌-◌, ◌<◌, ◌≡◌, refl, sym, ap, ◌∙◌, subst, Bool, true, false, bool_beq, true≢false}
-use Rattle.whole.specs.Plain.{List, [], ◌∷◌, ◌++◌, tail, append_assoc, ℤ, pos, negsuc, length, replicate, take_at}
+use Rattle.std.specs.Prelude.{◌-◌, ◌<◌, ◌≡◌, ◌∷◌, ◌++◌}
+use Rattle.whole.specs.Plain.{ℕ, suc, refl, sym, ap, ◌∙◌, subst, Bool, true, false, bool_beq, true≢false}
+use Rattle.whole.specs.Plain.{List, [], tail, append_assoc, ℤ, pos, negsuc, length, replicate, take_at}
 use Rattle.whole.specs.Plain.{drop_at, eq-eqb, eqb-true, le-leb, arith, Words, z, between, same, same_words, filled}
 use Rattle.whole.specs.Folds.{and_right, both}
 use Rattle.paper.specs.Limits as Limits

@@ -1,7 +1,8 @@
 -- T-spelling: a text of which no line is at fault by FORM is the spelling of exactly one list of lines, and the reader goes by these lines alone.
 -- Assumes nothing.
-use Rattle.whole.specs.Plain.{ℕ, ◌<◌, ◌≡◌, refl, sym, ap, ◌∙◌, Bool, true, false, not, ◌&&◌, bool_beq, true≢false, List}
-use Rattle.whole.specs.Plain.{[], ◌∷◌, ◌++◌, map, length, length-append, arith, every, empty, lead, final}
+use Rattle.std.specs.Prelude.{◌<◌, ◌≡◌, ◌&&◌, ◌∷◌, ◌++◌}
+use Rattle.whole.specs.Plain.{ℕ, refl, sym, ap, ◌∙◌, Bool, true, false, not, bool_beq, true≢false, List}
+use Rattle.whole.specs.Plain.{[], map, length, length-append, arith, every, empty, lead, final}
 use Rattle.whole.specs.Folds.{and_left, and_right, both, every_append}
 use Rattle.paper.specs.Rows.{Row, is_study}
 use Rattle.paper.specs.Text.{LF, split, formed, row_of}

@@ -1,6 +1,7 @@
 -- T-write, K1: "Reading what it wrote gives the same record, and writing what was read gives the same bytes, since the text has one spelling for each
 -- network." Assumes nothing.
-use Rattle.whole.specs.Plain.{ℕ, ◌≤◌, ◌≡◌, refl, sym, ap, ◌∙◌, Bool, true, false, cond, not, ◌||◌, List, [], ◌∷◌, ◌++◌}
+use Rattle.std.specs.Prelude.{◌≤◌, ◌≡◌, ◌||◌, ◌∷◌, ◌++◌}
+use Rattle.whole.specs.Plain.{ℕ, refl, sym, ap, ◌∙◌, Bool, true, false, cond, not, List, []}
 use Rattle.whole.specs.Plain.{map, tail, append_assoc, eqb, ltb, ℤ, nat_abs, length, take, drop, take_at, length-append}
 use Rattle.whole.specs.Plain.{eq-eqb, le-ltb, leb-true, arith, Words, every}
 use Rattle.whole.specs.Folds.{and_left, and_right}

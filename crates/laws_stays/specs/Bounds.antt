@@ -1,5 +1,6 @@
 -- Every word that an accepted step writes is within its end. Assumes nothing.
-use Rattle.whole.specs.Plain.{ℕ, suc, ◌+◌, ◌%◌, ◌≤◌, ◌<◌, ◌≡◌, refl, Bool, true, not, ◌&&◌, List, ltb, ℤ, nat_abs, lt_z, length}
+use Rattle.std.specs.Prelude.{◌+◌, ◌%◌, ◌≤◌, ◌<◌, ◌≡◌, ◌&&◌}
+use Rattle.whole.specs.Plain.{ℕ, suc, refl, Bool, true, not, List, ltb, ℤ, nat_abs, lt_z, length}
 use Rattle.whole.specs.Plain.{get_or-replicate, ltb-true, le_trans, mod-lt, ℕ_discrete, dec_lt, arith, Words, z, word}
 use Rattle.whole.specs.Members.{Among, All, all_among}
 use Rattle.whole.specs.Folds.{and_left}

@@ -1,6 +1,7 @@
 -- 10 STATE, word by word: "Records are well formed when counts are 0 to steps, voltages, histories and sent values are in range, current magnitudes
 -- are at most 1.4·10^17, areas at a line's two ends differ by at most d in count, and unused words are zero"; and peaks and latches (02). Assumes nothing.
-use Rattle.whole.specs.Plain.{ℕ, ◌+◌, ◌-◌, ◌≤◌, ◌<◌, ◌≡◌, refl, sym, Bool, true, false, not, ◌&&◌, ◌||◌, true≢false, [], leb, ℤ}
+use Rattle.std.specs.Prelude.{◌+◌, ◌-◌, ◌≤◌, ◌<◌, ◌≡◌, ◌&&◌, ◌||◌}
+use Rattle.whole.specs.Plain.{ℕ, refl, sym, Bool, true, false, not, true≢false, [], leb, ℤ}
 use Rattle.whole.specs.Plain.{nat_abs, non_neg, length, get_or, take, replicate, leb-true, le-leb, arith, Words, word, nat, up_to, every, within, numbers}
 use Rattle.whole.specs.Folds.{and_left, and_right, both, every_at, every_if, length_numbers, get_d_numbers}
 use Rattle.whole.specs.Within.{within_at, at_within, take_every, every_take}

@@ -1,5 +1,6 @@
 -- Latches that are well formed stay so: as they are with a later count, and as a step leaves them. Assumes nothing.
-use Rattle.whole.specs.Plain.{ℕ, ◌≤◌, ◌≡◌, refl, Bool, true, false, cond, not, ◌&&◌, ◌||◌, leb, eqb, ℤ, pos, lt_z, non_neg, le_trans, leb-true, le-leb, ne_eqb, arith, z, nat}
+use Rattle.std.specs.Prelude.{◌≤◌, ◌≡◌, ◌&&◌, ◌||◌}
+use Rattle.whole.specs.Plain.{ℕ, refl, Bool, true, false, cond, not, leb, eqb, ℤ, pos, lt_z, non_neg, le_trans, leb-true, le-leb, ne_eqb, arith, z, nat}
 use Rattle.whole.specs.Folds.{and_left, and_right, both}
 use Rattle.paper.specs.Rows.{Row}
 use Rattle.paper.specs.Latch.{crosses, may_part, parts, new_latch, latch_formed}

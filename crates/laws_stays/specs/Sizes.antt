@@ -1,7 +1,8 @@
 -- "current magnitudes are at most 1.4·10^17": a conductance of 10^9 at most, times a voltage between two nodes of 4·10^7 at most, and a history of
 -- 10^17 at most. What is passed on is in its range by refusal 17. Assumes nothing.
-use Rattle.whole.specs.Plain.{ℕ, zero, suc, ◌*◌, ◌^◌, ◌≤◌, ◌<◌, ◌≡◌, refl, sym, ap, ◌∙◌, subst, Bool, true, false}
-use Rattle.whole.specs.Plain.{cond, ◌&&◌, List, [], ◌∷◌, eqb, ℤ, pos, nat_abs, ◌-ℤ◌, ◌*ℤ◌, length, get_or, replicate}
+use Rattle.std.specs.Prelude.{◌*◌, ◌^◌, ◌≤◌, ◌<◌, ◌≡◌, ◌&&◌, ◌∷◌, ◌-ℤ◌, ◌*ℤ◌}
+use Rattle.whole.specs.Plain.{ℕ, zero, suc, refl, sym, ap, ◌∙◌, subst, Bool, true, false}
+use Rattle.whole.specs.Plain.{cond, List, [], eqb, ℤ, pos, nat_abs, length, get_or, replicate}
 use Rattle.whole.specs.Plain.{leb-true, not-false, arith, Words, z, word, up_to, numbers}
 use Rattle.whole.specs.Int.{abs_neg, abs_add_le, abs_sub_le, abs_mul_le}
 use Rattle.whole.specs.Folds.{and_left, and_right, length_numbers, get_d_map, get_d_numbers}

@@ -1,5 +1,6 @@
 -- T-fresh and T-stays: what reset writes is well formed, and a call leaves a well-formed state well formed. Assumes nothing.
-use Rattle.whole.specs.Plain.{ℕ, zero, suc, ◌+◌, ◌-◌, ◌≤◌, ◌<◌, max, ◌≡◌, refl, sym, ap, ◌∙◌, ◌≢◌, Bool, true, false, cond, ◌||◌, List}
+use Rattle.std.specs.Prelude.{◌+◌, ◌-◌, ◌≤◌, ◌<◌, ◌≡◌, ◌≢◌, ◌||◌}
+use Rattle.whole.specs.Plain.{ℕ, zero, suc, max, refl, sym, ap, ◌∙◌, Bool, true, false, cond, List}
 use Rattle.whole.specs.Plain.{true≢false, eqb, ℤ, pos, negsuc, nat_abs, lt_z, non_neg, length, replicate, ltb-false, ℕ_discrete, arith, Words, z, word, nat}
 use Rattle.paper.specs.declared.Advance.{Advance}
 use Rattle.paper.specs.Limits as Limits

@@ -1,8 +1,8 @@
 -- "Each x within the voltage range goes to the nearest whole number", which is within it too, and so are the sources' values: every voltage of a
 -- step is in the voltage range. Assumes nothing.
-use Rattle.whole.specs.Plain.{ℕ, ◌≤◌, ◌≡◌, refl, sym, Bool, true, false, cond, List, [], ◌∷◌, map, ℤ, nat_abs, length}
+use Rattle.whole.specs.Plain.{ℕ, refl, sym, Bool, true, false, cond, List, [], map, ℤ, nat_abs, length}
 use Rattle.whole.specs.Plain.{set, take, arith, Words, word}
-use Rattle.std.specs.Prelude.{Float}
+use Rattle.std.specs.Prelude.{Float, ◌≤◌, ◌≡◌, ◌∷◌}
 use Rattle.whole.specs.Members.{Among, top, below, map_among}
 use Rattle.paper.specs.Limits as Limits
 use Rattle.paper.specs.Areas.{Net, free_of}

@@ -1,6 +1,7 @@
 -- What demands 1 and 2 ask of any version of `advance`: its answers are exact, its accepted steps are the paper's, its refusals change nothing. The
 -- paper's definition meets this, and no other version does. Assumes nothing.
-use Rattle.whole.specs.Plain.{ℕ, ◌≡◌, refl, sym, ap, ◌∙◌, ◌↔◌, false, Words}
+use Rattle.std.specs.Prelude.{◌≡◌, ◌↔◌}
+use Rattle.whole.specs.Plain.{ℕ, refl, sym, ap, ◌∙◌, false, Words}
 use Rattle.paper.specs.declared.Advance.{Advance}
 use Rattle.paper.specs.declared.Advance.TheVariants.{Took, Store, Network, State, Area, Done, Wait, Floating, Range, Unbalanced, History}
 use Rattle.paper.specs.Answers.{accepted}

@@ -1,5 +1,6 @@
 -- T-step leaves no choice: there is one memory that area a's step k may give. Assumes nothing.
-use Rattle.whole.specs.Plain.{ℕ, zero, suc, ◌+◌, ◌-◌, ◌<◌, ◌≡◌, refl, sym, ap, ◌∙◌, ◌≢◌, Bool, true, false, cond, ◌&&◌}
+use Rattle.std.specs.Prelude.{◌+◌, ◌-◌, ◌<◌, ◌≡◌, ◌≢◌, ◌&&◌}
+use Rattle.whole.specs.Plain.{ℕ, zero, suc, refl, sym, ap, ◌∙◌, Bool, true, false, cond}
 use Rattle.whole.specs.Plain.{true≢false, List, eqb, ltb, ℤ, length, get_or, ext_get_or, eqb-true, eq-eqb, ltb-true, ℕ_discrete}
 use Rattle.whole.specs.Plain.{arith, Words, z, word, numbers}
 use Rattle.whole.specs.Folds.{and_left, and_right, both, length_numbers, get_d_numbers}

@@ -1,7 +1,8 @@
 -- What a step of one area says leaves no choice: two memories that are the step's result have the same voltages, currents, histories and sent
 -- values. Assumes nothing.
-use Rattle.whole.specs.Plain.{ℕ, zero, suc, ◌+◌, ◌≤◌, ◌<◌, ◌≡◌, refl, sym, ap, ◌∙◌, ◌≢◌, ◌⊎◌, inl, inr, Bool, true}
-use Rattle.whole.specs.Plain.{false, ◌||◌, true≢false, List, [], ◌∷◌, Mem-cases_cons, Mem-not_nil, ℤ, ◌+ℤ◌}
+use Rattle.std.specs.Prelude.{◌+◌, ◌≤◌, ◌<◌, ◌≡◌, ◌≢◌, ◌⊎◌, ◌||◌, ◌∷◌, ◌+ℤ◌}
+use Rattle.whole.specs.Plain.{ℕ, zero, suc, refl, sym, ap, ◌∙◌, inl, inr, Bool, true}
+use Rattle.whole.specs.Plain.{false, true≢false, List, [], Mem-cases_cons, Mem-not_nil, ℤ}
 use Rattle.whole.specs.Plain.{length, get_or, eqb-true, eq-eqb, arith}
 use Rattle.paper.specs.Doubles.{tenths_of}
 use Rattle.whole.specs.Folds.{and_left, and_right, none_if}

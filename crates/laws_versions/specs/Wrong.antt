@@ -1,7 +1,8 @@
 -- "Check it against versions that refuse all calls, give one fixed voltage, write nothing, advance properly once and then repeat step 1, or raise
 -- the count unearned: demand 2 shuts out each". Assumes nothing.
-use Rattle.whole.specs.Plain.{ℕ, suc, ◌+◌, ◌-◌, ◌≤◌, ◌<◌, ◌≡◌, refl, sym, ap, ◌∙◌, Bool, true, false, not, true≢false, List, []}
-use Rattle.whole.specs.Plain.{◌∷◌, ◌++◌, map, eqb, ℤ, pos, nat_abs, get_or, take, drop, replicate, get_or-take, get_or-drop, eq-eqb}
+use Rattle.std.specs.Prelude.{◌+◌, ◌-◌, ◌≤◌, ◌<◌, ◌≡◌, ◌∷◌, ◌++◌}
+use Rattle.whole.specs.Plain.{ℕ, suc, refl, sym, ap, ◌∙◌, Bool, true, false, not, true≢false, List, []}
+use Rattle.whole.specs.Plain.{map, eqb, ℤ, pos, nat_abs, get_or, take, drop, replicate, get_or-take, get_or-drop, eq-eqb}
 use Rattle.whole.specs.Plain.{not-true, arith, Words, z, word, every, numbers}
 use Rattle.whole.specs.Folds.{every_at, get_d_numbers, length_numbers}
 use Rattle.paper.specs.declared.Advance.{Advance}

@@ -1,7 +1,7 @@
 -- What is within the voltage range stays within it: a double that is rounded, and a list of small words into which one more is put. Assumes nothing.
-use Rattle.whole.specs.Plain.{ℕ, zero, suc, ◌*◌, ◌≤◌, ◌≡◌, refl, Bool, true, false, cond, false≢true, [], ◌∷◌, ℤ, pos}
+use Rattle.whole.specs.Plain.{ℕ, zero, suc, refl, Bool, true, false, cond, false≢true, [], ℤ, pos}
 use Rattle.whole.specs.Plain.{neg_ℤ, nat_abs, set, leb-true, Words, word}
-use Rattle.std.specs.Prelude.{Float}
+use Rattle.std.specs.Prelude.{Float, ◌*◌, ◌≤◌, ◌≡◌, ◌∷◌}
 use Rattle.std.specs.Float.{nan, inf, fin}
 use Rattle.std.specs.Float.Ieee.{up, down}
 use Rattle.std.specs.Float.Ieee.Fits.{down_pos}

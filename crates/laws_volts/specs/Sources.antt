@@ -1,6 +1,7 @@
 -- How large a source's value gets. Assumes nothing.
-use Rattle.whole.specs.Plain.{ℕ, ◌-◌, ◌*◌, ◌/◌, ◌^◌, ◌≤◌, ◌<◌, ◌≡◌, refl, ap, ◌∙◌, Bool, true, false, cond, ltb, ℤ, pos, nat_abs}
-use Rattle.whole.specs.Plain.{◌*ℤ◌, quot_z, ltb-true, div-le_of_le-mul, mul-le-mul_left, arith, z}
+use Rattle.std.specs.Prelude.{◌-◌, ◌*◌, ◌/◌, ◌^◌, ◌≤◌, ◌<◌, ◌≡◌, ◌*ℤ◌}
+use Rattle.whole.specs.Plain.{ℕ, refl, ap, ◌∙◌, Bool, true, false, cond, ltb, ℤ, pos, nat_abs}
+use Rattle.whole.specs.Plain.{quot_z, ltb-true, div-le_of_le-mul, mul-le-mul_left, arith, z}
 use Rattle.whole.specs.Int.{abs_mul}
 use Rattle.whole.specs.Rounding.{part_size, quot_abs}
 use Rattle.num_cosine.specs.Cosine.{cosine, cosine_most}

@@ -1,5 +1,6 @@
 -- The voltages by node before solving, sources at the area's fixed nodes and 0 elsewhere: node by node, how many, and in range. Assumes nothing.
-use Rattle.whole.specs.Plain.{ℕ, zero, suc, ◌≤◌, ◌<◌, ◌≡◌, refl, sym, ap, ◌∙◌, Bool, true, false, cond, ◌&&◌, and-false}
+use Rattle.std.specs.Prelude.{◌≤◌, ◌<◌, ◌≡◌, ◌&&◌}
+use Rattle.whole.specs.Plain.{ℕ, zero, suc, refl, sym, ap, ◌∙◌, Bool, true, false, cond, and-false}
 use Rattle.whole.specs.Plain.{[], eqb, ℤ, nat_abs, length, set, replicate, length-set, length-replicate}
 use Rattle.whole.specs.Plain.{get_or-eq_default, eqb-true, le_trans, dec_lt, arith, Words, z, word, any, numbers}
 use Rattle.whole.specs.Folds.{and_left, and_right, fold_keeps}

@@ -1,5 +1,6 @@
 -- K6: breakers open at current zero, worked; and an SWT opens as a switch of document 01 did. Assumes nothing.
-use Rattle.whole.specs.Plain.{ℕ, suc, ◌-◌, ◌*◌, ◌^◌, ◌≡◌, refl, Bool, true, false, not, ◌&&◌, List, [], ◌∷◌, ◌++◌, map, leb, ltb}
+use Rattle.std.specs.Prelude.{◌-◌, ◌*◌, ◌^◌, ◌≡◌, ◌&&◌, ◌∷◌, ◌++◌}
+use Rattle.whole.specs.Plain.{ℕ, suc, refl, Bool, true, false, not, List, [], map, leb, ltb}
 use Rattle.whole.specs.Plain.{ℤ, pos, negsuc, get_or, replicate, eqb-true, Words, z}
 use Rattle.paper.specs.declared.Reading.TheVariants.{Read, Form, Value, Full}
 use Rattle.paper.specs.declared.Advance.TheVariants.{Took, State, Done, Floating}

@@ -1,5 +1,6 @@
 -- The power-frequency source worked: a table in the form of E1 to E10's. Assumes nothing.
-use Rattle.whole.specs.Plain.{ℕ, suc, ◌≡◌, refl, List, [], ◌∷◌, ◌++◌, map, ℤ, pos, negsuc, replicate, z}
+use Rattle.std.specs.Prelude.{◌≡◌, ◌∷◌, ◌++◌}
+use Rattle.whole.specs.Plain.{ℕ, suc, refl, List, [], map, ℤ, pos, negsuc, replicate, z}
 use Rattle.paper.specs.declared.Reading.TheVariants.{Read, Form, Node, Value, Double, Full}
 use Rattle.paper.specs.declared.Advance.TheVariants.{Took}
 use Rattle.paper.specs.Computing.{computing}

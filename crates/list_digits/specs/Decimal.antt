@@ -1,6 +1,7 @@
 -- A number's digits, several at a time. Assumes nothing.
-use Rattle.whole.specs.Plain.{ℕ, zero, suc, ◌+◌, ◌*◌, ◌/◌, ◌%◌, ◌^◌, ◌≤◌, ◌<◌, ◌≡◌, refl, sym, ap, ◌∙◌, Bool, true}
-use Rattle.whole.specs.Plain.{false, not, List, [], ◌∷◌, ◌++◌, append_assoc, append-nil, eqb, ℤ, pos, negsuc, nat_abs}
+use Rattle.std.specs.Prelude.{◌+◌, ◌*◌, ◌/◌, ◌%◌, ◌^◌, ◌≤◌, ◌<◌, ◌≡◌, ◌∷◌, ◌++◌}
+use Rattle.whole.specs.Plain.{ℕ, zero, suc, refl, sym, ap, ◌∙◌, Bool, true}
+use Rattle.whole.specs.Plain.{false, not, List, [], append_assoc, append-nil, eqb, ℤ, pos, negsuc, nat_abs}
 use Rattle.whole.specs.Plain.{length, length-append, mul_assoc, pow-suc, pow-succ', one-le-pow}
 use Rattle.whole.specs.Plain.{div-div-eq-div-mul, div-le_self, div-one, div-add-mod', arith}
 use Rattle.paper.specs.Listing.{digits, shown_nat, shown}

@@ -1,5 +1,6 @@
 -- Two digits at a time: the pairs that are looked up. Assumes nothing.
-use Rattle.whole.specs.Plain.{ℕ, zero, suc, ◌+◌, ◌*◌, ◌/◌, ◌%◌, ◌≤◌, ◌<◌, ◌≡◌, refl, ◌∙◌, cond, List, [], ◌∷◌, ◌++◌}
+use Rattle.std.specs.Prelude.{◌+◌, ◌*◌, ◌/◌, ◌%◌, ◌≤◌, ◌<◌, ◌≡◌, ◌∷◌, ◌++◌}
+use Rattle.whole.specs.Plain.{ℕ, zero, suc, refl, ◌∙◌, cond, List, []}
 use Rattle.whole.specs.Plain.{ltb, get_or, lt-ltb, le-ltb, dec_lt, arith}
 use Rattle.paper.specs.Listing.{shown_nat}
 use Rattle.list_digits.specs.Puts.{Parts}

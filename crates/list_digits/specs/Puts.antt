@@ -1,5 +1,6 @@
 -- Bytes put into a buffer one after another, from a place on: what each function that writes a part of a listing promises. Assumes nothing.
-use Rattle.whole.specs.Plain.{ℕ, suc, ◌+◌, ◌≤◌, ◌≡◌, refl, sym, ap, ◌∙◌, List, [], ◌∷◌, ◌++◌, append_assoc, length, set, drop}
+use Rattle.std.specs.Prelude.{◌+◌, ◌≤◌, ◌≡◌, ◌∷◌, ◌++◌}
+use Rattle.whole.specs.Plain.{ℕ, suc, refl, sym, ap, ◌∙◌, List, [], append_assoc, length, set, drop}
 use Rattle.whole.specs.Plain.{length-append, sets, length-sets, sets-eq, arith}
 use Rattle.std.proofs.Common.{add-one}
 

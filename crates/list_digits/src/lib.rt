@@ -1,7 +1,8 @@
 #![tactic(auto)]
 
 // Up to eight digits, put into a lent buffer from a place on, two at a time; each function answers the next place.
-ghost use Rattle.whole.specs.Plain.{◌+◌, ◌/◌, ◌^◌, ◌≤◌, ◌<◌, ◌≡◌, length};
+ghost use Rattle.std.specs.Prelude.{◌+◌, ◌/◌, ◌^◌, ◌≤◌, ◌<◌, ◌≡◌};
+ghost use Rattle.whole.specs.Plain.{length};
 ghost use Rattle.paper.specs.Listing.{shown_nat};
 ghost use Rattle.list_digits.specs.Puts.{Puts};
 ghost use Rattle.list_digits.specs.Decimal.{fixed};

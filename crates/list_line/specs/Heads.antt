@@ -1,5 +1,6 @@
 -- What all lines of a step begin with, and how it is put. Assumes nothing.
-use Rattle.whole.specs.Plain.{ℕ, ◌+◌, ◌-◌, ◌/◌, ◌≤◌, ◌≡◌, sym, ap, ◌∙◌, List, [], ◌∷◌, ◌++◌, length, set, take, drop}
+use Rattle.std.specs.Prelude.{◌+◌, ◌-◌, ◌/◌, ◌≤◌, ◌≡◌, ◌∷◌, ◌++◌}
+use Rattle.whole.specs.Plain.{ℕ, sym, ap, ◌∙◌, List, [], length, set, take, drop}
 use Rattle.whole.specs.Plain.{length-append, length-set, sets, sets-eq, set-set, take_at, take_all, length-take-le}
 use Rattle.whole.specs.Plain.{arith}
 use Rattle.paper.specs.Limits as Limits

@@ -1,5 +1,6 @@
 -- Four bytes as one number, and a text put four bytes at a time, some of them twice. Assumes nothing.
-use Rattle.whole.specs.Plain.{ℕ, suc, ◌+◌, ◌*◌, ◌-◌, ◌/◌, ◌%◌, ◌≤◌, ◌<◌, ◌≡◌, refl, sym, ap, ◌∙◌, List, [], ◌∷◌, length}
+use Rattle.std.specs.Prelude.{◌+◌, ◌*◌, ◌-◌, ◌/◌, ◌%◌, ◌≤◌, ◌<◌, ◌≡◌, ◌∷◌}
+use Rattle.whole.specs.Plain.{ℕ, suc, refl, sym, ap, ◌∙◌, List, [], length}
 use Rattle.whole.specs.Plain.{get_or, set, take, drop, length-take, sets, set-set, set_comm, drop-cons, take-add}
 use Rattle.whole.specs.Plain.{length-take-le, get_or-take, div-div-eq-div-mul, arith}
 use Rattle.list_digits.specs.Puts.{sets_append}

@@ -1,5 +1,6 @@
 -- The lines of a step in parts. Assumes nothing.
-use Rattle.whole.specs.Plain.{ℕ, refl, List, [], ◌∷◌, ◌++◌, append_assoc, ℤ, pos}
+use Rattle.std.specs.Prelude.{◌∷◌, ◌++◌}
+use Rattle.whole.specs.Plain.{ℕ, refl, List, [], append_assoc, ℤ, pos}
 use Rattle.paper.specs.Text.{LF, TAB}
 use Rattle.paper.specs.Listing.{shown_nat, shown, shown_all, line_of}
 use Rattle.list_digits.specs.Puts.{Parts}

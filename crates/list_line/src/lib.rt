@@ -2,7 +2,8 @@
 
 // One line of a full step: "`v`, step, node, voltage" or "`i`, step, branch, current". What the lines of a step begin with is the same in all of them, and is
 // spelt once.
-ghost use Rattle.whole.specs.Plain.{◌+◌, ◌^◌, ◌≤◌, ◌<◌, ◌≡◌, [], ◌∷◌, length, sets};
+ghost use Rattle.std.specs.Prelude.{◌+◌, ◌^◌, ◌≤◌, ◌<◌, ◌≡◌, ◌∷◌};
+ghost use Rattle.whole.specs.Plain.{[], length, sets};
 ghost use Rattle.paper.specs.Limits as Limits;
 ghost use Rattle.list_digits.specs.Puts.{Puts};
 ghost use Rattle.list_digits.specs.Pairs.{all_pairs};

@@ -1,5 +1,6 @@
 -- A number's first digits, and the groups of eight behind them. Assumes nothing.
-use Rattle.whole.specs.Plain.{ℕ, ◌/◌, ◌%◌, ◌^◌, ◌≤◌, ◌<◌, ◌≡◌, refl, sym, ◌∙◌, cond, List, [], ◌++◌, append_assoc}
+use Rattle.std.specs.Prelude.{◌/◌, ◌%◌, ◌^◌, ◌≤◌, ◌<◌, ◌≡◌, ◌++◌}
+use Rattle.whole.specs.Plain.{ℕ, refl, sym, ◌∙◌, cond, List, [], append_assoc}
 use Rattle.whole.specs.Plain.{append-nil, eqb, ne_eqb, arith}
 use Rattle.paper.specs.Listing.{shown_nat}
 use Rattle.list_numerals.specs.declared.Eights.{Eights}

@@ -1,5 +1,6 @@
 -- A number as it is shown, by its sign and magnitude. Assumes nothing.
-use Rattle.whole.specs.Plain.{◌≡◌, refl, sym, ◌∙◌, true, false, true≢false, ◌∷◌, leb-zero, ℤ, pos, negsuc, nat_abs, le_z}
+use Rattle.std.specs.Prelude.{◌≡◌, ◌∷◌}
+use Rattle.whole.specs.Plain.{refl, sym, ◌∙◌, true, false, true≢false, leb-zero, ℤ, pos, negsuc, nat_abs, le_z}
 use Rattle.paper.specs.Text.{MINUS}
 use Rattle.paper.specs.Listing.{shown_nat, shown}
 

@@ -1,7 +1,8 @@
 #![tactic(auto)]
 
 // A number's digits, however many, and its sign, put into a lent buffer from a place on, eight at a time; each function answers the next place.
-ghost use Rattle.whole.specs.Plain.{◌+◌, ◌^◌, ◌≤◌, ◌<◌, ◌≡◌, length};
+ghost use Rattle.std.specs.Prelude.{◌+◌, ◌^◌, ◌≤◌, ◌<◌, ◌≡◌};
+ghost use Rattle.whole.specs.Plain.{length};
 ghost use Rattle.paper.specs.Listing.{shown_nat, shown};
 ghost use Rattle.list_digits.specs.Puts.{Puts};
 ghost use Rattle.list_digits.specs.Pairs.{all_pairs};

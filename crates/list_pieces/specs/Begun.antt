@@ -1,7 +1,7 @@
 -- What a piece begins from: a study in step, and the tables of its areas, with nothing prepared for any; and how far it has come. Assumes nothing.
-use Rattle.whole.specs.Plain.{ℕ, suc, ◌+◌, ◌≤◌, ◌<◌, ◌≡◌, sym, ap, ◌∙◌, List, length, arith, Words}
+use Rattle.whole.specs.Plain.{ℕ, suc, sym, ap, ◌∙◌, List, length, arith, Words}
 use Rattle.std.proofs.Common.{add-one}
-use Rattle.std.specs.Prelude.{Float}
+use Rattle.std.specs.Prelude.{Float, ◌+◌, ◌≤◌, ◌<◌, ◌≡◌}
 use Rattle.paper.specs.declared.Listing.{Listing}
 use Rattle.paper.specs.Limits as Limits
 use Rattle.paper.specs.Rows.{steps}

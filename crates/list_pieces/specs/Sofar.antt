@@ -1,5 +1,6 @@
 -- A piece so far: the bytes in the buffer, and the steps that are left, which lead to the piece as it is to be. Assumes nothing.
-use Rattle.whole.specs.Plain.{ℕ, suc, ◌+◌, ◌≤◌, ◌<◌, ◌≡◌, refl, sym, ap, ◌∙◌, Bool, true, false, List, [], ◌∷◌, ◌++◌}
+use Rattle.std.specs.Prelude.{◌+◌, ◌≤◌, ◌<◌, ◌≡◌, ◌∷◌, ◌++◌}
+use Rattle.whole.specs.Plain.{ℕ, suc, refl, sym, ap, ◌∙◌, Bool, true, false, List, []}
 use Rattle.whole.specs.Plain.{leb, pos, length, le-leb, lt-leb, arith, Words}
 use Rattle.std.proofs.Common.{add-one}
 use Rattle.paper.specs.declared.Advance.{Advance}

@@ -1,7 +1,8 @@
 #![tactic(auto)]
 
 // The listing by pieces: full step after full step into a lent buffer, until the next might not fit, an area is refused or the study is done.
-ghost use Rattle.whole.specs.Plain.{◌≤◌, ◌≡◌, length};
+ghost use Rattle.std.specs.Prelude.{◌≤◌, ◌≡◌};
+ghost use Rattle.whole.specs.Plain.{length};
 ghost use Rattle.paper.specs.Limits as Limits;
 ghost use Rattle.paper.specs.Advance.{memory};
 ghost use Rattle.list_pieces.specs.Begun.{step_of, Beginning, Pieces};

@@ -1,8 +1,8 @@
 -- One area's turn within a step, and the areas that have passed: the tables and the state that they leave. Assumes nothing.
-use Rattle.whole.specs.Plain.{ℕ, suc, ◌+◌, ◌≤◌, ◌-◌, ◌<◌, ◌≡◌, refl, sym, ◌∙◌, ap, true, false, Bool, List, ◌++◌}
+use Rattle.whole.specs.Plain.{ℕ, suc, refl, sym, ◌∙◌, ap, true, false, Bool, List}
 use Rattle.whole.specs.Plain.{length, arith, Words}
 use Rattle.std.proofs.Common.{add-one}
-use Rattle.std.specs.Prelude.{Float}
+use Rattle.std.specs.Prelude.{Float, ◌+◌, ◌≤◌, ◌-◌, ◌<◌, ◌≡◌, ◌++◌}
 use Rattle.paper.specs.declared.Advance.{Advance}
 use Rattle.paper.specs.declared.Listing.TheVariants.{Stopped}
 use Rattle.whole.specs.Turns.{turns_end, turns, turns_more, turns_next}

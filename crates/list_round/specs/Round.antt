@@ -1,6 +1,6 @@
 -- The areas' turns in one step: the piece that they come to, and the state and the tables that they start from. Assumes nothing.
-use Rattle.whole.specs.Plain.{ℕ, suc, ◌+◌, ◌<◌, ◌≡◌, true, List, ◌++◌, pos, Words}
-use Rattle.std.specs.Prelude.{Float}
+use Rattle.whole.specs.Plain.{ℕ, suc, true, List, pos, Words}
+use Rattle.std.specs.Prelude.{Float, ◌+◌, ◌<◌, ◌≡◌, ◌++◌}
 use Rattle.paper.specs.declared.Listing.TheVariants.{Stopped}
 use Rattle.whole.specs.Turns.{turns}
 use Rattle.paper.specs.Rows.{steps}

@@ -1,7 +1,7 @@
 #![tactic(auto)]
 
 // One step of all areas, in rising order: "advances areas in rising order step by step".
-ghost use Rattle.whole.specs.Plain.{◌<◌, ◌≡◌};
+ghost use Rattle.std.specs.Prelude.{◌<◌, ◌≡◌};
 ghost use Rattle.paper.specs.Limits as Limits;
 ghost use Rattle.paper.specs.Advance.{memory};
 ghost use Rattle.list_round.specs.Round.{turn_of, Startable, Runs};

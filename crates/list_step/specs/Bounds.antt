@@ -1,6 +1,7 @@
 -- How long the lines of a full step are at most: 23 bytes for a node, 53 for a branch; and a last line. Assumes nothing.
-use Rattle.whole.specs.Plain.{ℕ, zero, suc, ◌+◌, ◌-◌, ◌*◌, ◌≤◌, ◌<◌, ◌≡◌, refl, sym, ap, Bool, true, false, cond}
-use Rattle.whole.specs.Plain.{true≢false, List, [], ◌∷◌, ◌++◌, ℤ, pos, nat_abs, length, length-append, arith, Words}
+use Rattle.std.specs.Prelude.{◌+◌, ◌-◌, ◌*◌, ◌≤◌, ◌<◌, ◌≡◌, ◌∷◌, ◌++◌}
+use Rattle.whole.specs.Plain.{ℕ, zero, suc, refl, sym, ap, Bool, true, false, cond}
+use Rattle.whole.specs.Plain.{true≢false, List, [], ℤ, pos, nat_abs, length, length-append, arith, Words}
 use Rattle.whole.specs.Plain.{word, numbers}
 use Rattle.std.proofs.Common.{add-one}
 use Rattle.paper.specs.declared.Advance.{Advance}

@@ -1,5 +1,6 @@
 -- A row's line by the plan, and the paper's lines of every network that the plan is of. Assumes nothing.
-use Rattle.whole.specs.Plain.{ℕ, suc, ◌≤◌, ◌<◌, ◌≡◌, sym, ap, true, false, cond, List, [], ◌∷◌, ◌++◌, eqb, pos, length}
+use Rattle.std.specs.Prelude.{◌≤◌, ◌<◌, ◌≡◌, ◌∷◌, ◌++◌}
+use Rattle.whole.specs.Plain.{ℕ, suc, sym, ap, true, false, cond, List, [], eqb, pos, length}
 use Rattle.whole.specs.Plain.{ne_eqb, arith, Words, word, numbers}
 use Rattle.paper.specs.Rows.{bytes}
 use Rattle.paper.specs.Areas.{Net}

@@ -1,5 +1,6 @@
 -- Lines one after another, by number: the lines so far, one more, and all. Assumes nothing.
-use Rattle.whole.specs.Plain.{ℕ, zero, suc, ◌+◌, ◌-◌, ◌≤◌, ◌<◌, ◌≡◌, refl, sym, ap, ◌∙◌, List, [], ◌∷◌, ◌++◌}
+use Rattle.std.specs.Prelude.{◌+◌, ◌-◌, ◌≤◌, ◌<◌, ◌≡◌, ◌∷◌, ◌++◌}
+use Rattle.whole.specs.Plain.{ℕ, zero, suc, refl, sym, ap, ◌∙◌, List, []}
 use Rattle.whole.specs.Plain.{append_assoc, append-nil, pos, length, length-append, arith, Words, word, numbers}
 use Rattle.std.proofs.Common.{add-one}
 use Rattle.whole.specs.Folds.{numbers_append, numbers_more}

@@ -1,7 +1,8 @@
 #![tactic(auto)]
 
 // The lines of a full step: "`v`, step, node, voltage for each node, then `i`, step, branch, current for each branch".
-ghost use Rattle.whole.specs.Plain.{◌+◌, ◌^◌, ◌≤◌, ◌<◌, ◌≡◌, length};
+ghost use Rattle.std.specs.Prelude.{◌+◌, ◌^◌, ◌≤◌, ◌<◌, ◌≡◌};
+ghost use Rattle.whole.specs.Plain.{length};
 ghost use Rattle.paper.specs.Limits as Limits;
 ghost use Rattle.paper.specs.Areas.{Net};
 ghost use Rattle.paper.specs.Listing.{step_lines};

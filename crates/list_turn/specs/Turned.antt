@@ -1,5 +1,6 @@
 -- A step of all areas and what it lists: its lines, or the stop line. Assumes nothing.
-use Rattle.whole.specs.Plain.{ℕ, suc, ◌+◌, ◌-◌, ◌≤◌, ◌<◌, ◌≡◌, refl, ap, ◌∙◌, List, ◌++◌, lit≤, length, le_trans}
+use Rattle.std.specs.Prelude.{◌+◌, ◌-◌, ◌≤◌, ◌<◌, ◌≡◌, ◌++◌}
+use Rattle.whole.specs.Plain.{ℕ, suc, refl, ap, ◌∙◌, List, lit≤, length, le_trans}
 use Rattle.whole.specs.Plain.{arith, Words}
 use Rattle.paper.specs.declared.Listing.TheVariants.{Stopped}
 use Rattle.paper.specs.Limits as Limits

@@ -1,7 +1,8 @@
 #![tactic(auto)]
 
 // What a step of all areas lists: the lines of a full step; or, where an area was refused, the stop line.
-ghost use Rattle.whole.specs.Plain.{suc, ◌+◌, ◌≤◌, ◌≡◌, length};
+ghost use Rattle.std.specs.Prelude.{◌+◌, ◌≤◌, ◌≡◌};
+ghost use Rattle.whole.specs.Plain.{suc, length};
 ghost use Rattle.paper.specs.Limits as Limits;
 ghost use Rattle.paper.specs.Areas.{Net};
 ghost use Rattle.list_digits.specs.Puts.{Puts};

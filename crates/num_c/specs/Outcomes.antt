@@ -1,7 +1,7 @@
 -- What each exported function answers and writes, on all inputs. Assumes nothing.
-use Rattle.whole.specs.Plain.{ℕ, Bool, true, false, cond, ◌&&◌, List, leb, eqb, ℤ, pos, nat_abs, non_neg, lt_z, quot_z}
+use Rattle.whole.specs.Plain.{ℕ, Bool, true, false, cond, List, leb, eqb, ℤ, pos, nat_abs, non_neg, lt_z, quot_z}
 use Rattle.whole.specs.Plain.{every, up_to}
-use Rattle.std.specs.Prelude.{Float}
+use Rattle.std.specs.Prelude.{Float, ◌&&◌}
 use Rattle.whole.specs.Rounding.{nearest}
 use Rattle.paper.specs.Limits as Limits
 use Rattle.paper.specs.Doubles.{CheckedVoltage, Good, Refused}

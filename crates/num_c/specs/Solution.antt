@@ -1,7 +1,7 @@
 -- What `numbers_solve` writes: the stated solution of the system whose pivots are the diagonal, and past it the right sides. Assumes nothing.
-use Rattle.whole.specs.Plain.{ℕ, ◌+◌, ◌≤◌, ◌<◌, ◌≡◌, refl, ap, ◌∙◌, List, map, get_or, length, take, length-map}
+use Rattle.whole.specs.Plain.{ℕ, refl, ap, ◌∙◌, List, map, get_or, length, take, length-map}
 use Rattle.whole.specs.Plain.{get_or-set_other, le-leb, arith, numbers}
-use Rattle.std.specs.Prelude.{Float}
+use Rattle.std.specs.Prelude.{Float, ◌+◌, ◌≤◌, ◌<◌, ◌≡◌}
 use Rattle.std.specs.Float.Ieee.{nan}
 use Rattle.whole.specs.Folds.{get_d_map, get_d_numbers, length_numbers}
 use Rattle.whole.specs.TurnLaws.{turns_keeps, downs_keeps}

@@ -1,7 +1,7 @@
 #![tactic(auto)]
 
 // The numbers layer for programs in C. No function requires anything: what a callee requires is tested here.
-ghost use Rattle.whole.specs.Plain.{◌≡◌};
+ghost use Rattle.std.specs.Prelude.{◌≡◌};
 ghost use Rattle.paper.specs.Doubles.{double, nearest_of};
 ghost use Rattle.num_c.specs.Outcomes.{words_judged, quotient_of, part_of, out, rounded, solution};
 

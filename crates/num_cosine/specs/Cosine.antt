@@ -1,5 +1,6 @@
 -- "The cosine comes from a quarter table of 257 entries scaled to 2^30, the other quarters by symmetry". Assumes nothing.
-use Rattle.whole.specs.Plain.{ℕ, ◌-◌, ◌^◌, ◌≤◌, ◌<◌, ◌≡◌, Bool, true, false, cond, leb, ℤ, pos, neg_ℤ, nat_abs, le-leb, lt-leb}
+use Rattle.std.specs.Prelude.{◌-◌, ◌^◌, ◌≤◌, ◌<◌, ◌≡◌}
+use Rattle.whole.specs.Plain.{ℕ, Bool, true, false, cond, leb, ℤ, pos, neg_ℤ, nat_abs, le-leb, lt-leb}
 use Rattle.whole.specs.Int.{abs_neg}
 use Rattle.whole.specs.Size.{∣◌∣≤◌}
 use Rattle.num_cosine.specs.Quarter.{entry, entry_most}

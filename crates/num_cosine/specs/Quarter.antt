@@ -1,5 +1,6 @@
 -- "a quarter table of 257 entries scaled to 2^30", and its two rules, computed over the whole table. Assumes nothing.
-use Rattle.whole.specs.Plain.{ℕ, zero, suc, ◌+◌, ◌*◌, ◌^◌, ◌≤◌, ◌<◌, ◌≡◌, refl, Bool, true, ◌&&◌, List, [], ◌∷◌, eqb, leb, ltb}
+use Rattle.std.specs.Prelude.{◌+◌, ◌*◌, ◌^◌, ◌≤◌, ◌<◌, ◌≡◌, ◌&&◌, ◌∷◌}
+use Rattle.whole.specs.Plain.{ℕ, zero, suc, refl, Bool, true, List, [], eqb, leb, ltb}
 use Rattle.whole.specs.Plain.{get_or, length, ltb-true, leb-true, subst, arith}
 use Rattle.whole.specs.Folds.{and_left, and_right}
 

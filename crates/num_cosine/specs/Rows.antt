@@ -1,5 +1,6 @@
 -- The quarter table as code holds it: rows of four. Assumes nothing.
-use Rattle.whole.specs.Plain.{ℕ, zero, suc, ◌+◌, ◌*◌, ◌/◌, ◌%◌, ◌≤◌, ◌≡◌, ap, ◌∙◌, List, get_or, div-add-mod', mod-lt, arith}
+use Rattle.std.specs.Prelude.{◌+◌, ◌*◌, ◌/◌, ◌%◌, ◌≤◌, ◌≡◌}
+use Rattle.whole.specs.Plain.{ℕ, zero, suc, ap, ◌∙◌, List, get_or, div-add-mod', mod-lt, arith}
 use Rattle.whole.specs.Tables.{table, table_at}
 use Rattle.num_cosine.specs.Quarter.{entry}
 

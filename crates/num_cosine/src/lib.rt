@@ -1,7 +1,7 @@
 #![tactic(auto)]
 
 // "The cosine comes from a quarter table of 257 entries scaled to 2^30, the other quarters by symmetry": of a turn's 1,024 parts.
-ghost use Rattle.whole.specs.Plain.{◌≤◌, ◌<◌, ◌≡◌};
+ghost use Rattle.std.specs.Prelude.{◌≤◌, ◌<◌, ◌≡◌};
 ghost use Rattle.num_cosine.specs.Quarter.{entry};
 ghost use Rattle.num_cosine.specs.Rows.{row_of};
 ghost use Rattle.num_cosine.specs.Cosine.{half, folded, cosine};

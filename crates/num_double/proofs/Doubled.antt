@@ -1,6 +1,7 @@
 -- A double is doubled exactly. So the whole part of its double gives the nearest whole number. Assumes nothing.
-use Rattle.whole.specs.Plain.{ℕ, zero, suc, ◌+◌, ◌*◌, ◌-◌, ◌/◌, ◌%◌, ◌^◌, ◌<◌, ◌≤◌, ◌≡◌, refl, sym, subst, ap, ◌∙◌}
-use Rattle.whole.specs.Plain.{Bool, true, false, ◌&&◌, T, leb, ltb, eqb, lt→ltb, leb→le, ltb→lt, lit<, ℤ, pos, negsuc}
+use Rattle.std.specs.Prelude.{◌+◌, ◌*◌, ◌-◌, ◌/◌, ◌%◌, ◌^◌, ◌<◌, ◌≤◌, ◌≡◌, ◌&&◌}
+use Rattle.whole.specs.Plain.{ℕ, zero, suc, refl, sym, subst, ap, ◌∙◌}
+use Rattle.whole.specs.Plain.{Bool, true, false, T, leb, ltb, eqb, lt→ltb, leb→le, ltb→lt, lit<, ℤ, pos, negsuc}
 use Rattle.whole.specs.Plain.{le_trans, le_of_eq, lt_of_le_of_lt, le_of_mul-le-mul_right, mul-le-mul_right, mul_assoc}
 use Rattle.whole.specs.Plain.{mul-one, mul_right_comm, add-mul, zero-mul, mul-pos, lt_irrefl, lt_of_lt_of_le}
 use Rattle.whole.specs.Plain.{div-le_of_le-mul, div-div-eq-div-mul, add-div_right, zero-div, mul_comm, arith}

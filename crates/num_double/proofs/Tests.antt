@@ -1,5 +1,6 @@
 -- The tests that code makes, by the number that the double is. Assumes nothing.
-use Rattle.whole.specs.Plain.{ℕ, ◌+◌, ◌*◌, ◌<◌, ◌≤◌, ◌≡◌, refl, sym, ap, ◌∙◌, Bool, true, false, not, ◌&&◌, ◌||◌}
+use Rattle.std.specs.Prelude.{◌+◌, ◌*◌, ◌<◌, ◌≤◌, ◌≡◌, ◌&&◌, ◌||◌}
+use Rattle.whole.specs.Plain.{ℕ, refl, sym, ap, ◌∙◌, Bool, true, false, not}
 use Rattle.whole.specs.Plain.{true≢false, false≢true, and-true, leb, ltb, eqb, ℤ, pos, neg_ℤ, ltb-true, ltb-false}
 use Rattle.whole.specs.Plain.{leb-true, leb-false, lt-ltb, eq-eqb, ne_eqb, eqb-true, eqb-false, le_trans, le_of_eq}
 use Rattle.whole.specs.Plain.{le_of_mul-le-mul_right, mul-one, zero-mul, arith}

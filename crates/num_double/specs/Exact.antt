@@ -1,6 +1,6 @@
 -- The double of a whole number by its two halves is that number rounded once, to the nearest double, for each number of 64 bits. Assumes nothing.
-use Rattle.std.specs.Prelude.{FitsSigned, Float}
-use Rattle.whole.specs.Plain.{ℕ, suc, ◌*◌, ◌-◌, ◌/◌, ◌%◌, ◌^◌, ◌<◌, ◌≡◌, refl, sym, subst, ap, ◌∙◌, Bool, true, false}
+use Rattle.std.specs.Prelude.{FitsSigned, Float, ◌*◌, ◌-◌, ◌/◌, ◌%◌, ◌^◌, ◌<◌, ◌≡◌}
+use Rattle.whole.specs.Plain.{ℕ, suc, refl, sym, subst, ap, ◌∙◌, Bool, true, false}
 use Rattle.whole.specs.Plain.{cond, true≢false, false≢true, ltb, lit≤, ℤ, pos, negsuc, lt-ltb, le-ltb, mul-one}
 use Rattle.whole.specs.Plain.{mul_assoc, mul_comm, mul_right_comm, mul-pos, mul-lt-mul_of_pos_right, mul-sub}
 use Rattle.whole.specs.Plain.{zero-lt-suc, lt_of_lt_of_le, le_of_lt, arith}

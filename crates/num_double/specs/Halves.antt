@@ -1,6 +1,6 @@
 -- What is rounded. Assumes nothing.
-use Rattle.whole.specs.Plain.{ℕ, ◌*◌, ◌≤◌, ◌≡◌, T}
-use Rattle.std.specs.Prelude.{Float}
+use Rattle.whole.specs.Plain.{ℕ, T}
+use Rattle.std.specs.Prelude.{Float, ◌*◌, ◌≤◌, ◌≡◌}
 use Rattle.std.specs.Float.{nan, inf, fin}
 use Rattle.std.specs.Float.Ieee.{up, down}
 

@@ -1,7 +1,8 @@
 #![tactic(auto)]
 
 // Whole numbers to doubles and back, each operation rounded once.
-ghost use Rattle.whole.specs.Plain.{◌≤◌, ◌≡◌, true};
+ghost use Rattle.std.specs.Prelude.{◌≤◌, ◌≡◌};
+ghost use Rattle.whole.specs.Plain.{true};
 ghost use Rattle.std.specs.Float.Ieee.Positive.{num, den};
 ghost use Rattle.whole.specs.Rounding.{nearest};
 ghost use Rattle.paper.specs.Doubles.{double, in_range, whole_of, nearest_of};

@@ -2,7 +2,8 @@
 
 // "The limits belong to the quantity they limit and are named once": each quantity of document 01 with its unit and its ends. What is worked out becomes a
 // quantity by a constructor that refuses a number outside them; a voltage, which is worked out in doubles, does so by `num_double::nearest`.
-ghost use Rattle.whole.specs.Plain.{◌≡◌, ◌&&◌, cond, leb, between};
+ghost use Rattle.std.specs.Prelude.{◌≡◌, ◌&&◌};
+ghost use Rattle.whole.specs.Plain.{cond, leb, between};
 
 // 0.1 V
 #[derive(Clone, Copy)]

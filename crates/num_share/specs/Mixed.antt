@@ -1,6 +1,7 @@
 -- A value between two others by the sign of what lies between them, and what keeps it within a word. Assumes nothing.
-use Rattle.whole.specs.Plain.{ℕ, zero, suc, ◌+◌, ◌*◌, ◌-◌, ◌/◌, ◌≤◌, ◌<◌, ◌≡◌, true, false, true≢false}
-use Rattle.whole.specs.Plain.{ltb-true, ℤ, pos, negsuc, neg_ℤ, nat_abs, lt_z, ◌+ℤ◌, ◌-ℤ◌, ◌*ℤ◌, add-zero, add-div_right, arith}
+use Rattle.std.specs.Prelude.{◌+◌, ◌*◌, ◌-◌, ◌/◌, ◌≤◌, ◌<◌, ◌≡◌, ◌+ℤ◌, ◌-ℤ◌, ◌*ℤ◌}
+use Rattle.whole.specs.Plain.{ℕ, zero, suc, true, false, true≢false}
+use Rattle.whole.specs.Plain.{ltb-true, ℤ, pos, negsuc, neg_ℤ, nat_abs, lt_z, add-zero, add-div_right, arith}
 use Rattle.std.proofs.Math.Nat.{div-eq_of_lt}
 use Rattle.std.proofs.Common.{add-one}
 use Rattle.whole.specs.Int.{abs_sub_le}

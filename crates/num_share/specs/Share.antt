@@ -1,5 +1,6 @@
 -- A product's quotient by parts that fit a word: with n = q d + t, (n w + m) / d = q w + (t w + m) / d. Assumes nothing.
-use Rattle.whole.specs.Plain.{ℕ, suc, ◌+◌, ◌*◌, ◌/◌, ◌%◌, ◌≤◌, ◌<◌, ◌≡◌, sym, ap, ◌∙◌, le_trans, le_of_lt, add-mul, add_comm}
+use Rattle.std.specs.Prelude.{◌+◌, ◌*◌, ◌/◌, ◌%◌, ◌≤◌, ◌<◌, ◌≡◌}
+use Rattle.whole.specs.Plain.{ℕ, suc, sym, ap, ◌∙◌, le_trans, le_of_lt, add-mul, add_comm}
 use Rattle.whole.specs.Plain.{mul_right_comm, mod-add-div', mod-lt, div-mul-le_self, mul-le-mul_left, mul-le-mul_right, arith}
 use Rattle.std.proofs.Math.Nat.{mul-add-div_right}
 use Rattle.std.proofs.Common.{div-lt_iff_lt-mul}

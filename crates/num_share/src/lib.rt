@@ -2,7 +2,8 @@
 
 // What lies between steps: a value between two others, rounded down once, also below zero: "the value sent at step k - q plus (that of step k - q - 1 minus it) · r / step, rounded
 // down". The product has up to 78 bits; its quotient is worked out by parts that fit a word.
-ghost use Rattle.whole.specs.Plain.{◌+◌, ◌*◌, ◌/◌, ◌≤◌, ◌<◌, ◌≡◌, cond, eqb};
+ghost use Rattle.std.specs.Prelude.{◌+◌, ◌*◌, ◌/◌, ◌≤◌, ◌<◌, ◌≡◌};
+ghost use Rattle.whole.specs.Plain.{cond, eqb};
 ghost use Rattle.whole.specs.Mixing as Mixing;
 ghost use Rattle.paper.specs.Limits as Limits;
 ghost use Rattle.num_share.specs.Mixed.{Shared, Mixable};

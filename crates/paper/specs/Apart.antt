@@ -1,6 +1,7 @@
 -- The sections of the records do not overlap: a word of a section is its first plus a place, and every word is one of these or unused. Assumes nothing.
-use Rattle.whole.specs.Plain.{ℕ, ◌+◌, ◌-◌, ◌≤◌, ◌<◌, ◌≡◌, refl, sym, ap, ◌∙◌, ◌⊎◌, inl, inr, Bool, true, false, cond}
-use Rattle.whole.specs.Plain.{◌&&◌, List, [], ◌∷◌, Mem-not_nil, Mem-cases_cons, leb, ltb, ℤ, pos, negsuc}
+use Rattle.std.specs.Prelude.{◌+◌, ◌-◌, ◌≤◌, ◌<◌, ◌≡◌, ◌⊎◌, ◌&&◌, ◌∷◌}
+use Rattle.whole.specs.Plain.{ℕ, refl, sym, ap, ◌∙◌, inl, inr, Bool, true, false, cond}
+use Rattle.whole.specs.Plain.{List, [], Mem-not_nil, Mem-cases_cons, leb, ltb, ℤ, pos, negsuc}
 use Rattle.whole.specs.Plain.{nat_abs, non_neg, get_or, take, length, length-map, get_or-eq_default, leb-true, ltb-true, le-leb}
 use Rattle.whole.specs.Plain.{lt-ltb, le-ltb, dec_lt, arith, Words, z, word, every, within, numbers}
 use Rattle.whole.specs.Folds.{and_left, and_right, get_d_map, length_numbers, get_d_numbers}

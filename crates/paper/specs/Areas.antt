@@ -1,5 +1,6 @@
 -- "Areas." and what else follows from the rows alone. Assumes nothing.
-use Rattle.whole.specs.Plain.{ℕ, suc, max, Bool, cond, not, ◌&&◌, List, [], tail, map, eqb, get_or, take, any, count}
+use Rattle.std.specs.Prelude.{◌&&◌}
+use Rattle.whole.specs.Plain.{ℕ, suc, max, Bool, cond, not, List, [], tail, map, eqb, get_or, take, any, count}
 use Rattle.whole.specs.Plain.{keep, fold, numbers}
 use Rattle.paper.specs.Rows.{Row, is_branch, is_source, is_line, from, to, at, step_length}
 use Rattle.paper.specs.Faults.{fixes}

@@ -1,6 +1,7 @@
 -- What E1 to E10 leave open, as a second table in their form, a third over lent words, and two laws of a row's legs. Assumes nothing.
-use Rattle.whole.specs.Plain.{ℕ, ◌+◌, ◌-◌, ◌*◌, ◌^◌, ◌≤◌, ◌≡◌, refl, List, [], ◌∷◌, ◌++◌, map, ℤ, pos, negsuc, neg_ℤ, ◌+ℤ◌, ◌-ℤ◌}
-use Rattle.whole.specs.Plain.{◌*ℤ◌, le-ltb, arith, set, replicate, Words, z, word}
+use Rattle.std.specs.Prelude.{◌+◌, ◌-◌, ◌*◌, ◌^◌, ◌≤◌, ◌≡◌, ◌∷◌, ◌++◌, ◌+ℤ◌, ◌-ℤ◌, ◌*ℤ◌}
+use Rattle.whole.specs.Plain.{ℕ, refl, List, [], map, ℤ, pos, negsuc, neg_ℤ}
+use Rattle.whole.specs.Plain.{le-ltb, arith, set, replicate, Words, z, word}
 use Rattle.paper.specs.declared.Reading.TheVariants.{Read, Value, Double}
 use Rattle.paper.specs.declared.Advance.{Advance}
 use Rattle.paper.specs.declared.Advance.TheVariants.{Took, Network, State, Area, Done, Range, History}

@@ -1,7 +1,7 @@
 -- Gaussian elimination over a list of lines, each operation rounded once, none fused. Assumes nothing.
-use Rattle.whole.specs.Plain.{ℕ, ◌+◌, false, List, [], pos, get_or, set, replicate}
+use Rattle.whole.specs.Plain.{ℕ, false, List, [], pos, get_or, set, replicate}
 use Rattle.std.specs.Float.Ieee as Ieee
-use Rattle.std.specs.Prelude.{Float}
+use Rattle.std.specs.Prelude.{Float, ◌+◌}
 use Rattle.std.specs.Float.{fin, nan, binary64}
 use Rattle.paper.specs.Limits as Limits
 use Rattle.paper.specs.declared.Equation.{Equation}

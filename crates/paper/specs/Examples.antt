@@ -1,6 +1,7 @@
 -- E1 to E10, as one table with one theorem over it: played over, the table is as it stands. "Step length is 1000 ns and source
 -- `VS 1 1000 1 0` throughout." Assumes nothing.
-use Rattle.whole.specs.Plain.{ℕ, ◌+◌, ◌-◌, ◌*◌, ◌^◌, ◌≡◌, refl, cond, List, [], ◌∷◌, ◌++◌, map, eqb, ltb, ℤ, pos}
+use Rattle.std.specs.Prelude.{◌+◌, ◌-◌, ◌*◌, ◌^◌, ◌≡◌, ◌∷◌, ◌++◌}
+use Rattle.whole.specs.Plain.{ℕ, refl, cond, List, [], map, eqb, ltb, ℤ, pos}
 use Rattle.whole.specs.Plain.{negsuc, get_or, replicate, length, Words, z, word, count, numbers}
 use Prim.Native.String.{String}
 use Rattle.paper.specs.declared.Reading.{Reading}

@@ -1,6 +1,7 @@
 -- What may be wrong with a row whose spelling is right: refusals 2 to 6, by the rows before it. One definition, for the reader's lines and
 -- for the rows of a lent network record; `head` is the study's row. Assumes nothing.
-use Rattle.whole.specs.Plain.{ℕ, ◌+◌, ◌*◌, ◌/◌, ◌%◌, Bool, true, false, cond, not, ◌&&◌, ◌||◌, List, [], ◌∷◌, tail, leb}
+use Rattle.std.specs.Prelude.{◌+◌, ◌*◌, ◌/◌, ◌%◌, ◌&&◌, ◌||◌, ◌∷◌}
+use Rattle.whole.specs.Plain.{ℕ, Bool, true, false, cond, not, List, [], tail, leb}
 use Rattle.whole.specs.Plain.{ltb, eqb, get_or, Words, between, any, count, sum}
 use Rattle.paper.specs.Limits as Limits
 use Rattle.paper.specs.Rows.{Row, Field, fields_of, kind, is_branch, is_source, is_line, is_switch, is_fixing, from, to, travel, closes, opens, at, step_length}

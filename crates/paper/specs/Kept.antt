@@ -1,5 +1,6 @@
 -- "Every refusal leaves all lent memory unchanged.", of all calls that the paper numbers: T-kept. Assumes nothing.
-use Rattle.whole.specs.Plain.{ℕ, zero, suc, ◌≡◌, refl, ◌≢◌, Bool, true, false, cond, not, ◌&&◌, ◌||◌, true≢false, List, eqb}
+use Rattle.std.specs.Prelude.{◌≡◌, ◌≢◌, ◌&&◌, ◌||◌}
+use Rattle.whole.specs.Plain.{ℕ, zero, suc, refl, Bool, true, false, cond, not, true≢false, List, eqb}
 use Rattle.whole.specs.Plain.{leb, ltb, length, Words}
 use Rattle.paper.specs.Limits as Limits
 use Rattle.paper.specs.Answers.{reading_number, resetting_number, writing_number, accepted}

@@ -1,6 +1,7 @@
 -- "Breakers open at current zero" (02): when a closed switch parts, what its latch then is, and how long a switch that has closed stays so. A latch is
 -- "the step k after which it parted or 0". Assumes nothing.
-use Rattle.whole.specs.Plain.{ℕ, ◌-◌, Bool, true, cond, not, ◌&&◌, ◌||◌, leb, ltb, eqb, ℤ, pos, lt_z, le_z, non_neg, z, nat}
+use Rattle.std.specs.Prelude.{◌-◌, ◌&&◌, ◌||◌}
+use Rattle.whole.specs.Plain.{ℕ, Bool, true, cond, not, leb, ltb, eqb, ℤ, pos, lt_z, le_z, non_neg, z, nat}
 use Rattle.paper.specs.Rows.{Row, is_breaker, closes, opens}
 
 -- "zero or of opposite sign to that of step k - 1": zero has no opposite sign, so a current that was zero and is not does not part a switch. By signs,

@@ -1,8 +1,9 @@
 -- One row at one step, as two legs, one for the current that leaves its from node and one for that which leaves its to node:
 -- "i = g·u + h" with u the voltage of `near` less that of `far`. A line's end is a leg of its own, to ground: "at each end i = g·v + h, where v
 -- is that end's voltage and h is what the far end sent", or lies between two values that it sent. An area's step knows only its own legs. Assumes nothing.
-use Rattle.whole.specs.Plain.{ℕ, ◌+◌, ◌-◌, ◌%◌, Bool, true, false, cond, not, ◌&&◌, ◌||◌, List, [], ◌∷◌, map, leb, ltb}
-use Rattle.whole.specs.Plain.{eqb, ℤ, pos, neg_ℤ, ◌+ℤ◌, ◌-ℤ◌, ◌*ℤ◌, get_or, length, Words, z, word, numbers}
+use Rattle.std.specs.Prelude.{◌+◌, ◌-◌, ◌%◌, ◌&&◌, ◌||◌, ◌∷◌, ◌+ℤ◌, ◌-ℤ◌, ◌*ℤ◌}
+use Rattle.whole.specs.Plain.{ℕ, Bool, true, false, cond, not, List, [], map, leb, ltb}
+use Rattle.whole.specs.Plain.{eqb, ℤ, pos, neg_ℤ, get_or, length, Words, z, word, numbers}
 use Rattle.whole.specs.Mixing.{mixed}
 use Rattle.paper.specs.Rows.{Row, is_branch, is_line, is_switch, is_l, is_c, from, to, closes, step_length}
 use Rattle.paper.specs.Conductance.{conductance}

@@ -1,5 +1,6 @@
 -- "Listing": what `emtrun` writes for a study. Assumes nothing.
-use Rattle.whole.specs.Plain.{ℕ, zero, suc, ◌+◌, ◌/◌, ◌%◌, Bool, true, false, cond, not, List, [], ◌∷◌, ◌++◌, eqb, ℤ}
+use Rattle.std.specs.Prelude.{◌+◌, ◌/◌, ◌%◌, ◌∷◌, ◌++◌}
+use Rattle.whole.specs.Plain.{ℕ, zero, suc, Bool, true, false, cond, not, List, [], eqb, ℤ}
 use Rattle.whole.specs.Plain.{pos, negsuc, get_or, length, replicate, Words, z, word, numbers}
 use Rattle.paper.specs.declared.Advance.{Advance}
 use Rattle.paper.specs.declared.Reading.{Reading}

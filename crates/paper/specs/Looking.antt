@@ -1,6 +1,7 @@
 -- A node's voltage, its largest magnitude and the first step where it came (02, peaks), "so that asking doesn't go through the listing": by node number, 9, 8, 10
 -- of the records alone, 2 for no such node. Nothing is lent to be written. Assumes nothing.
-use Rattle.whole.specs.Plain.{ℕ, ◌≡◌, sym, ◌∙◌, cond, not, ◌&&◌, leb, eqb, ℤ, nat_abs, length, Words, z, word}
+use Rattle.std.specs.Prelude.{◌≡◌, ◌&&◌}
+use Rattle.whole.specs.Plain.{ℕ, sym, ◌∙◌, cond, not, leb, eqb, ℤ, nat_abs, length, Words, z, word}
 use Rattle.paper.specs.declared.Looking.{Looking}
 use Rattle.paper.specs.declared.Looking.TheVariants.{Told, Node, Network, Store, State}
 use Rattle.paper.specs.Limits as Limits

@@ -1,6 +1,7 @@
 -- T-one: "Two outcomes that satisfy it are proved equal". What the contract of each call says of its answer and of every lent word as it returns, on
 -- all inputs, refused ones too; and that it leaves nothing open. Assumes nothing.
-use Rattle.whole.specs.Plain.{ℕ, ◌≡◌, sym, ◌∙◌, List, Words}
+use Rattle.std.specs.Prelude.{◌≡◌}
+use Rattle.whole.specs.Plain.{ℕ, sym, ◌∙◌, List, Words}
 use Rattle.paper.specs.declared.Reading.{Reading}
 use Rattle.paper.specs.declared.Resetting.{Resetting}
 use Rattle.paper.specs.declared.Advance.{Advance}

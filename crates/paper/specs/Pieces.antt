@@ -1,6 +1,7 @@
 -- The listing by pieces: what one call writes into a lent buffer, full step after full step, until the next might not fit, an area is refused or
 -- the study is done. Assumes nothing.
-use Rattle.whole.specs.Plain.{ℕ, suc, ◌+◌, ◌≡◌, sym, ◌∙◌, Bool, true, false, cond, not, ◌||◌, List, [], ◌∷◌, ◌++◌, leb}
+use Rattle.std.specs.Prelude.{◌+◌, ◌≡◌, ◌||◌, ◌∷◌, ◌++◌}
+use Rattle.whole.specs.Plain.{ℕ, suc, sym, ◌∙◌, Bool, true, false, cond, not, List, [], leb}
 use Rattle.whole.specs.Plain.{ltb, eqb, pos, length, drop, Words, every, numbers}
 use Rattle.paper.specs.declared.Advance.{Advance}
 use Rattle.paper.specs.declared.Listing.{Listing}

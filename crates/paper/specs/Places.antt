@@ -1,6 +1,7 @@
 -- T-total, of places: "14 to 16 carry the lowest such node, 13 and 17 the first such branch": a free node's number, and a branch's. Assumes nothing.
-use Rattle.whole.specs.Plain.{ℕ, zero, suc, ◌+◌, ◌≤◌, ◌<◌, ◌≡◌, refl, sym, ap, ◌∙◌, Bool, true, false, cond, not, ◌&&◌}
-use Rattle.whole.specs.Plain.{true≢false, List, [], ◌∷◌, map, leb, eqb, length, get_or, take, drop, length-map}
+use Rattle.std.specs.Prelude.{◌+◌, ◌≤◌, ◌<◌, ◌≡◌, ◌&&◌, ◌∷◌}
+use Rattle.whole.specs.Plain.{ℕ, zero, suc, refl, sym, ap, ◌∙◌, Bool, true, false, cond, not}
+use Rattle.whole.specs.Plain.{true≢false, List, [], map, leb, eqb, length, get_or, take, drop, length-map}
 use Rattle.whole.specs.Plain.{take-append-drop, eqb-true, zero-add, arith, Words, z, word, up_to, count, numbers}
 use Rattle.std.proofs.Common.{add-one}
 use Rattle.paper.specs.declared.Advance.{Advance}

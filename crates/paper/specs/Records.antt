@@ -1,7 +1,8 @@
 -- The records by sections, in one table: counts by area, voltages by node, then by row the from-side currents, the to-end currents and the histories,
 -- by node the peaks and their steps, and by row the latches.
 -- A word is used as its section says, and of no area where it is not; no word past the last section is used. Assumes nothing.
-use Rattle.whole.specs.Plain.{ℕ, suc, ◌+◌, ◌-◌, Bool, false, cond, not, ◌&&◌, ◌||◌, List, [], ◌∷◌, map, leb, ltb, ℤ}
+use Rattle.std.specs.Prelude.{◌+◌, ◌-◌, ◌&&◌, ◌||◌, ◌∷◌}
+use Rattle.whole.specs.Plain.{ℕ, suc, Bool, false, cond, not, List, [], map, leb, ltb, ℤ}
 use Rattle.whole.specs.Plain.{eqb, pos, nat_abs, lt_z, non_neg, get_or, length, replicate, take, Words, z, word, nat, up_to, every, within, numbers}
 use Rattle.paper.specs.Limits as Limits
 use Rattle.paper.specs.Rows.{Row, is_branch, is_line, is_breaker, is_l, is_c, from, to, steps}

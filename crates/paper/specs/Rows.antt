@@ -1,6 +1,7 @@
 -- A line of the table as a row of words, kind first and then the fields as in the text, and the table of kinds that the text, the
 -- refusals and the network record all go by. Assumes nothing.
-use Rattle.whole.specs.Plain.{ℕ, Bool, true, false, ◌||◌, List, [], ◌∷◌, eqb, ℤ, pos, negsuc, neg_ℤ, lt_z, get_or, length, Words}
+use Rattle.std.specs.Prelude.{◌||◌, ◌∷◌}
+use Rattle.whole.specs.Plain.{ℕ, Bool, true, false, List, [], eqb, ℤ, pos, negsuc, neg_ℤ, lt_z, get_or, length, Words}
 use Rattle.whole.specs.Plain.{z, word, nat}
 use Prim.Native.Char.{code}
 use Prim.Native.String as String

@@ -1,7 +1,7 @@
 -- One step of one area, from its own records and what it receives: the voltages, or a refusal of 14 to 17. Assumes nothing.
-use Rattle.whole.specs.Plain.{ℕ, zero, suc, Bool, false, cond, not, ◌&&◌, List, [], ◌∷◌, map, eqb, ℤ, pos, neg_ℤ, ◌-ℤ◌}
-use Rattle.whole.specs.Plain.{◌*ℤ◌, set, length, replicate, take, Words, z, word, up_to, filled, first, fold, total}
-use Rattle.std.specs.Prelude.{Float}
+use Rattle.whole.specs.Plain.{ℕ, zero, suc, Bool, false, cond, not, List, [], map, eqb, ℤ, pos, neg_ℤ}
+use Rattle.whole.specs.Plain.{set, length, replicate, take, Words, z, word, up_to, filled, first, fold, total}
+use Rattle.std.specs.Prelude.{Float, ◌&&◌, ◌∷◌, ◌-ℤ◌, ◌*ℤ◌}
 use Rattle.std.specs.Float.{fin}
 use Rattle.paper.specs.declared.Equation.{Equation}
 use Rattle.paper.specs.declared.Advance.{Advance}

@@ -1,6 +1,7 @@
 -- "A source before its start is 0; from start, with n steps since, it is peak · n / rise rounded toward zero while n < rise; at or after the
 -- rise it is the peak." A VC swings from its start on. Assumes nothing.
-use Rattle.whole.specs.Plain.{ℕ, ◌-◌, ◌*◌, ◌/◌, ◌%◌, ◌^◌, cond, ◌&&◌, ltb, eqb, ℤ, pos, ◌*ℤ◌, quot_z, z, total}
+use Rattle.std.specs.Prelude.{◌-◌, ◌*◌, ◌/◌, ◌%◌, ◌^◌, ◌&&◌, ◌*ℤ◌}
+use Rattle.whole.specs.Plain.{ℕ, cond, ltb, eqb, ℤ, pos, quot_z, z, total}
 use Rattle.num_cosine.specs.Cosine.{cosine}
 use Rattle.paper.specs.Rows.{Row, is_iS, is_vC, at, peak, start, rise, frequency}
 use Rattle.paper.specs.Faults.{fixes}

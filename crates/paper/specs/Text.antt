@@ -1,5 +1,6 @@
 -- "Lines end in LF, the last one too; fields are parted by one tab." Assumes nothing.
-use Rattle.whole.specs.Plain.{ℕ, suc, ◌+◌, ◌*◌, ◌-◌, Bool, true, false, cond, not, ◌&&◌, ◌||◌, bool_beq, List, [], ◌∷◌}
+use Rattle.std.specs.Prelude.{◌+◌, ◌*◌, ◌-◌, ◌&&◌, ◌||◌, ◌∷◌}
+use Rattle.whole.specs.Plain.{ℕ, suc, Bool, true, false, cond, not, bool_beq, List, []}
 use Rattle.whole.specs.Plain.{tail, leb, eqb, ℤ, pos, neg_ℤ, get_or, every, fold, same_bytes}
 use Rattle.paper.specs.Rows.{Row, Kind, Field, kinds, no_kind, fields_of, signed}
 

@@ -1,6 +1,7 @@
 -- T-total: every call ends in an acceptance or in a refusal of the paper's table, 1 to 7 and 9 from reading, 8 and 9 from resetting and from
 -- writing, 8 to 17 from advancing, 2 and 8 to 10 from asking for a node; and a reading's refusal names a line of the text. Assumes nothing.
-use Rattle.whole.specs.Plain.{ℕ, zero, suc, ◌≤◌, ◌≡◌, refl, ◌⊎◌, inl, inr, not, ◌||◌, List, [], ltb, eqb, lit≤, length}
+use Rattle.std.specs.Prelude.{◌≤◌, ◌≡◌, ◌⊎◌, ◌||◌}
+use Rattle.whole.specs.Plain.{ℕ, zero, suc, refl, inl, inr, not, List, [], ltb, eqb, lit≤, length}
 use Rattle.whole.specs.Plain.{arith, Words, empty, final, lead, fold}
 use Rattle.paper.specs.declared.Reading.{Reading}
 use Rattle.paper.specs.declared.Reading.TheVariants.{Read, Form, Node, Value, Travel, Double, Full, Size}

@@ -1,7 +1,8 @@
 -- Where each word of the records stands: counts by area, voltages by node, then by row (not by branch number: a row's place needs no counting) the
 -- from-side currents, the to-end currents and the histories, by node the peaks and their steps, and by row the latches; and where a line's slots stand in
 -- either store. Assumes nothing.
-use Rattle.whole.specs.Plain.{ℕ, ◌+◌, ◌-◌, take, sum}
+use Rattle.std.specs.Prelude.{◌+◌, ◌-◌}
+use Rattle.whole.specs.Plain.{ℕ, take, sum}
 use Rattle.paper.specs.Faults.{slots}
 use Rattle.paper.specs.Areas.{Net}
 

@@ -1,5 +1,6 @@
 -- K1, "Write studies out again.": "from an accepted network record to lines in table order". Assumes nothing.
-use Rattle.whole.specs.Plain.{ℕ, ◌≡◌, sym, ◌∙◌, cond, not, ◌||◌, List, [], ◌∷◌, ◌++◌, tail, eqb, ltb, length, drop, Words}
+use Rattle.std.specs.Prelude.{◌≡◌, ◌||◌, ◌∷◌, ◌++◌}
+use Rattle.whole.specs.Plain.{ℕ, sym, ◌∙◌, cond, not, List, [], tail, eqb, ltb, length, drop, Words}
 use Rattle.paper.specs.declared.Writing.{Writing}
 use Rattle.paper.specs.declared.Writing.TheVariants.{Wrote, Network, Store}
 use Rattle.paper.specs.Limits as Limits

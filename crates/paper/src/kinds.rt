@@ -1,5 +1,6 @@
 // The kinds of a row, as the network record numbers them: word 0 of a row. What each is for, and its class, stands in specs/Rows.antt.
-ghost use Rattle.whole.specs.Plain.{◌≡◌, ◌||◌, eqb};
+ghost use Rattle.std.specs.Prelude.{◌≡◌, ◌||◌};
+ghost use Rattle.whole.specs.Plain.{eqb};
 ghost use Rattle.paper.specs.Rows.{branch_kind, source_kind, fixing_kind};
 
 pub const R: usize = 1;

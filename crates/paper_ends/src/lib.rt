@@ -2,7 +2,8 @@
 
 // The constants that code reads are the numbers of the definitions: both ends of each quantity, the ends of the study text's fields, how much of each thing
 // there may be, and where the sections of the records begin. The functions promise that and nothing else.
-ghost use Rattle.whole.specs.Plain.{◌+◌, ◌≡◌, pos, neg_ℤ};
+ghost use Rattle.std.specs.Prelude.{◌+◌, ◌≡◌};
+ghost use Rattle.whole.specs.Plain.{pos, neg_ℤ};
 ghost use Rattle.paper.specs.Limits as Limits;
 ghost use Rattle.paper.specs.Records.{counts, voltages, currents, to_currents, histories, peaks, peak_steps, latches};
 ghost use Rattle.paper.specs.Records.{sections_end};

@@ -1,5 +1,6 @@
 -- Whether a row joins its two nodes, by its kind and its ends. Assumes nothing.
-use Rattle.whole.specs.Plain.{◌≡◌, ◌≢◌, true, false, not, ◌&&◌, and-false, eqb, eq-eqb, ne_eqb}
+use Rattle.std.specs.Prelude.{◌≡◌, ◌≢◌, ◌&&◌}
+use Rattle.whole.specs.Plain.{true, false, not, and-false, eqb, eq-eqb, ne_eqb}
 use Rattle.paper.specs.Rows.{Row, kind, is_branch, is_line, from, to}
 use Rattle.paper.specs.Areas.{joins}
 

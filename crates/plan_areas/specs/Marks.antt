@@ -1,6 +1,7 @@
 -- The rounds of `Spread` as code goes about them: row by row, on an array of 33 marks of which those past the last node are 0. Assumes nothing.
-use Rattle.whole.specs.Plain.{ℕ, zero, suc, ◌+◌, ◌-◌, ◌≤◌, ◌<◌, min, ◌≡◌, refl, sym, ap, ◌∙◌, Bool, true, false, cond}
-use Rattle.whole.specs.Plain.{not, ◌||◌, List, [], ◌∷◌, eqb, leb, length, get_or, set, drop, length-set}
+use Rattle.std.specs.Prelude.{◌+◌, ◌-◌, ◌≤◌, ◌<◌, ◌≡◌, ◌||◌, ◌∷◌}
+use Rattle.whole.specs.Plain.{ℕ, zero, suc, min, refl, sym, ap, ◌∙◌, Bool, true, false, cond}
+use Rattle.whole.specs.Plain.{not, List, [], eqb, leb, length, get_or, set, drop, length-set}
 use Rattle.whole.specs.Plain.{get_or-eq_default, set-get_or, ext_get_or, eqb-true, not-false, le-leb, lt-leb, dec_le}
 use Rattle.whole.specs.Plain.{arith, fold, keep, filled, numbers}
 use Rattle.whole.specs.Turns.{run, turns, turns_next, turns_done}

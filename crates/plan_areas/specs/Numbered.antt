@@ -1,5 +1,6 @@
 -- Numbering the areas in one pass over the marks: a node that leads takes the next number, any other takes its lowest node's. Assumes nothing.
-use Rattle.whole.specs.Plain.{ℕ, suc, ◌+◌, ◌≤◌, ◌<◌, ◌≡◌, refl, sym, ap, ◌∙◌, ◌≢◌, true, cond, List, ◌∷◌, eqb}
+use Rattle.std.specs.Prelude.{◌+◌, ◌≤◌, ◌<◌, ◌≡◌, ◌≢◌, ◌∷◌}
+use Rattle.whole.specs.Plain.{ℕ, suc, refl, sym, ap, ◌∙◌, true, cond, List, eqb}
 use Rattle.whole.specs.Plain.{length, get_or, set, length-set, get_or-eq_default, get_or-set_same, get_or-set_other}
 use Rattle.whole.specs.Plain.{ext_get_or, eq-eqb, ne_eqb, ℕ_discrete, dec_le, arith, Words, filled, count, numbers}
 use Rattle.std.proofs.Math.Numerals.{add-one}

@@ -1,7 +1,8 @@
 #![tactic(auto)]
 
 // "Areas.": which nodes R, L, C, SW and SWT join, by rounds over the rows, and the areas numbered from 1 by their lowest node.
-ghost use Rattle.whole.specs.Plain.{suc, ◌≤◌, ◌<◌, ◌+◌, ◌≡◌, true, cond, leb, length, get_or, filled, numbers};
+ghost use Rattle.std.specs.Prelude.{◌≤◌, ◌<◌, ◌+◌, ◌≡◌};
+ghost use Rattle.whole.specs.Plain.{suc, true, cond, leb, length, get_or, filled, numbers};
 ghost use Rattle.paper.specs.Limits as Limits;
 ghost use Rattle.paper.specs.Spread.{joined};
 ghost use Rattle.whole.specs.Turns.{turns};

@@ -1,7 +1,8 @@
 -- What is an area's own: the ends of rows that leave its nodes, its nodes, its sources. End e is the end 1 + e mod 2 of row e / 2: 1 the from end, 2
 -- the to end. Assumes nothing.
-use Rattle.whole.specs.Plain.{ℕ, zero, suc, ◌+◌, ◌-◌, ◌*◌, ◌/◌, ◌%◌, ◌≤◌, ◌<◌, ◌≡◌, refl, Bool, true, false, cond, ◌&&◌}
-use Rattle.whole.specs.Plain.{List, [], ◌∷◌, ◌++◌, map, eqb, ℤ, pos, neg_ℤ, get_or, length, arith, Words, word, nat, numbers, keep}
+use Rattle.std.specs.Prelude.{◌+◌, ◌-◌, ◌*◌, ◌/◌, ◌%◌, ◌≤◌, ◌<◌, ◌≡◌, ◌&&◌, ◌∷◌, ◌++◌}
+use Rattle.whole.specs.Plain.{ℕ, zero, suc, refl, Bool, true, false, cond}
+use Rattle.whole.specs.Plain.{List, [], map, eqb, ℤ, pos, neg_ℤ, get_or, length, arith, Words, word, nat, numbers, keep}
 use Rattle.paper.specs.Rows.{Row, kind, is_line, is_branch, is_source, is_vC, at, peak, start, rise, frequency}
 use Rattle.paper.specs.Areas.{Net, step, area_of, row_area, fixed, nodes_of, free_of}
 use Rattle.paper.specs.Classes.{line_branch}

@@ -1,6 +1,7 @@
 -- An area's own ends as lines, by a plan: they are those of the network that the plan is of. Assumes nothing.
-use Rattle.whole.specs.Plain.{ℕ, ◌-◌, ◌*◌, ◌/◌, ◌≤◌, ◌<◌, ◌≡◌, refl, sym, ap, ◌∙◌, Bool, true, false, cond, List, []}
-use Rattle.whole.specs.Plain.{◌∷◌, map, eqb, pos, length, length-map, eqb-true, arith, Words, z, word, nat}
+use Rattle.std.specs.Prelude.{◌-◌, ◌*◌, ◌/◌, ◌≤◌, ◌<◌, ◌≡◌, ◌∷◌}
+use Rattle.whole.specs.Plain.{ℕ, refl, sym, ap, ◌∙◌, Bool, true, false, cond, List, []}
+use Rattle.whole.specs.Plain.{map, eqb, pos, length, length-map, eqb-true, arith, Words, z, word, nat}
 use Rattle.whole.specs.Folds.{get_d_map}
 use Rattle.paper.specs.Limits as Limits
 use Rattle.paper.specs.Rows.{kind, is_line, is_branch}

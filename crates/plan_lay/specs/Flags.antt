@@ -1,5 +1,6 @@
 -- "A node with a VS is fixed": flags by node, set row by row. Assumes nothing.
-use Rattle.whole.specs.Plain.{ℕ, suc, ◌+◌, ◌≤◌, ◌<◌, ◌≡◌, refl, sym, ap, ◌∙◌, Bool, true, false, cond, ◌&&◌, ◌||◌, List}
+use Rattle.std.specs.Prelude.{◌+◌, ◌≤◌, ◌<◌, ◌≡◌, ◌&&◌, ◌||◌}
+use Rattle.whole.specs.Plain.{ℕ, suc, refl, sym, ap, ◌∙◌, Bool, true, false, cond, List}
 use Rattle.whole.specs.Plain.{[], eqb, length, get_or, take, set, replicate, length-set, length-replicate, get_or-replicate}
 use Rattle.whole.specs.Plain.{take-suc, take-length, arith, any}
 use Rattle.std.proofs.Common.{add-one}

@@ -1,6 +1,7 @@
 -- A table filled line by line behind what stands in it already. Assumes nothing.
-use Rattle.whole.specs.Plain.{ℕ, ◌+◌, ◌-◌, ◌≤◌, ◌<◌, ◌≡◌, refl, sym, ap, ◌∙◌, Bool, true, false, cond, List, [], ◌∷◌}
-use Rattle.whole.specs.Plain.{◌++◌, append-nil, append_assoc, length, set, take, drop, length-set, length-append}
+use Rattle.std.specs.Prelude.{◌+◌, ◌-◌, ◌≤◌, ◌<◌, ◌≡◌, ◌∷◌, ◌++◌}
+use Rattle.whole.specs.Plain.{ℕ, refl, sym, ap, ◌∙◌, Bool, true, false, cond, List, []}
+use Rattle.whole.specs.Plain.{append-nil, append_assoc, length, set, take, drop, length-set, length-append}
 use Rattle.whole.specs.Plain.{length-take-le, take-add, take_at, drop_at, take-take, take-suc-set, arith}
 use Rattle.std.proofs.Common.{add-one}
 

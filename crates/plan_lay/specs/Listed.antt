@@ -1,6 +1,7 @@
 -- Those of some numbers that pass, each as a line: one number more, and the same by tests and lines that agree. Assumes nothing.
-use Rattle.whole.specs.Plain.{ℕ, zero, suc, ◌+◌, ◌-◌, ◌≤◌, ◌<◌, ◌≡◌, refl, ap, ◌∙◌, Bool, true, false, cond, List, []}
-use Rattle.whole.specs.Plain.{◌∷◌, ◌++◌, map, length, length-map, length-append, arith, numbers, keep, count}
+use Rattle.std.specs.Prelude.{◌+◌, ◌-◌, ◌≤◌, ◌<◌, ◌≡◌, ◌∷◌, ◌++◌}
+use Rattle.whole.specs.Plain.{ℕ, zero, suc, refl, ap, ◌∙◌, Bool, true, false, cond, List, []}
+use Rattle.whole.specs.Plain.{map, length, length-map, length-append, arith, numbers, keep, count}
 use Rattle.whole.specs.Folds.{numbers_more, numbers_append, keep_append, map_append, length_keep, count_append}
 use Rattle.plan_lay.specs.Grown.{Grown, Put, grown_none, grown_put}
 

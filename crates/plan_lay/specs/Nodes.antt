@@ -1,5 +1,6 @@
 -- An area's nodes, the free ones and the fixed ones, by the areas and flags by node. Assumes nothing.
-use Rattle.whole.specs.Plain.{ℕ, ◌≤◌, ◌≡◌, refl, sym, ap, ◌∙◌, Bool, true, false, not, ◌&&◌, bool_beq, List, [], ◌∷◌}
+use Rattle.std.specs.Prelude.{◌≤◌, ◌≡◌, ◌&&◌, ◌∷◌}
+use Rattle.whole.specs.Plain.{ℕ, refl, sym, ap, ◌∙◌, Bool, true, false, not, bool_beq, List, []}
 use Rattle.whole.specs.Plain.{map, eqb, get_or, arith, keep, numbers}
 use Rattle.whole.specs.Written.{keep_keep}
 use Rattle.paper.specs.Limits as Limits

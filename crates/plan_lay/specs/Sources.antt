@@ -1,5 +1,6 @@
 -- An area's sources as lines, by the places of their rows. Assumes nothing.
-use Rattle.whole.specs.Plain.{ℕ, ◌+◌, ◌*◌, ◌≡◌, sym, ap, ◌∙◌, Bool, true, false, pos, neg_ℤ, List, [], ◌∷◌, map, map-map, length, get_or}
+use Rattle.std.specs.Prelude.{◌+◌, ◌*◌, ◌≡◌, ◌∷◌}
+use Rattle.whole.specs.Plain.{ℕ, sym, ap, ◌∙◌, Bool, true, false, pos, neg_ℤ, List, [], map, map-map, length, get_or}
 use Rattle.whole.specs.Plain.{length-map, ext_get_or, arith, Words, word, numbers, keep}
 use Rattle.whole.specs.Folds.{keep_map, get_d_map, get_d_numbers, length_numbers}
 use Rattle.paper.specs.Rows.{Row, is_source, is_vC, rise, frequency}

@@ -1,7 +1,8 @@
 #![tactic(auto)]
 
 // An area's own legs, nodes and sources, each put into a table behind what stands there already: its legs with what the network alone settles of them.
-ghost use Rattle.whole.specs.Plain.{ℕ, ◌+◌, ◌≤◌, ◌<◌, ◌≡◌, true, eqb, length};
+ghost use Rattle.std.specs.Prelude.{◌+◌, ◌≤◌, ◌<◌, ◌≡◌};
+ghost use Rattle.whole.specs.Plain.{ℕ, true, eqb, length};
 ghost use Rattle.paper.specs.Limits as Limits;
 ghost use Rattle.paper.specs.Rows.{is_source};
 ghost use Rattle.paper.specs.Network.{is_network};

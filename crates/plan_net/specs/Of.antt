@@ -1,6 +1,7 @@
 -- Which network a plan is of. Below the plan no function has the network record: what is said there is said of every network that the plan is of, and
 -- asked where there is one. Assumes nothing.
-use Rattle.whole.specs.Plain.{ℕ, ◌≡◌, true, List, Words}
+use Rattle.std.specs.Prelude.{◌≡◌}
+use Rattle.whole.specs.Plain.{ℕ, true, List, Words}
 use Rattle.paper.specs.Network.{is_network}
 use Rattle.paper.specs.Areas.{Net}
 use Rattle.laws_facts.specs.Nets.{NetSound, net_in, net_sound}

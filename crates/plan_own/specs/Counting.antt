@@ -1,5 +1,6 @@
 -- Each number belongs to one area: those of area a and those of the areas past it are those from a on. Assumes nothing.
-use Rattle.whole.specs.Plain.{ℕ, ◌+◌, ◌≤◌, ◌<◌, ◌≡◌, refl, Bool, true, false, cond, ◌&&◌, List, [], ◌∷◌, leb, eqb}
+use Rattle.std.specs.Prelude.{◌+◌, ◌≤◌, ◌<◌, ◌≡◌, ◌&&◌, ◌∷◌}
+use Rattle.whole.specs.Plain.{ℕ, refl, Bool, true, false, cond, List, [], leb, eqb}
 use Rattle.whole.specs.Plain.{eq-eqb, ne_eqb, le-leb, lt-leb, dec_lt, arith, count}
 use Rattle.whole.specs.Folds.{and_left}
 use Rattle.whole.specs.Written.{count_imply}

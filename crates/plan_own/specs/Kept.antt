@@ -1,5 +1,6 @@
 -- What leaves the own of all areas where it stands: one area's legs written anew, framed as before. Assumes nothing.
-use Rattle.whole.specs.Plain.{ℕ, ◌+◌, ◌-◌, ◌≤◌, ◌<◌, ◌≡◌, sym, ap, ◌∙◌, List, [], ◌++◌, length, set, take, drop}
+use Rattle.std.specs.Prelude.{◌+◌, ◌-◌, ◌≤◌, ◌<◌, ◌≡◌, ◌++◌}
+use Rattle.whole.specs.Plain.{ℕ, sym, ap, ◌∙◌, List, [], length, set, take, drop}
 use Rattle.whole.specs.Plain.{get_or-set_same, get_or-set_other, length-take-le, take_at, drop_at, drop-drop, arith, Words}
 use borrow.Rule.Slice.PartMut.{put_mid, post_of, mid_len, same_len_mid, take_put, drop_put}
 use Rattle.paper.specs.Areas.{Net}

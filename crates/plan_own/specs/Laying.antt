@@ -1,5 +1,6 @@
 -- Area after area: what is laid of those below a, with room behind it for the rest. Assumes nothing.
-use Rattle.whole.specs.Plain.{ℕ, ◌+◌, ◌≤◌, ◌<◌, ◌≡◌, ◌∙◌, List, [], length, set, length-set, get_or-set_same}
+use Rattle.std.specs.Prelude.{◌+◌, ◌≤◌, ◌<◌, ◌≡◌}
+use Rattle.whole.specs.Plain.{ℕ, ◌∙◌, List, [], length, set, length-set, get_or-set_same}
 use Rattle.whole.specs.Plain.{get_or-set_other, ℕ_discrete, arith, Words}
 use Rattle.paper.specs.Areas.{Net}
 use Rattle.laws_facts.specs.Nets.{NetSound}

@@ -1,5 +1,6 @@
 -- Where the own of each area stands, and what stands there. Assumes nothing.
-use Rattle.whole.specs.Plain.{ℕ, suc, ◌+◌, ◌*◌, ◌≤◌, ◌<◌, ◌≡◌, Bool, true, List, [], ◌∷◌, length, get_or, set, take}
+use Rattle.std.specs.Prelude.{◌+◌, ◌*◌, ◌≤◌, ◌<◌, ◌≡◌, ◌∷◌}
+use Rattle.whole.specs.Plain.{ℕ, suc, Bool, true, List, [], length, get_or, set, take}
 use Rattle.whole.specs.Plain.{Words, numbers}
 use Rattle.paper.specs.Rows.{is_source, at}
 use Rattle.paper.specs.Network.{is_network}

@@ -2,7 +2,8 @@
 
 // What is an area's own, in tables that all areas share, area after area: its legs, its nodes, the free ones first, and its sources; and where each
 // area's own stands.
-ghost use Rattle.whole.specs.Plain.{◌+◌, ◌≤◌, ◌<◌, ◌≡◌, length, set};
+ghost use Rattle.std.specs.Prelude.{◌+◌, ◌≤◌, ◌<◌, ◌≡◌};
+ghost use Rattle.whole.specs.Plain.{length, set};
 ghost use Rattle.paper.specs.Limits as Limits;
 ghost use Rattle.laws_facts.specs.Nets.{net_in};
 ghost use Rattle.plan_own.specs.Owns.{words_of, own_in, nothing, until_put, Given, Tables, Room, Ours, Behind, Laid};

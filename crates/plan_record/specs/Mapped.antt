@@ -1,5 +1,6 @@
 -- The areas by node, as an array. Assumes nothing.
-use Rattle.whole.specs.Plain.{ℕ, ◌≤◌, ◌≡◌, List, get_or}
+use Rattle.std.specs.Prelude.{◌≤◌, ◌≡◌}
+use Rattle.whole.specs.Plain.{ℕ, List, get_or}
 use Rattle.paper.specs.Limits as Limits
 use Rattle.paper.specs.Areas.{Net, area_of}
 

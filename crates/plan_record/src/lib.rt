@@ -2,7 +2,8 @@
 
 // A network record by its rows, in table order: the words of row i are its kind and then its fields as in the text.
 
-ghost use Rattle.whole.specs.Plain.{◌<◌, ◌≡◌, true, pos, length, word, nat};
+ghost use Rattle.std.specs.Prelude.{◌<◌, ◌≡◌};
+ghost use Rattle.whole.specs.Plain.{true, pos, length, word, nat};
 ghost use Rattle.paper.specs.Rows as Rows;
 ghost use Rattle.paper.specs.Network.{is_network};
 ghost use Rattle.laws_facts.specs.Nets.{net_in, row_at};

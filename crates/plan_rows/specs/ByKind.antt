@@ -1,5 +1,6 @@
 -- What goes by a row's kind alone, in the paper's words: its class, its slots, whose its ends are. Assumes nothing.
-use Rattle.whole.specs.Plain.{ℕ, ◌*◌, ◌+◌, max, ◌≡◌, refl, Bool, true, false, cond, List, [], ◌∷◌, eqb, pos, get_or}
+use Rattle.std.specs.Prelude.{◌*◌, ◌+◌, ◌≡◌, ◌∷◌}
+use Rattle.whole.specs.Plain.{ℕ, max, refl, Bool, true, false, cond, List, [], eqb, pos, get_or}
 use Rattle.whole.specs.Plain.{arith}
 use Rattle.paper.specs.Rows.{Row, kind, branch_kind, is_branch, is_source, is_line, step_length}
 use Rattle.paper.specs.Faults.{delay, rest, depth, slots}

@@ -1,5 +1,6 @@
 -- One row of a network, by its words: each is what the plan has of it. Assumes nothing.
-use Rattle.whole.specs.Plain.{ℕ, zero, suc, ◌+◌, ◌≤◌, ◌<◌, max, ◌≡◌, refl, sym, ap, ◌∙◌, Bool, true, false, cond, List}
+use Rattle.std.specs.Prelude.{◌+◌, ◌≤◌, ◌<◌, ◌≡◌}
+use Rattle.whole.specs.Plain.{ℕ, zero, suc, max, refl, sym, ap, ◌∙◌, Bool, true, false, cond, List}
 use Rattle.whole.specs.Plain.{lit≤, ℤ, pos, length, get_or, arith, Words, z, word, nat}
 use Rattle.paper.specs.Limits as Limits
 use Rattle.paper.specs.Rows as Rows

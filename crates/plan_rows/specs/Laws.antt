@@ -1,5 +1,6 @@
 -- The plan filled row by row. Assumes nothing.
-use Rattle.whole.specs.Plain.{ℕ, zero, suc, ◌+◌, ◌≤◌, ◌<◌, max, ◌≡◌, refl, ap, ◌∙◌, cond, List, [], length, length-set}
+use Rattle.std.specs.Prelude.{◌+◌, ◌≤◌, ◌<◌, ◌≡◌}
+use Rattle.whole.specs.Plain.{ℕ, zero, suc, max, refl, ap, ◌∙◌, cond, List, [], length, length-set}
 use Rattle.whole.specs.Plain.{set, get_or, take-length, get_or-set_same, get_or-set_other, ℕ_discrete, arith, Words, filled}
 use Rattle.whole.specs.Plain.{fold, sum}
 use Rattle.std.proofs.Common.{add-one}

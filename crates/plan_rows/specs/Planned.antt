@@ -1,5 +1,6 @@
 -- What follows from a network record alone and a step goes by: a line of words for each row, and the counts. Assumes nothing.
-use Rattle.whole.specs.Plain.{ℕ, suc, ◌≤◌, ◌<◌, ◌≡◌, cond, List, [], ◌∷◌, eqb, pos, length, get_or, word, nat}
+use Rattle.std.specs.Prelude.{◌≤◌, ◌<◌, ◌≡◌, ◌∷◌}
+use Rattle.whole.specs.Plain.{ℕ, suc, cond, List, [], eqb, pos, length, get_or, word, nat}
 use Rattle.paper.specs.Limits as Limits
 use Rattle.paper.specs.Rows as Rows
 use Rattle.paper.specs.Rows.{is_branch}

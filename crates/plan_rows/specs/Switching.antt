@@ -1,5 +1,6 @@
 -- When a breaker may part, by the plan's rows. Assumes nothing.
-use Rattle.whole.specs.Plain.{ℕ, ◌+◌, ◌-◌, ◌<◌, ◌≡◌, refl, sym, ◌∙◌, Bool, ◌&&◌, leb, ltb, le-leb, lt-leb, dec_lt, arith}
+use Rattle.std.specs.Prelude.{◌+◌, ◌-◌, ◌<◌, ◌≡◌, ◌&&◌}
+use Rattle.whole.specs.Plain.{ℕ, refl, sym, ◌∙◌, Bool, leb, ltb, le-leb, lt-leb, dec_lt, arith}
 use Rattle.paper.specs.Areas.{Net}
 use Rattle.paper.specs.Latch.{may_part}
 use Rattle.laws_facts.specs.Nets.{row_at}

@@ -1,7 +1,8 @@
 #![tactic(auto)]
 
 // What a step needs of a network record that passes refusal 8, and that follows from it alone: each row decoded once, the counts, and the areas by node.
-ghost use Rattle.whole.specs.Plain.{suc, ◌+◌, ◌≤◌, ◌<◌, max, ◌≡◌, true, cond, length, set, word, nat};
+ghost use Rattle.std.specs.Prelude.{◌+◌, ◌≤◌, ◌<◌, ◌≡◌};
+ghost use Rattle.whole.specs.Plain.{suc, max, true, cond, length, set, word, nat};
 ghost use Rattle.paper.specs.Limits as Limits;
 ghost use Rattle.paper.specs.Rows as Rows;
 ghost use Rattle.paper.specs.Network.{is_network};

@@ -1,6 +1,6 @@
 -- What a read or a write tells of the bytes that it moved. Assumes nothing.
-use Rattle.whole.specs.Plain.{ℕ, ◌-◌, ◌≤◌, ◌≡◌, List, length, take}
-use Rattle.std.specs.Prelude.{Result, Ok, Err, IfOk}
+use Rattle.whole.specs.Plain.{ℕ, List, length, take}
+use Rattle.std.specs.Prelude.{Result, Ok, Err, IfOk, ◌-◌, ◌≤◌, ◌≡◌}
 use Rattle.run_bytes.specs.declared.Moved.{Moved}
 use Rattle.run_bytes.specs.declared.Moved.TheVariants as M
 use Rattle.run_bytes.specs.declared.Input.{Input}

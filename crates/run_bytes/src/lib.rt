@@ -1,7 +1,8 @@
 #![tactic(auto)]
 
 // A reader's and a writer's bytes, as standard input and output: a call that a signal interrupts is made again, and a failure is never taken for the end.
-ghost use Rattle.whole.specs.Plain.{◌≤◌, ◌-◌, length};
+ghost use Rattle.std.specs.Prelude.{◌≤◌, ◌-◌};
+ghost use Rattle.whole.specs.Plain.{length};
 ghost use Rattle.run_bytes.specs.Moving.{Tells, Most, Brings, Held};
 
 use std::io::{Error, ErrorKind, Read, Write};

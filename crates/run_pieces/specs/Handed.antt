@@ -1,6 +1,7 @@
 -- T-pieces as a program goes: piece after piece into one buffer, counted. Once a piece is the last, or there are as many as a study may have steps, what was
 -- handed over, one piece after another, is the run. Assumes nothing.
-use Rattle.whole.specs.Plain.{ℕ, zero, suc, ◌+◌, ◌≤◌, ◌<◌, ◌≡◌, ◌≢◌, refl, sym, ap, ◌∙◌, true, ◌⊎◌, inl, inr, ⊎_elim, List, [], ◌++◌}
+use Rattle.std.specs.Prelude.{◌+◌, ◌≤◌, ◌<◌, ◌≡◌, ◌≢◌, ◌⊎◌, ◌++◌}
+use Rattle.whole.specs.Plain.{ℕ, zero, suc, refl, sym, ap, ◌∙◌, true, inl, inr, ⊎_elim, List, []}
 use Rattle.whole.specs.Plain.{le-leb, replicate, length-replicate, arith, Words, every}
 use Rattle.paper.specs.declared.Listing.{Listing}
 use Rattle.paper.specs.declared.Listing.TheVariants.{More, Done, Stopped, Network, Store, State}

@@ -1,5 +1,6 @@
 -- What the program hands to its output, one piece of the listing after another. Assumes nothing.
-use Rattle.whole.specs.Plain.{ℕ, suc, ◌+◌, ◌≤◌, ◌≡◌, ◌≢◌, refl, sym, ap, ◌∙◌, Bool, false, not, List, [], ◌∷◌, ◌++◌}
+use Rattle.std.specs.Prelude.{◌+◌, ◌≤◌, ◌≡◌, ◌≢◌, ◌∷◌, ◌++◌}
+use Rattle.whole.specs.Plain.{ℕ, suc, refl, sym, ap, ◌∙◌, Bool, false, not, List, []}
 use Rattle.whole.specs.Plain.{pos, length, drop, zero, length-append, dec_lt, arith, Words}
 use Rattle.std.proofs.Common.{add-one}
 use Rattle.paper.specs.declared.Listing.{Listing}

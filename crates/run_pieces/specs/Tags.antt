@@ -1,5 +1,6 @@
 -- An answer's tag where it is none of the first variant's: one of those that follow, in turn. Assumes nothing.
-use Rattle.whole.specs.Plain.{ℕ, suc, ◌≡◌, ◌≢◌, ◌⊎◌, ⊎_elim, arith}
+use Rattle.std.specs.Prelude.{◌≡◌, ◌≢◌, ◌⊎◌}
+use Rattle.whole.specs.Plain.{ℕ, suc, ⊎_elim, arith}
 
 pub last : (k : ℕ) {t : ℕ} → t ≡ suc k → t ≢ 0
 last k q e = omega arith

@@ -1,5 +1,6 @@
 -- What the program hands over for a text, one piece after another, is the paper's listing of it. Assumes nothing.
-use Rattle.whole.specs.Plain.{ℕ, suc, ◌≤◌, ◌≡◌, ◌≢◌, refl, sym, ap, ◌∙◌, Bool, true, false, false≢true, List, [], ◌∷◌, ◌⊎◌, inl, inr, take, take_all, length}
+use Rattle.std.specs.Prelude.{◌≤◌, ◌≡◌, ◌≢◌, ◌∷◌, ◌⊎◌}
+use Rattle.whole.specs.Plain.{ℕ, suc, refl, sym, ap, ◌∙◌, Bool, true, false, false≢true, List, [], inl, inr, take, take_all, length}
 use Rattle.whole.specs.Plain.{pos, length-append, length-take-le, lt-ltb, replicate, dec_le, arith, Words, z}
 use Rattle.paper.specs.declared.Reading.{Reading}
 use Rattle.paper.specs.declared.Reading.TheVariants as Reading

@@ -1,7 +1,8 @@
 #![tactic(auto)]
 
 // What becomes of a study text: a line that refuses it, or its listing from a reset. On slices and a writer; what is read comes from run_bytes.
-ghost use Rattle.whole.specs.Plain.{◌≤◌, ◌≡◌, true, length};
+ghost use Rattle.std.specs.Prelude.{◌≤◌, ◌≡◌};
+ghost use Rattle.whole.specs.Plain.{true, length};
 ghost use Rattle.paper.specs.Limits as Limits;
 ghost use Rattle.paper.specs.Network.{is_network};
 ghost use Rattle.paper.specs.Resetting.{fresh};

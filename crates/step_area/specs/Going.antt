@@ -1,7 +1,7 @@
 -- An area's step, with what is kept for it renewed first. Assumes nothing.
-use Rattle.whole.specs.Plain.{ℕ, zero, suc, ◌≤◌, ◌≡◌, refl, sym, ap, ◌∙◌, List}
-use Rattle.whole.specs.Plain.{[], ◌∷◌, map, Words, z}
-use Rattle.std.specs.Prelude.{Float}
+use Rattle.whole.specs.Plain.{ℕ, zero, suc, refl, sym, ap, ◌∙◌, List}
+use Rattle.whole.specs.Plain.{[], map, Words, z}
+use Rattle.std.specs.Prelude.{Float, ◌≤◌, ◌≡◌, ◌∷◌}
 use Rattle.paper.specs.declared.Advance.{Advance}
 use Rattle.paper.specs.declared.Advance.TheVariants.{Floating}
 use Rattle.paper.specs.Areas.{Net, fixed, free_of}

@@ -1,5 +1,6 @@
 -- Where an area's legs stand as a step leaves them, all that is asked of a caller holds. Assumes nothing.
-use Rattle.whole.specs.Plain.{ℕ, ◌/◌, ◌≤◌, ◌<◌, ◌≡◌, refl, ap, sym, subst, ⊎_elim, Bool, true, false, List, map, Mem-append_cases, Mem-append_left}
+use Rattle.std.specs.Prelude.{◌/◌, ◌≤◌, ◌<◌, ◌≡◌}
+use Rattle.whole.specs.Plain.{ℕ, refl, ap, sym, subst, ⊎_elim, Bool, true, false, List, map, Mem-append_cases, Mem-append_left}
 use Rattle.whole.specs.Plain.{Mem-append_right, length, eq-eqb, arith, Words}
 use Rattle.whole.specs.Members.{Among, among_at, among_keep, keep_among}
 use Rattle.paper.specs.Rows.{steps}

@@ -1,6 +1,7 @@
 -- What an end of a row puts, from what is found of it; what the two put into the stores in turn is what the paper puts for the row. Assumes nothing.
-use Rattle.whole.specs.Plain.{ℕ, suc, ◌+◌, ◌*◌, ◌%◌, ◌≡◌, refl, sym, ap, ◌∙◌, Bool, true, false, cond, ◌&&◌, ◌||◌, and-false}
-use Rattle.whole.specs.Plain.{List, [], ◌∷◌, map, ℤ, pos, set, arith, Words, word, fold}
+use Rattle.std.specs.Prelude.{◌+◌, ◌*◌, ◌%◌, ◌≡◌, ◌&&◌, ◌||◌, ◌∷◌}
+use Rattle.whole.specs.Plain.{ℕ, suc, refl, sym, ap, ◌∙◌, Bool, true, false, cond, and-false}
+use Rattle.whole.specs.Plain.{List, [], map, ℤ, pos, set, arith, Words, word, fold}
 use Rattle.paper.specs.Rows.{Row, kind, is_line, is_breaker, is_l, is_c}
 use Rattle.paper.specs.Areas.{Net}
 use Rattle.paper.specs.Records.{current_at, to_current_at, history_at, latch_at}

@@ -1,6 +1,7 @@
 -- An SW's latch goes by the current and the latch that stood in the records, which no turn but its own has touched. Assumes nothing.
-use Rattle.whole.specs.Plain.{ℕ, ◌+◌, ◌-◌, ◌*◌, ◌/◌, ◌%◌, ◌≤◌, ◌<◌, ◌≡◌, refl, sym, ap, ◌∙◌, subst, ◌≢◌, ◌⊎◌, inl, inr, Bool, true, false, cond, not}
-use Rattle.whole.specs.Plain.{◌&&◌, true≢false, List, ℤ, pos, lt_z, length, get_or-set_same, get_or-set_other, eqb-true, ℕ_discrete, arith, Words, z, word}
+use Rattle.std.specs.Prelude.{◌+◌, ◌-◌, ◌*◌, ◌/◌, ◌%◌, ◌≤◌, ◌<◌, ◌≡◌, ◌≢◌, ◌⊎◌, ◌&&◌}
+use Rattle.whole.specs.Plain.{ℕ, refl, sym, ap, ◌∙◌, subst, inl, inr, Bool, true, false, cond, not}
+use Rattle.whole.specs.Plain.{true≢false, List, ℤ, pos, lt_z, length, get_or-set_same, get_or-set_other, eqb-true, ℕ_discrete, arith, Words, z, word}
 use Rattle.whole.specs.Plain.{numbers}
 use Rattle.whole.specs.Members.{Among, among_at, keep_among, numbers_among}
 use Rattle.paper.specs.Classes.{breaker_branch, breaker_line}

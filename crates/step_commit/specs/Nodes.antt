@@ -1,5 +1,6 @@
 -- What the turns of an area's nodes put into the records is what the paper's step writes there. Assumes nothing.
-use Rattle.whole.specs.Plain.{ℕ, ◌+◌, ◌-◌, ◌≤◌, ◌≡◌, refl, sym, ap, ◌∙◌, ◌≢◌, Bool, true, false, cond, List, ℤ, pos, nat_abs, set, length-set}
+use Rattle.std.specs.Prelude.{◌+◌, ◌-◌, ◌≤◌, ◌≡◌, ◌≢◌}
+use Rattle.whole.specs.Plain.{ℕ, refl, sym, ap, ◌∙◌, Bool, true, false, cond, List, ℤ, pos, nat_abs, set, length-set}
 use Rattle.whole.specs.Plain.{get_or-set_same, get_or-set_other, ℕ_discrete, arith, Words, z, word}
 use Rattle.whole.specs.Folds.{fold_keeps}
 use Rattle.whole.specs.Members.{Among}

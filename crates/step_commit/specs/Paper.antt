@@ -1,5 +1,6 @@
 -- What the legs of an area's step write is what the paper has an accepted step write. Assumes nothing.
-use Rattle.whole.specs.Plain.{ℕ, suc, ◌+◌, ◌-◌, ◌*◌, ◌/◌, ◌%◌, ◌≤◌, ◌<◌, ◌≡◌, sym, ap, ◌∙◌, true, cond, List, map, ltb, pos, length, get_or-set_same}
+use Rattle.std.specs.Prelude.{◌+◌, ◌-◌, ◌*◌, ◌/◌, ◌%◌, ◌≤◌, ◌<◌, ◌≡◌}
+use Rattle.whole.specs.Plain.{ℕ, suc, sym, ap, ◌∙◌, true, cond, List, map, ltb, pos, length, get_or-set_same}
 use Rattle.whole.specs.Plain.{ext_get_or, eq-eqb, ltb-true, ℕ_discrete, arith, Words, z}
 use Rattle.whole.specs.Folds.{fold_map}
 use Rattle.whole.specs.Members.{Among, All, all_among}

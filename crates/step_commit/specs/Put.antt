@@ -1,5 +1,6 @@
 -- What an end of an area's puts into the records, at its turn, is what the paper's step writes there. Assumes nothing.
-use Rattle.whole.specs.Plain.{ℕ, ◌+◌, ◌*◌, ◌/◌, ◌%◌, ◌≤◌, ◌<◌, ◌≡◌, sym, ap, ◌∙◌, subst, ◌≢◌, Bool, true, false, cond, not, ◌&&◌, ◌||◌, List, eqb, ℤ}
+use Rattle.std.specs.Prelude.{◌+◌, ◌*◌, ◌/◌, ◌%◌, ◌≤◌, ◌<◌, ◌≡◌, ◌≢◌, ◌&&◌, ◌||◌}
+use Rattle.whole.specs.Plain.{ℕ, sym, ap, ◌∙◌, subst, Bool, true, false, cond, not, List, eqb, ℤ}
 use Rattle.whole.specs.Plain.{pos, lt_z, length, set, length-set, get_or-set_same, ℕ_discrete, arith, Words, z, word, numbers, fold}
 use Rattle.whole.specs.Folds.{and_left, both, fold_keeps}
 use Rattle.whole.specs.Members.{Among, Kept, among_keep, keep_among, among_numbers, numbers_among}

@@ -1,5 +1,6 @@
 -- What holds after a fold: where each turn keeps it, and where one turn brings it about. Assumes nothing.
-use Rattle.whole.specs.Plain.{ℕ, ◌≡◌, refl, sym, ◌≢◌, ◌⊎◌, inl, inr, List, [], ◌∷◌, Mem-not_nil, Mem-cases_cons}
+use Rattle.std.specs.Prelude.{◌≡◌, ◌≢◌, ◌⊎◌, ◌∷◌}
+use Rattle.whole.specs.Plain.{ℕ, refl, sym, inl, inr, List, [], Mem-not_nil, Mem-cases_cons}
 use Rattle.whole.specs.Plain.{ℕ_discrete, fold}
 use Rattle.whole.specs.Members.{Among, top, below}
 

@@ -1,5 +1,6 @@
 -- What the legs of an area's step send, row by row, is what the paper has it put into the line stores. Assumes nothing.
-use Rattle.whole.specs.Plain.{ℕ, ◌+◌, ◌*◌, ◌/◌, ◌%◌, ◌≤◌, ◌<◌, ◌≡◌, ◌∙◌, Bool, List, map, ℤ, length, arith, Words, fold}
+use Rattle.std.specs.Prelude.{◌+◌, ◌*◌, ◌/◌, ◌%◌, ◌≤◌, ◌<◌, ◌≡◌}
+use Rattle.whole.specs.Plain.{ℕ, ◌∙◌, Bool, List, map, ℤ, length, arith, Words, fold}
 use Rattle.whole.specs.Turns.{turns}
 use Rattle.paper.specs.Rows.{Row}
 use Rattle.paper.specs.Areas.{Net}

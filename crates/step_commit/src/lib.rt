@@ -2,7 +2,8 @@
 
 // What an accepted step of one area writes: its count, its voltages and peaks, the words of its rows and latches, and what its line ends send. A leg's line has its current and
 // what it passes on; nothing is worked out again.
-ghost use Rattle.whole.specs.Plain.{◌≤◌, ◌≡◌, length};
+ghost use Rattle.std.specs.Prelude.{◌≤◌, ◌≡◌};
+ghost use Rattle.whole.specs.Plain.{length};
 ghost use Rattle.paper.specs.Limits as Limits;
 ghost use Rattle.step_records.specs.Records.{lines_put, records_put, Unparted, Recordable};
 ghost use Rattle.step_send.specs.Stores.{is_from_end, is_to_end, sent_by, Sendable};

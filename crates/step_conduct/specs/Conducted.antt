@@ -1,5 +1,6 @@
 -- The conductances of legs at a step, by the plan's rows and the records' latches, and the step before which they stay. Assumes nothing.
-use Rattle.whole.specs.Plain.{ℕ, ◌+◌, ◌≤◌, ◌<◌, ◌≡◌, refl, sym, ap, ◌∙◌, Bool, true, false, cond, not, ◌&&◌, ◌||◌, List, [], eqb}
+use Rattle.std.specs.Prelude.{◌+◌, ◌≤◌, ◌<◌, ◌≡◌, ◌&&◌, ◌||◌}
+use Rattle.whole.specs.Plain.{ℕ, refl, sym, ap, ◌∙◌, Bool, true, false, cond, not, List, [], eqb}
 use Rattle.whole.specs.Plain.{leb, ltb, ℤ, pos, lt_z, length, get_or, set, length-set, get_or-set_same, get_or-set_other}
 use Rattle.whole.specs.Plain.{ltb-true, ltb-false, le-leb, lt-leb, lt-ltb, le-ltb, dec_lt, ℕ_discrete, arith, Words, z, word, nat}
 use Rattle.paper.specs.Limits as Limits

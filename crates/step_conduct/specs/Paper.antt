@@ -1,5 +1,6 @@
 -- What is conducted by the plan and the latches is the paper's conductances, at each step before the next change. Assumes nothing.
-use Rattle.whole.specs.Plain.{ℕ, ◌+◌, ◌/◌, ◌*◌, ◌≤◌, ◌<◌, ◌≡◌, refl, sym, ap, ◌∙◌, Bool, true, false, cond, not, ◌||◌, List, [], leb, ltb, ℤ}
+use Rattle.std.specs.Prelude.{◌+◌, ◌/◌, ◌*◌, ◌≤◌, ◌<◌, ◌≡◌, ◌||◌}
+use Rattle.whole.specs.Plain.{ℕ, refl, sym, ap, ◌∙◌, Bool, true, false, cond, not, List, [], leb, ltb, ℤ}
 use Rattle.whole.specs.Plain.{pos, negsuc, lt_z, le_z, length, get_or, set, length-set, get_or-set_same, get_or-set_other, leb-true}
 use Rattle.whole.specs.Plain.{leb-false, lt-ltb, le-ltb, arith, Words, z, word, nat}
 use Rattle.paper.specs.Rows as Rows

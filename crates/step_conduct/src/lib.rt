@@ -1,7 +1,8 @@
 #![tactic(auto)]
 
 // The conductances of an area's legs at a step, and how long they stay: "R and closed SW: i = g·u. Open SW: i = 0 and no conductance."
-ghost use Rattle.whole.specs.Plain.{◌≤◌, ◌<◌, ◌≡◌, [], set, length, get_or, word, nat};
+ghost use Rattle.std.specs.Prelude.{◌≤◌, ◌<◌, ◌≡◌};
+ghost use Rattle.whole.specs.Plain.{[], set, length, get_or, word, nat};
 ghost use Rattle.paper.specs.Limits as Limits;
 ghost use Rattle.step_conduct.specs.Conducted.{row_of_line, opening_of, open_of, conducts_of, opening_at, Sooner, Stays};
 ghost use Rattle.step_conduct.specs.Conducted.{Rated, RatedLine, conducted, Conducted};

@@ -1,5 +1,6 @@
 -- Two counted loops whose states stay related, by a relation that knows the turn. Assumes nothing.
-use Rattle.whole.specs.Plain.{ℕ, zero, suc, ◌+◌, ◌-◌, ◌≤◌, ◌<◌, ◌≡◌, arith}
+use Rattle.std.specs.Prelude.{◌+◌, ◌-◌, ◌≤◌, ◌<◌, ◌≡◌}
+use Rattle.whole.specs.Plain.{ℕ, zero, suc, arith}
 use Rattle.std.proofs.Common.{add-one}
 use Rattle.whole.specs.Turns.{run, turns, downs}
 

@@ -1,7 +1,7 @@
 -- Blocks of one table beside one another: work on one area's lines leaves the others', and so the factors that stand there. Assumes nothing.
-use Rattle.whole.specs.Plain.{ℕ, ◌+◌, ◌≤◌, ◌<◌, ◌≡◌, refl, ap, ◌∙◌, ◌⊎◌, inl, inr, ⊎_elim, Bool, true, false, cond}
+use Rattle.whole.specs.Plain.{ℕ, refl, ap, ◌∙◌, inl, inr, ⊎_elim, Bool, true, false, cond}
 use Rattle.whole.specs.Plain.{List, [], eqb, set, length, length-set, get_or-set_other, arith}
-use Rattle.std.specs.Prelude.{Float}
+use Rattle.std.specs.Prelude.{Float, ◌+◌, ◌≤◌, ◌<◌, ◌≡◌, ◌⊎◌}
 use Rattle.whole.specs.TurnLaws.{turns_keeps}
 use Rattle.whole.specs.Written.{set_at}
 use Rattle.paper.specs.Elimination.{line, cell}

@@ -1,7 +1,7 @@
 -- What it is that the factors of a matrix serve every right side: beside the stated elimination of any system that has this matrix, the table has the
 -- stated cells from each row's diagonal on, and before it the multipliers by which the stated right sides come about. Assumes nothing.
-use Rattle.whole.specs.Plain.{ℕ, ◌+◌, ◌≤◌, ◌<◌, ◌≡◌, List, [], get_or, length}
-use Rattle.std.specs.Prelude.{Float}
+use Rattle.whole.specs.Plain.{ℕ, List, [], get_or, length}
+use Rattle.std.specs.Prelude.{Float, ◌+◌, ◌≤◌, ◌<◌, ◌≡◌}
 use Rattle.whole.specs.Turns.{turns}
 use Rattle.paper.specs.Elimination.{System, line, cell, row, less, eliminated}
 

@@ -1,5 +1,6 @@
 -- The matrix sees legs without their histories. Assumes nothing.
-use Rattle.whole.specs.Plain.{ℕ, ◌≡◌, refl, cond, ◌&&◌, List, [], ◌∷◌, map, eqb, ℤ, pos, z, total}
+use Rattle.std.specs.Prelude.{◌≡◌, ◌&&◌, ◌∷◌}
+use Rattle.whole.specs.Plain.{ℕ, refl, cond, List, [], map, eqb, ℤ, pos, z, total}
 use Rattle.paper.specs.Legs.{Leg, leg}
 use Rattle.paper.specs.Solve.{leaves, leads, entry}
 

@@ -1,5 +1,6 @@
 -- The paper's step from kept factors: they serve every step whose legs, but for their histories, are those that they were made from. Assumes nothing.
-use Rattle.whole.specs.Plain.{ℕ, ◌≤◌, ◌<◌, ◌≡◌, sym, ap, ◌∙◌, List, [], map, ℤ, length, get_or, take, replicate}
+use Rattle.std.specs.Prelude.{◌≤◌, ◌<◌, ◌≡◌}
+use Rattle.whole.specs.Plain.{ℕ, sym, ap, ◌∙◌, List, [], map, ℤ, length, get_or, take, replicate}
 use Rattle.whole.specs.Plain.{length-map, Words, filled}
 use Rattle.std.specs.Float.Ieee.{Float, nan}
 use Rattle.whole.specs.Folds.{get_d_map, map_cong}

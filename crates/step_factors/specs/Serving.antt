@@ -1,7 +1,7 @@
 -- The factors of a matrix serve every right side of every system that has it. Assumes nothing.
-use Rattle.whole.specs.Plain.{ℕ, zero, suc, ◌+◌, ◌≤◌, ◌<◌, ◌≡◌, refl, sym, ap, ◌∙◌, List, [], length, length-set}
+use Rattle.whole.specs.Plain.{ℕ, zero, suc, refl, sym, ap, ◌∙◌, List, [], length, length-set}
 use Rattle.whole.specs.Plain.{get_or-set_same, get_or-set_other, arith}
-use Rattle.std.specs.Prelude.{Float}
+use Rattle.std.specs.Prelude.{Float, ◌+◌, ◌≤◌, ◌<◌, ◌≡◌}
 use Rattle.std.specs.Float.Ieee.{nan}
 use Rattle.paper.specs.declared.Equation.{Equation}
 use Rattle.whole.specs.Turns.{turns, turns_done, turns_more}

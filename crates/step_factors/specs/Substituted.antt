@@ -1,5 +1,6 @@
 -- From the factors of a matrix, the substitution for a right side has the stated voltages. Assumes nothing.
-use Rattle.whole.specs.Plain.{ℕ, ◌+◌, ◌≤◌, ◌<◌, ◌≡◌, refl, sym, ap, ◌∙◌, true, false, List, eqb, pos, length, set, take}
+use Rattle.std.specs.Prelude.{◌+◌, ◌≤◌, ◌<◌, ◌≡◌}
+use Rattle.whole.specs.Plain.{ℕ, refl, sym, ap, ◌∙◌, true, false, List, eqb, pos, length, set, take}
 use Rattle.whole.specs.Plain.{length-set, length-replicate, get_or-set_same, get_or-set_other, get_or-take, length-take-le}
 use Rattle.whole.specs.Plain.{ext_get_or, eqb-true, eqb-false, arith}
 use Rattle.std.specs.Float.Ieee.{Float, fin, nan}

@@ -3,7 +3,7 @@
 // "Elimination" in two: a matrix changes only where a switch does, a right side at each step. `factor` eliminates the matrix alone and keeps each
 // multiplier in the place that it was made from; `substitute` then solves for one right side. Each cell and each right side meets the stated
 // operations in the stated order. All areas share one table: an area's n lines stand there from `base` on.
-ghost use Rattle.whole.specs.Plain.{◌+◌, ◌<◌, ◌≤◌, ◌≡◌};
+ghost use Rattle.std.specs.Prelude.{◌+◌, ◌<◌, ◌≤◌, ◌≡◌};
 ghost use Rattle.paper.specs.Limits as Limits;
 ghost use Rattle.paper.specs.Elimination.{line, quotient};
 ghost use Rattle.step_factors.specs.Factored.{line_factored, all_factored, factored, left, forward, back};

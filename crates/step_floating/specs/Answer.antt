@@ -1,6 +1,7 @@
 -- The search as it stands between two legs: what is marked is reached; what a leg could still reach, a visit still comes to. So nothing is where no
 -- visit is left, and the answer is the paper's. Assumes nothing.
-use Rattle.whole.specs.Plain.{ℕ, suc, ◌+◌, ◌-◌, ◌*◌, ◌≤◌, ◌<◌, ◌≡◌, refl, sym, ap, ◌∙◌, ◌⊎◌, inl, inr, Bool, true, false, cond, not}
+use Rattle.std.specs.Prelude.{◌+◌, ◌-◌, ◌*◌, ◌≤◌, ◌<◌, ◌≡◌, ◌⊎◌}
+use Rattle.whole.specs.Plain.{ℕ, suc, refl, sym, ap, ◌∙◌, inl, inr, Bool, true, false, cond, not}
 use Rattle.whole.specs.Plain.{false≢true, List, eqb, length, get_or, set, drop, length-set, get_or-set_same, get_or-set_other}
 use Rattle.whole.specs.Plain.{eqb-true, eqb-false, eq-eqb, ne_eqb, mul-le-mul_right, ℕ_discrete, arith, Words, first, replicate}
 use Rattle.whole.specs.Upto.{any_default}

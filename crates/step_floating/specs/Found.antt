@@ -1,5 +1,6 @@
 -- What a leg finds in a visit: a node of its own that is not reached, beside one that is. Assumes nothing.
-use Rattle.whole.specs.Plain.{ℕ, ◌≤◌, ◌≡◌, refl, sym, ap, ◌∙◌, ◌⊎◌, inl, inr, Bool, true, false, cond, false≢true, List, eqb}
+use Rattle.std.specs.Prelude.{◌≤◌, ◌≡◌, ◌⊎◌}
+use Rattle.whole.specs.Plain.{ℕ, refl, sym, ap, ◌∙◌, inl, inr, Bool, true, false, cond, false≢true, List, eqb}
 use Rattle.whole.specs.Plain.{get_or, set, get_or-set_other, eqb-true, eq-eqb, arith}
 use Rattle.paper.specs.Legs.{Leg}
 use Rattle.paper.specs.Floating.{conducting}

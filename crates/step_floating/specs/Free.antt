@@ -1,5 +1,6 @@
 -- The free nodes of an area: in rising order, and all of its nodes but the fixed ones. Assumes nothing.
-use Rattle.whole.specs.Plain.{ℕ, zero, suc, ◌≤◌, ◌<◌, ◌≡◌, refl, ap, Bool, true, false, not, ◌&&◌, List, [], ◌∷◌, eqb}
+use Rattle.std.specs.Prelude.{◌≤◌, ◌<◌, ◌≡◌, ◌&&◌, ◌∷◌}
+use Rattle.whole.specs.Plain.{ℕ, zero, suc, refl, ap, Bool, true, false, not, List, [], eqb}
 use Rattle.whole.specs.Plain.{length, get_or, eqb-true, eq-eqb, dec_lt, arith, keep, numbers, any}
 use Rattle.whole.specs.Folds.{length_keep, count_le, length_numbers}
 use Rattle.whole.specs.Members.{among_at, keep_among, numbers_among}

@@ -1,5 +1,6 @@
 -- The joins of the legs that conduct, by the legs' places. Assumes nothing.
-use Rattle.whole.specs.Plain.{ℕ, suc, ◌<◌, ◌≡◌, refl, inl, inr, Bool, true, false, cond, List, [], ◌∷◌}
+use Rattle.std.specs.Prelude.{◌<◌, ◌≡◌, ◌∷◌}
+use Rattle.whole.specs.Plain.{ℕ, suc, refl, inl, inr, Bool, true, false, cond, List, []}
 use Rattle.whole.specs.Plain.{Mem-cases_cons, Mem-not_nil, map, length, get_or, arith, keep}
 use Rattle.whole.specs.Members.{among_at, among_keep, among_map}
 use Rattle.paper.specs.Legs.{Leg, idle}

@@ -1,7 +1,8 @@
 -- What the answer goes by. An area's legs lead nowhere else, so the nodes outside of it may count as reached; neither histories nor legs that carry
 -- nothing count. Assumes nothing.
-use Rattle.whole.specs.Plain.{ℕ, ◌≤◌, ◌<◌, ◌≡◌, refl, sym, ap, ◌∙◌, ◌⊎◌, inl, inr, Bool, true, false, cond, not, List}
-use Rattle.whole.specs.Plain.{[], ◌∷◌, map, eqb, ℤ, length, get_or, eq-eqb, ne_eqb, ℕ_discrete, arith, z, keep}
+use Rattle.std.specs.Prelude.{◌≤◌, ◌<◌, ◌≡◌, ◌⊎◌, ◌∷◌}
+use Rattle.whole.specs.Plain.{ℕ, refl, sym, ap, ◌∙◌, inl, inr, Bool, true, false, cond, not, List}
+use Rattle.whole.specs.Plain.{[], map, eqb, ℤ, length, get_or, eq-eqb, ne_eqb, ℕ_discrete, arith, z, keep}
 use Rattle.paper.specs.Limits as Limits
 use Rattle.paper.specs.Legs.{Leg, leg, idle}
 use Rattle.paper.specs.Areas.{Net, area_of, fixed, free_of}

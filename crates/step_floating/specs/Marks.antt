@@ -1,6 +1,7 @@
 -- Marks by node: the first ones, what a node reached changes, and how many are left. Assumes nothing.
-use Rattle.whole.specs.Plain.{ℕ, zero, suc, ◌+◌, ◌≤◌, ◌<◌, ◌≡◌, refl, sym, ap, ◌∙◌, ◌⊎◌, inl, inr, Bool, true, false, cond, not}
-use Rattle.whole.specs.Plain.{◌&&◌, List, [], ◌∷◌, eqb, length, get_or, set, length-set, replicate, get_or-replicate}
+use Rattle.std.specs.Prelude.{◌+◌, ◌≤◌, ◌<◌, ◌≡◌, ◌⊎◌, ◌&&◌, ◌∷◌}
+use Rattle.whole.specs.Plain.{ℕ, zero, suc, refl, sym, ap, ◌∙◌, inl, inr, Bool, true, false, cond, not}
+use Rattle.whole.specs.Plain.{List, [], eqb, length, get_or, set, length-set, replicate, get_or-replicate}
 use Rattle.whole.specs.Plain.{ext_get_or, get_or-eq_default, ne_eqb, dec_lt, arith, numbers, fold, any, count}
 use Rattle.whole.specs.Folds.{fold_keeps, count_le, get_d_map, get_d_numbers, length_numbers}
 use Rattle.whole.specs.Written.{fold_set}

@@ -1,5 +1,6 @@
 -- The search for a floating node: which nodes count as reached from the start, and what one leg does in a visit. Assumes nothing.
-use Rattle.whole.specs.Plain.{ℕ, ◌+◌, ◌≤◌, ◌≡◌, ◌⊎◌, Bool, true, cond, not, List, eqb, get_or, set, any, count}
+use Rattle.std.specs.Prelude.{◌+◌, ◌≤◌, ◌≡◌, ◌⊎◌}
+use Rattle.whole.specs.Plain.{ℕ, Bool, true, cond, not, List, eqb, get_or, set, any, count}
 use Rattle.paper.specs.Limits as Limits
 use Rattle.paper.specs.Legs.{Leg}
 use Rattle.paper.specs.Floating.{conducting}

@@ -2,7 +2,8 @@
 
 // "A free node needs a path of conducting branches (R, L, C, closed SW) to ground, to a fixed node, or to a node with a line end, itself
 // included." A line's end is a leg to ground, and an open switch conducts nothing; no leg leaves the area.
-ghost use Rattle.whole.specs.Plain.{◌<◌, ◌≡◌, length};
+ghost use Rattle.std.specs.Prelude.{◌<◌, ◌≡◌};
+ghost use Rattle.whole.specs.Plain.{length};
 ghost use Rattle.paper.specs.Limits as Limits;
 ghost use Rattle.paper.specs.Floating as Paper;
 ghost use Rattle.step_legs.specs.Wires.{leg_of, leg_at, legs_in, Wired, Wires};

@@ -1,5 +1,6 @@
 -- 17: what the legs pass on, against the end of a history, line by line; and as a search over the wires. Assumes nothing.
-use Rattle.whole.specs.Plain.{ℕ, suc, ◌+◌, ◌-◌, ◌≤◌, ◌<◌, ◌≡◌, refl, Bool, true, false, cond, not, List, [], ◌∷◌, map}
+use Rattle.std.specs.Prelude.{◌+◌, ◌-◌, ◌≤◌, ◌<◌, ◌≡◌, ◌∷◌}
+use Rattle.whole.specs.Plain.{ℕ, suc, refl, Bool, true, false, cond, not, List, [], map}
 use Rattle.whole.specs.Plain.{length, get_or, drop, drop_of_length-le, drop-cons, arith, Words, up_to, between, ℤ, pos, negsuc, neg_ℤ, leb, and-true, sym, ◌∙◌}
 use Rattle.std.proofs.Common.{add-one}
 use Rattle.std.proofs.Math.Dec.{leb-suc-suc}

@@ -1,6 +1,7 @@
 -- What a step finds of one leg, its current and what it passes on to a later step, and keeps in the leg's line; every wire is what it was. Assumes
 -- nothing.
-use Rattle.whole.specs.Plain.{ℕ, ◌<◌, ◌^◌, ◌≡◌, refl, ◌∙◌, cond, ◌||◌, List, [], map, eqb, ℤ, neg_ℤ, nat_abs, length}
+use Rattle.std.specs.Prelude.{◌<◌, ◌^◌, ◌≡◌, ◌||◌}
+use Rattle.whole.specs.Plain.{ℕ, refl, ◌∙◌, cond, List, [], map, eqb, ℤ, neg_ℤ, nat_abs, length}
 use Rattle.whole.specs.Plain.{get_or, length-map, set, length-set, get_or-set_same, get_or-set_other, arith, Words, word, z}
 use Rattle.paper.specs.Rows.{kind}
 use Rattle.paper.specs.Legs.{current, echo}

@@ -2,7 +2,8 @@
 
 // What flows once the voltages are known: each leg's current and i + g·u are worked out once and kept in its line. The balance at the free nodes (16)
 // is judged by the sums of these currents, and the values that are passed on (17) by what is kept.
-ghost use Rattle.whole.specs.Plain.{◌<◌, ◌≡◌, [], drop, map, T, non_neg, set, length, get_or, nat};
+ghost use Rattle.std.specs.Prelude.{◌<◌, ◌≡◌};
+ghost use Rattle.whole.specs.Plain.{[], drop, map, T, non_neg, set, length, get_or, nat};
 ghost use Rattle.paper.specs.Limits as Limits;
 ghost use Rattle.paper.specs.Legs.{current};
 ghost use Rattle.step_legs.specs.Wires.{Carries, Wires, Sized, legs_in};

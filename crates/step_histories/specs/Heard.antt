@@ -1,5 +1,6 @@
 -- A leg's history at a step: of a line's end what the far end sent, of another's what the records hold. Assumes nothing.
-use Rattle.whole.specs.Plain.{ℕ, ◌+◌, ◌-◌, ◌%◌, ◌≤◌, ◌<◌, ◌≡◌, refl, sym, ap, ◌∙◌, Bool, true, false, cond, List, map, eqb, ltb, ℤ, nat_abs, length, set}
+use Rattle.std.specs.Prelude.{◌+◌, ◌-◌, ◌%◌, ◌≤◌, ◌<◌, ◌≡◌}
+use Rattle.whole.specs.Plain.{ℕ, refl, sym, ap, ◌∙◌, Bool, true, false, cond, List, map, eqb, ltb, ℤ, nat_abs, length, set}
 use Rattle.whole.specs.Plain.{length-set, get_or-set_other, arith, Words, z, word}
 use Rattle.whole.specs.Mixing.{mixed, mixed_none}
 use Rattle.paper.specs.Limits as Limits

@@ -1,5 +1,6 @@
 -- What is heard, of a network's own legs: the rings are there, and the legs are then laid. Assumes nothing.
-use Rattle.whole.specs.Plain.{ℕ, ◌/◌, ◌≤◌, ◌<◌, ◌≡◌, refl, sym, ap, ◌∙◌, true, cond, List, [], map, ℤ, length, get_or}
+use Rattle.std.specs.Prelude.{◌/◌, ◌≤◌, ◌<◌, ◌≡◌}
+use Rattle.whole.specs.Plain.{ℕ, refl, sym, ap, ◌∙◌, true, cond, List, [], map, ℤ, length, get_or}
 use Rattle.whole.specs.Plain.{length-map, get_or-set_same, eq-eqb, le_of_lt, mod-lt, arith, Words, z, word, nat}
 use Rattle.whole.specs.Folds.{get_d_map}
 use Rattle.paper.specs.Rows.{is_line}

@@ -1,7 +1,8 @@
 #![tactic(auto)]
 
 // Each leg's history at a step: what an L or a C holds since the last one, what a line's end receives.
-ghost use Rattle.whole.specs.Plain.{◌≤◌, ◌<◌, ◌≡◌, map, nat_abs, length, word};
+ghost use Rattle.std.specs.Prelude.{◌≤◌, ◌<◌, ◌≡◌};
+ghost use Rattle.whole.specs.Plain.{map, nat_abs, length, word};
 ghost use Rattle.paper.specs.Limits as Limits;
 ghost use Rattle.paper.specs.Records as Records;
 ghost use Rattle.plan_rows.specs.Planned.{row_in};

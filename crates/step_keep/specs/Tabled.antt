@@ -1,8 +1,8 @@
 -- The tables of a network's areas: what stands in each, and what of it is kept from step to step. Assumes nothing.
-use Rattle.whole.specs.Plain.{ℕ, ◌+◌, ◌-◌, ◌≤◌, ◌<◌, ◌≡◌, sym, ap, subst, ◌∙◌, ◌⊎◌, inl, inr, List, length, length-set}
+use Rattle.whole.specs.Plain.{ℕ, sym, ap, subst, ◌∙◌, inl, inr, List, length, length-set}
 use Rattle.whole.specs.Plain.{ℕ_discrete, dec_lt, arith, Words}
 use borrow.Rule.Slice.PartMut.{mid_len}
-use Rattle.std.specs.Prelude.{Float}
+use Rattle.std.specs.Prelude.{Float, ◌+◌, ◌-◌, ◌≤◌, ◌<◌, ◌≡◌, ◌⊎◌}
 use Rattle.paper.specs.Limits as Limits
 use Rattle.paper.specs.Areas.{Net, area_count, free_of}
 use Rattle.laws_facts.specs.Nets.{NetSound, area_count_most}

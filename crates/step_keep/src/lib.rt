@@ -1,7 +1,7 @@
 #![tactic(auto)]
 
 // What is kept for an area from step to step, for the positions of its switches: renewed where one has changed or parted.
-ghost use Rattle.whole.specs.Plain.{◌≡◌};
+ghost use Rattle.std.specs.Prelude.{◌≡◌};
 ghost use Rattle.step_keep.specs.Tabled.{Known, Renews};
 
 use plan_own::Owns;

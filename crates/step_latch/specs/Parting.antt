@@ -1,5 +1,6 @@
 -- A breaker's parting, by the plan's rows and by the words of the records. Assumes nothing.
-use Rattle.whole.specs.Plain.{ℕ, zero, suc, ◌≡◌, refl, sym, Bool, true, false, cond, not, ◌&&◌, true≢false, List, eqb, ℤ, pos, negsuc, lt_z, lt-ltb, le-ltb}
+use Rattle.std.specs.Prelude.{◌≡◌, ◌&&◌}
+use Rattle.whole.specs.Plain.{ℕ, zero, suc, refl, sym, Bool, true, false, cond, not, true≢false, List, eqb, ℤ, pos, negsuc, lt_z, lt-ltb, le-ltb}
 use Rattle.whole.specs.Plain.{arith, Words, z, word}
 use Rattle.paper.specs.Records.{current_at, latch_at}
 use Rattle.paper.specs.Rows as Rows

@@ -2,7 +2,8 @@
 
 // When a breaker parts, and its latch (02): "A closed switch now parts after the first step k, at or after open - 1 and later than its closing step, at which its
 // current is zero or of opposite sign to that of step k - 1".
-ghost use Rattle.whole.specs.Plain.{◌≤◌, ◌<◌, ◌≡◌, length};
+ghost use Rattle.std.specs.Prelude.{◌≤◌, ◌<◌, ◌≡◌};
+ghost use Rattle.whole.specs.Plain.{length};
 ghost use Rattle.paper.specs.Limits as Limits;
 ghost use Rattle.paper.specs.Latch as Latch;
 ghost use Rattle.step_latch.specs.Parting.{parts_by, leg_parts, latch_put};

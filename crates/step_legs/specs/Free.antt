@@ -1,5 +1,6 @@
 -- What a step knows besides the legs: the free nodes, "in rising order", and the injections by node. Assumes nothing.
-use Rattle.whole.specs.Plain.{ℕ, suc, ◌+◌, ◌*◌, ◌≤◌, ◌<◌, ◌≡◌, refl, ap, ◌∙◌, Bool, cond, List, [], ◌∷◌, nat_abs, get_or}
+use Rattle.std.specs.Prelude.{◌+◌, ◌*◌, ◌≤◌, ◌<◌, ◌≡◌, ◌∷◌}
+use Rattle.whole.specs.Plain.{ℕ, suc, refl, ap, ◌∙◌, Bool, cond, List, [], nat_abs, get_or}
 use Rattle.whole.specs.Plain.{length, drop, drop_of_length-le, drop-cons, arith, Words, word, first}
 use Rattle.std.proofs.Common.{add-one}
 use Rattle.whole.specs.Size.{∣◌∣≤◌}

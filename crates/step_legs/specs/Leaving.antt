@@ -1,5 +1,6 @@
 -- Sums over the legs that leave one node, leg by leg, and why each fits a word: at most 64 legs leave a node. Assumes nothing.
-use Rattle.whole.specs.Plain.{ℕ, suc, ◌+◌, ◌*◌, ◌≤◌, ◌<◌, ◌≡◌, ◌∙◌, ap, Bool, true, false, cond, List, [], ◌∷◌, ℤ, ◌+ℤ◌}
+use Rattle.std.specs.Prelude.{◌+◌, ◌*◌, ◌≤◌, ◌<◌, ◌≡◌, ◌∷◌, ◌+ℤ◌}
+use Rattle.whole.specs.Plain.{ℕ, suc, ◌∙◌, ap, Bool, true, false, cond, List, [], ℤ}
 use Rattle.whole.specs.Plain.{length, get_or, take, length-map, get_or-take, length-take-le, mul-le-mul_right, add-mul}
 use Rattle.whole.specs.Plain.{arith, Words, z, count, total}
 use Rattle.whole.specs.Folds.{get_d_map}

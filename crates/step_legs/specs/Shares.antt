@@ -1,7 +1,8 @@
 -- What one leg adds to the sums at its near node: conductance, conductance toward one neighbour, what it draws with its node at 0, current; how
 -- large each is, and the paper's equations as sums of them. Assumes nothing.
-use Rattle.whole.specs.Plain.{ℕ, suc, ◌≤◌, ◌≡◌, refl, sym, ap, Bool, true, false, cond, ◌&&◌, List, T, eqb, ℤ, pos}
-use Rattle.whole.specs.Plain.{negsuc, neg_ℤ, nat_abs, ◌-ℤ◌, ◌*ℤ◌, non_neg, length, take, eq-eqb, arith, Words, z, word}
+use Rattle.std.specs.Prelude.{◌≤◌, ◌≡◌, ◌&&◌, ◌-ℤ◌, ◌*ℤ◌}
+use Rattle.whole.specs.Plain.{ℕ, suc, refl, sym, ap, Bool, true, false, cond, List, T, eqb, ℤ, pos}
+use Rattle.whole.specs.Plain.{negsuc, neg_ℤ, nat_abs, non_neg, length, take, eq-eqb, arith, Words, z, word}
 use Rattle.whole.specs.Plain.{nat}
 use Rattle.whole.specs.Totals.{total_cong}
 use Rattle.whole.specs.Size.{∣◌∣≤◌, add, sub, mul}

@@ -1,6 +1,7 @@
 -- Sums by node, gathered leg by leg onto what was there: a node has the sum over the legs that leave it more. Assumes nothing.
-use Rattle.whole.specs.Plain.{ℕ, suc, ◌+◌, ◌≤◌, ◌<◌, ◌≡◌, refl, sym, ap, ◌∙◌, Bool, true, false, cond, List, eqb, ℤ}
-use Rattle.whole.specs.Plain.{◌+ℤ◌, ◌-ℤ◌, +ℤ_assoc, +ℤ_idl, +ℤ_idr, set, take, length, length-set, replicate}
+use Rattle.std.specs.Prelude.{◌+◌, ◌≤◌, ◌<◌, ◌≡◌, ◌+ℤ◌, ◌-ℤ◌}
+use Rattle.whole.specs.Plain.{ℕ, suc, refl, sym, ap, ◌∙◌, Bool, true, false, cond, List, eqb, ℤ}
+use Rattle.whole.specs.Plain.{+ℤ_assoc, +ℤ_idl, +ℤ_idr, set, take, length, length-set, replicate}
 use Rattle.whole.specs.Plain.{get_or-set_same, get_or-set_other, eqb-true, eqb-false, arith, Words, z, word, total}
 use Rattle.std.specs.Int.{w64}
 use Rattle.std.proofs.Common.{SFits}

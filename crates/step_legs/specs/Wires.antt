@@ -1,5 +1,6 @@
 -- The legs of a step: a line of nine words for each end of the area's own. Assumes nothing.
-use Rattle.whole.specs.Plain.{ℕ, ◌≤◌, ◌<◌, ◌≡◌, List, [], map, T, ℤ, pos, non_neg, get_or, length, Words, word, nat, count}
+use Rattle.std.specs.Prelude.{◌≤◌, ◌<◌, ◌≡◌}
+use Rattle.whole.specs.Plain.{ℕ, List, [], map, T, ℤ, pos, non_neg, get_or, length, Words, word, nat, count}
 use Rattle.whole.specs.Size.{∣◌∣≤◌}
 use Rattle.paper.specs.Limits as Limits
 use Rattle.paper.specs.Legs.{Leg, leg}

@@ -1,5 +1,6 @@
 -- Lines of legs written anew, one after another: what stays where each keeps its first words. Assumes nothing.
-use Rattle.whole.specs.Plain.{ℕ, zero, suc, ◌<◌, ◌≡◌, refl, sym, ap, ◌∙◌, List, [], ◌∷◌, map, eqb, length, get_or, set}
+use Rattle.std.specs.Prelude.{◌<◌, ◌≡◌, ◌∷◌}
+use Rattle.whole.specs.Plain.{ℕ, zero, suc, refl, sym, ap, ◌∙◌, List, [], map, eqb, length, get_or, set}
 use Rattle.whole.specs.Plain.{length-map, ext_get_or, arith, Words, word, nat, count}
 use Rattle.whole.specs.Folds.{count_map, get_d_map}
 use Rattle.paper.specs.Solve.{leaves}

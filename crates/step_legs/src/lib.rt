@@ -2,7 +2,8 @@
 
 // An area's legs as a step keeps them: a line of words for each end of its own, in table order. Of a line the first five words are the network's, g is
 // the position of the switches, h the step; the last two are what the step found: the current, and what the leg passes on to the next step.
-ghost use Rattle.whole.specs.Plain.{◌+◌, ◌<◌, ◌≡◌, [], ◌+ℤ◌, set, length, get_or, word};
+ghost use Rattle.std.specs.Prelude.{◌+◌, ◌<◌, ◌≡◌, ◌+ℤ◌};
+ghost use Rattle.whole.specs.Plain.{[], set, length, get_or, word};
 ghost use Rattle.std.specs.Int.{w64};
 ghost use Rattle.std.proofs.Common.{SFits};
 ghost use Rattle.paper.specs.Limits as Limits;

@@ -1,9 +1,9 @@
 -- "The matrix has each node's sum of conductances, lines included, on the diagonal and minus the sum of the joining conductances elsewhere": one entry
 -- as legs are added, and how large it gets; the block of an area's free nodes, from line `base` of the table on, and its factors. Assumes nothing.
-use Rattle.whole.specs.Plain.{ℕ, ◌+◌, ◌^◌, ◌≤◌, ◌<◌, ◌≡◌, refl, sym, ap, ◌∙◌, Bool, true, false, cond, List, map, eqb}
-use Rattle.whole.specs.Plain.{ℤ, pos, neg_ℤ, ◌+ℤ◌, ◌-ℤ◌, +ℤ_idr, neg_ℤ-+ℤ, get_or, length, take, get_or-replicate, take_all}
+use Rattle.whole.specs.Plain.{ℕ, refl, sym, ap, ◌∙◌, Bool, true, false, cond, List, map, eqb}
+use Rattle.whole.specs.Plain.{ℤ, pos, neg_ℤ, +ℤ_idr, neg_ℤ-+ℤ, get_or, length, take, get_or-replicate, take_all}
 use Rattle.whole.specs.Plain.{eqb-true, arith, Words, z, total}
-use Rattle.std.specs.Prelude.{Float}
+use Rattle.std.specs.Prelude.{Float, ◌+◌, ◌^◌, ◌≤◌, ◌<◌, ◌≡◌, ◌+ℤ◌, ◌-ℤ◌}
 use Rattle.std.specs.Float.{nan, binary64}
 use Rattle.std.specs.Float.Ieee.{of_int}
 use Rattle.whole.specs.Size.{∣◌∣≤◌, weaken}

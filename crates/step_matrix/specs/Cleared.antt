@@ -1,7 +1,7 @@
 -- The block of an area's n free nodes, cleared line by line. Assumes nothing.
-use Rattle.whole.specs.Plain.{ℕ, ◌+◌, ◌≤◌, ◌<◌, ◌≡◌, ◌∙◌, List, [], set, replicate, length-replicate, get_or-set_same}
+use Rattle.whole.specs.Plain.{ℕ, ◌∙◌, List, [], set, replicate, length-replicate, get_or-set_same}
 use Rattle.whole.specs.Plain.{get_or-set_other, ℕ_discrete, arith}
-use Rattle.std.specs.Prelude.{Float}
+use Rattle.std.specs.Prelude.{Float, ◌+◌, ◌≤◌, ◌<◌, ◌≡◌}
 use Rattle.paper.specs.Elimination.{line}
 use Rattle.paper.specs.Solve.{nought}
 use Rattle.step_factors.specs.Factors.{Square}

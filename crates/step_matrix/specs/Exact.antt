@@ -1,10 +1,10 @@
 -- Conductances add up in doubles as they do in whole numbers: a whole number more or less a conductance is rounded nowhere, and a zero is +0.
 -- Assumes nothing.
-use Rattle.whole.specs.Plain.{ℕ, zero, suc, ◌+◌, ◌-◌, ◌*◌, ◌^◌, ◌≤◌, ◌<◌, ◌≡◌, refl, sym, ap, ◌∙◌, Bool, true, false}
-use Rattle.whole.specs.Plain.{not, ◌&&◌, T, ltb, le→leb, lt→ltb, ℤ, pos, negsuc, nat_abs, ◌+ℤ◌, ◌-ℤ◌, +ℤ_idr, lt-ltb}
+use Rattle.whole.specs.Plain.{ℕ, zero, suc, refl, sym, ap, ◌∙◌, Bool, true, false}
+use Rattle.whole.specs.Plain.{not, T, ltb, le→leb, lt→ltb, ℤ, pos, negsuc, nat_abs, +ℤ_idr, lt-ltb}
 use Rattle.whole.specs.Plain.{le-ltb, mul-one, mul_assoc, mul_comm, mul-pos, mul-sub, add-mul, mul-le-mul_right}
 use Rattle.whole.specs.Plain.{mul-lt-mul_of_pos_right, zero-lt-suc, dec_lt, arith}
-use Rattle.std.specs.Prelude.{Float}
+use Rattle.std.specs.Prelude.{Float, ◌+◌, ◌-◌, ◌*◌, ◌^◌, ◌≤◌, ◌<◌, ◌≡◌, ◌&&◌, ◌+ℤ◌, ◌-ℤ◌}
 use Rattle.std.specs.Float.{nan, inf, fin}
 use Rattle.std.specs.Float.Ieee.{binary64, up, down, round, neg, sum, add, sub, of_int, in_float}
 use Rattle.std.specs.Float.Ieee.Fits.{down_pos}

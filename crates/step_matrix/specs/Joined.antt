@@ -1,9 +1,9 @@
 -- One leg into the table: its near node's pivot grows by g, and where its far node is free too the cell between them falls by g. Assumes nothing.
-use Rattle.whole.specs.Plain.{ℕ, ◌+◌, ◌≤◌, ◌<◌, ◌≡◌, refl, sym, ap, ◌∙◌, Bool, true, false, cond, List, [], eqb, ltb}
+use Rattle.whole.specs.Plain.{ℕ, refl, sym, ap, ◌∙◌, Bool, true, false, cond, List, [], eqb, ltb}
 use Rattle.whole.specs.Plain.{set, length, length-set, get_or-set_same, get_or-set_other, ltb-true, ltb-false, eqb-true}
 use Rattle.whole.specs.Plain.{eqb-false, arith}
 use Rattle.std.specs.Float.Ieee as Ieee
-use Rattle.std.specs.Prelude.{Float}
+use Rattle.std.specs.Prelude.{Float, ◌+◌, ◌≤◌, ◌<◌, ◌≡◌}
 use Rattle.std.specs.Float.Ieee.{nan, binary64}
 use Rattle.whole.specs.Written.{set_at}
 use Rattle.paper.specs.Elimination.{line, cell}

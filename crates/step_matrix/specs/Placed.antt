@@ -1,5 +1,6 @@
 -- Where each free node stands among the free nodes, by node; 32 for a node that is not free. Assumes nothing.
-use Rattle.whole.specs.Plain.{ℕ, suc, ◌+◌, ◌≤◌, ◌<◌, ◌≡◌, refl, sym, ap, ◌∙◌, true, false, List, eqb, get_or, set, length}
+use Rattle.std.specs.Prelude.{◌+◌, ◌≤◌, ◌<◌, ◌≡◌}
+use Rattle.whole.specs.Plain.{ℕ, suc, refl, sym, ap, ◌∙◌, true, false, List, eqb, get_or, set, length}
 use Rattle.whole.specs.Plain.{length-set, replicate, length-replicate, get_or-replicate, get_or-set_same, get_or-set_other}
 use Rattle.whole.specs.Plain.{eqb-true, eqb-false, eq-eqb, ne_eqb, ℕ_discrete, arith}
 use Rattle.paper.specs.Limits as Limits

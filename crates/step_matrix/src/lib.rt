@@ -2,7 +2,8 @@
 
 // From an area's legs to the factors of its block of the table that all areas share: once for each position of the area's switches. A sum of at most
 // 64 conductances is exact in doubles, so that each leg goes straight into the matrix.
-ghost use Rattle.whole.specs.Plain.{◌+◌, ◌≤◌, ◌<◌, ◌≡◌, map, length};
+ghost use Rattle.std.specs.Prelude.{◌+◌, ◌≤◌, ◌<◌, ◌≡◌};
+ghost use Rattle.whole.specs.Plain.{map, length};
 ghost use Rattle.paper.specs.Limits as Limits;
 ghost use Rattle.step_legs.specs.Wires.{legs_in, Wires};
 ghost use Rattle.step_legs.specs.Free.{Free};

@@ -1,5 +1,6 @@
 -- A branch of the step, by its row: whose its ends are. Assumes nothing.
-use Rattle.whole.specs.Plain.{ℕ, ◌≤◌, ◌≡◌, refl, sym, ◌∙◌, Bool, true, false, cond, ◌&&◌, List, eqb, ℤ}
+use Rattle.std.specs.Prelude.{◌≤◌, ◌≡◌, ◌&&◌}
+use Rattle.whole.specs.Plain.{ℕ, refl, sym, ◌∙◌, Bool, true, false, cond, List, eqb, ℤ}
 use Rattle.whole.specs.Plain.{ne_eqb, arith, Words}
 use Rattle.paper.specs.Rows.{is_line, is_branch, from, to}
 use Rattle.paper.specs.Areas.{Net, area_of, row_area}

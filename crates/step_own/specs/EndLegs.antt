@@ -1,6 +1,7 @@
 -- The two ends of a row are the paper's two legs. Assumes nothing.
-use Rattle.whole.specs.Plain.{ℕ, ◌+◌, ◌-◌, ◌*◌, ◌/◌, ◌%◌, ◌≤◌, ◌<◌, ◌≡◌, refl, sym, ap, ◌∙◌, Bool, true, false, cond}
-use Rattle.whole.specs.Plain.{◌&&◌, List, eqb, ℤ, length, get_or, ne_eqb, arith, Words, z, word, nat, numbers}
+use Rattle.std.specs.Prelude.{◌+◌, ◌-◌, ◌*◌, ◌/◌, ◌%◌, ◌≤◌, ◌<◌, ◌≡◌, ◌&&◌}
+use Rattle.whole.specs.Plain.{ℕ, refl, sym, ap, ◌∙◌, Bool, true, false, cond}
+use Rattle.whole.specs.Plain.{List, eqb, ℤ, length, get_or, ne_eqb, arith, Words, z, word, nat, numbers}
 use Rattle.whole.specs.Folds.{get_d_map, get_d_numbers, length_numbers}
 use Rattle.paper.specs.Rows.{Row, is_branch, is_line, from, to}
 use Rattle.paper.specs.Conductance.{conductance}

@@ -1,6 +1,7 @@
 -- What an area's own end is worth at most: its nodes, which are the area's or ground, its conductance, its history; and that one row's two ends leave
 -- two nodes. Assumes nothing.
-use Rattle.whole.specs.Plain.{ℕ, ◌+◌, ◌-◌, ◌*◌, ◌/◌, ◌%◌, ◌≤◌, ◌<◌, ◌≡◌, refl, sym, ◌∙◌, ◌⊎◌, inl, inr, Bool, true}
+use Rattle.std.specs.Prelude.{◌+◌, ◌-◌, ◌*◌, ◌/◌, ◌%◌, ◌≤◌, ◌<◌, ◌≡◌, ◌⊎◌}
+use Rattle.whole.specs.Plain.{ℕ, refl, sym, ◌∙◌, inl, inr, Bool, true}
 use Rattle.whole.specs.Plain.{false, cond, eqb, neg_ℤ, nat_abs, length, eqb-true, dec_lt, arith, Words, word}
 use Rattle.whole.specs.Plain.{nat}
 use Rattle.whole.specs.Int.{abs_neg}

@@ -1,5 +1,6 @@
 -- One end of a row at a step, as a leg: what the network settles, the conductance at the switches' positions, and the history. Assumes nothing.
-use Rattle.whole.specs.Plain.{ℕ, ◌/◌, ◌≤◌, ◌<◌, ◌≡◌, true, cond, eqb, ℤ, pos, neg_ℤ, nat_abs, length, eqb-true, Words}
+use Rattle.std.specs.Prelude.{◌/◌, ◌≤◌, ◌<◌, ◌≡◌}
+use Rattle.whole.specs.Plain.{ℕ, true, cond, eqb, ℤ, pos, neg_ℤ, nat_abs, length, eqb-true, Words}
 use Rattle.whole.specs.Plain.{z, word}
 use Rattle.paper.specs.Limits as Limits
 use Rattle.paper.specs.Rows.{kind, is_line}

@@ -1,7 +1,8 @@
 -- The lines of an area's own ends: with the conductances of a step, and with its histories too. They are the legs of those ends, and sums over them fit a
 -- word. Assumes nothing.
-use Rattle.whole.specs.Plain.{ℕ, zero, suc, ◌+◌, ◌*◌, ◌/◌, ◌%◌, ◌≤◌, ◌<◌, ◌≡◌, refl, sym, ap, ◌∙◌, Bool, true, false}
-use Rattle.whole.specs.Plain.{cond, List, [], ◌∷◌, map, map-map, eqb, pos, length, get_or, take, length-map, ext_get_or}
+use Rattle.std.specs.Prelude.{◌+◌, ◌*◌, ◌/◌, ◌%◌, ◌≤◌, ◌<◌, ◌≡◌, ◌∷◌}
+use Rattle.whole.specs.Plain.{ℕ, zero, suc, refl, sym, ap, ◌∙◌, Bool, true, false}
+use Rattle.whole.specs.Plain.{cond, List, [], map, map-map, eqb, pos, length, get_or, take, length-map, ext_get_or}
 use Rattle.whole.specs.Plain.{eqb-true, le_trans, arith, Words, z, word, nat, numbers, keep, count}
 use Rattle.std.proofs.Math.Numerals.{add-one}
 use Rattle.whole.specs.Folds.{get_d_map, count_append, count_map, count_next, keep_append, numbers_more}

@@ -1,7 +1,8 @@
 -- An area's own legs, against both legs of every row: the paper's sums, its equations and its search for a floating node are the same over either, for an
 -- end that is not the area's is idle. Assumes nothing.
-use Rattle.whole.specs.Plain.{ℕ, zero, suc, ◌+◌, ◌*◌, ◌≤◌, ◌<◌, ◌≡◌, refl, sym, ap, ◌∙◌, Bool, true, false, cond, not}
-use Rattle.whole.specs.Plain.{List, [], ◌∷◌, map, ℤ, pos, ◌+ℤ◌, ◌-ℤ◌, ◌*ℤ◌, +ℤ_idl, zero-*ℤ, length, get_or, arith, Words}
+use Rattle.std.specs.Prelude.{◌+◌, ◌*◌, ◌≤◌, ◌<◌, ◌≡◌, ◌∷◌, ◌+ℤ◌, ◌-ℤ◌, ◌*ℤ◌}
+use Rattle.whole.specs.Plain.{ℕ, zero, suc, refl, sym, ap, ◌∙◌, Bool, true, false, cond, not}
+use Rattle.whole.specs.Plain.{List, [], map, ℤ, pos, +ℤ_idl, zero-*ℤ, length, get_or, arith, Words}
 use Rattle.whole.specs.Plain.{z, word, numbers, keep, total, up_to, filled}
 use Rattle.whole.specs.Folds.{map_cong}
 use Rattle.paper.specs.declared.Equation.{Equation}

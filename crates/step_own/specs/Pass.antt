@@ -1,6 +1,7 @@
 -- A pass over an area's own legs is a pass over the rows: what each row's turn does is what the turns of its own ends do. Assumes nothing.
-use Rattle.whole.specs.Plain.{ℕ, zero, suc, ◌+◌, ◌-◌, ◌*◌, ◌≤◌, ◌<◌, ◌≡◌, refl, sym, ap, ◌∙◌, Bool, true, false, cond}
-use Rattle.whole.specs.Plain.{List, [], ◌∷◌, map, length, arith, Words, numbers, keep, fold}
+use Rattle.std.specs.Prelude.{◌+◌, ◌-◌, ◌*◌, ◌≤◌, ◌<◌, ◌≡◌, ◌∷◌}
+use Rattle.whole.specs.Plain.{ℕ, zero, suc, refl, sym, ap, ◌∙◌, Bool, true, false, cond}
+use Rattle.whole.specs.Plain.{List, [], map, length, arith, Words, numbers, keep, fold}
 use Rattle.whole.specs.Folds.{fold_map}
 use Rattle.whole.specs.Turns.{turns}
 use Rattle.whole.specs.TurnLaws.{turns_fold}

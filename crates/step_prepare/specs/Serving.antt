@@ -1,6 +1,6 @@
 -- What is prepared for an area at a position of its switches, and the steps that it serves. Assumes nothing.
-use Rattle.whole.specs.Plain.{ℕ, ◌+◌, ◌≤◌, ◌<◌, ◌≡◌, sym, ap, ◌∙◌, ⊎_elim, List, map, length, arith, Words}
-use Rattle.std.specs.Prelude.{Float}
+use Rattle.whole.specs.Plain.{ℕ, sym, ap, ◌∙◌, ⊎_elim, List, map, length, arith, Words}
+use Rattle.std.specs.Prelude.{Float, ◌+◌, ◌≤◌, ◌<◌, ◌≡◌}
 use Rattle.paper.specs.Limits as Limits
 use Rattle.paper.specs.Areas.{Net, fixed, free_of}
 use Rattle.paper.specs.Legs.{Leg}

@@ -2,7 +2,8 @@
 
 // What an area keeps for a position of its switches: its legs' conductances, that no node floats, and the factors of its matrix. A breaker's position is by
 // its latch in the records.
-ghost use Rattle.whole.specs.Plain.{ℕ, ◌≤◌, ◌≡◌, length};
+ghost use Rattle.std.specs.Prelude.{◌≤◌, ◌≡◌};
+ghost use Rattle.whole.specs.Plain.{ℕ, length};
 ghost use Rattle.paper.specs.Limits as Limits;
 ghost use Rattle.paper.specs.Areas.{Net};
 ghost use Rattle.step_factors.specs.Factors.{Square};

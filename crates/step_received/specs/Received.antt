@@ -1,6 +1,7 @@
 -- What an end of a line reads: what the far end sent d steps before step k, "or 0 where k - d < 1"; step s stands in place s mod the slots. Assumes
 -- nothing.
-use Rattle.whole.specs.Plain.{ℕ, ◌+◌, ◌-◌, ◌%◌, ◌≤◌, ◌<◌, ◌≡◌, ap, cond, ltb, ℤ, length, take, drop, length-take}
+use Rattle.std.specs.Prelude.{◌+◌, ◌-◌, ◌%◌, ◌≤◌, ◌<◌, ◌≡◌}
+use Rattle.whole.specs.Plain.{ℕ, ap, cond, ltb, ℤ, length, take, drop, length-take}
 use Rattle.whole.specs.Plain.{length-drop, get_or-take, get_or-drop, lt-ltb, le-ltb, mod-lt, arith, Words, z, word}
 use Rattle.whole.specs.Mixing.{mixed}
 use Rattle.paper.specs.Rows.{Row}

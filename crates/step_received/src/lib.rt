@@ -2,7 +2,8 @@
 
 // "The from-end stores are one lent slice and the to-end stores another; a reader is handed the far end's part of one of them, no copy."
 
-ghost use Rattle.whole.specs.Plain.{◌+◌, ◌≤◌, ◌<◌, ◌≡◌, length};
+ghost use Rattle.std.specs.Prelude.{◌+◌, ◌≤◌, ◌<◌, ◌≡◌};
+ghost use Rattle.whole.specs.Plain.{length};
 ghost use Rattle.step_received.specs.Received.{far_store, far_part, heard_from};
 
 // the end that reads

@@ -1,5 +1,6 @@
 -- What an area's legs and nodes write into the records. Assumes nothing.
-use Rattle.whole.specs.Plain.{ℕ, suc, ◌+◌, ◌-◌, ◌≤◌, ◌<◌, ◌≡◌, refl, sym, ◌∙◌, true≢false, ◌⊎◌, inr, ⊎_elim, Bool, true, false, cond, ◌&&◌, ◌||◌, List, [], ◌∷◌, eqb, ℤ, pos, nat_abs}
+use Rattle.std.specs.Prelude.{◌+◌, ◌-◌, ◌≤◌, ◌<◌, ◌≡◌, ◌⊎◌, ◌&&◌, ◌||◌, ◌∷◌}
+use Rattle.whole.specs.Plain.{ℕ, suc, refl, sym, ◌∙◌, true≢false, inr, ⊎_elim, Bool, true, false, cond, List, [], eqb, ℤ, pos, nat_abs}
 use Rattle.whole.specs.Plain.{length, get_or, set, get_or-set_other, ne_eqb, ℕ_discrete, arith, Words, z, word, fold}
 use Rattle.paper.specs.Limits as Limits
 use Rattle.paper.specs.Records.{counts, voltages, outdone, histories, peaks, peak_steps, latches, current_at, to_current_at, history_at, latch_at}

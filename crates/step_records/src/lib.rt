@@ -2,7 +2,8 @@
 
 // What an accepted step of one area writes into the records: its count, its nodes' voltages and peaks, the words of its rows, the latches of breakers that part. A leg's
 // line has its current and what it passes on; nothing is worked out again.
-ghost use Rattle.whole.specs.Plain.{◌≤◌, ◌<◌, ◌≡◌, ◌&&◌, eqb, pos, nat_abs, length};
+ghost use Rattle.std.specs.Prelude.{◌≤◌, ◌<◌, ◌≡◌, ◌&&◌};
+ghost use Rattle.whole.specs.Plain.{eqb, pos, nat_abs, length};
 ghost use Rattle.paper.specs.Limits as Limits;
 ghost use Rattle.step_legs.specs.Shares.{Volts};
 ghost use Rattle.step_latch.specs.Parting.{leg_parts};

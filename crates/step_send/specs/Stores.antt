@@ -1,5 +1,6 @@
 -- What an area's legs that are line ends write into a line store. Assumes nothing.
-use Rattle.whole.specs.Plain.{ℕ, ◌+◌, ◌%◌, ◌≤◌, ◌<◌, ◌≡◌, Bool, not, ◌&&◌, List, eqb, ℤ, length, Words, fold}
+use Rattle.std.specs.Prelude.{◌+◌, ◌%◌, ◌≤◌, ◌<◌, ◌≡◌, ◌&&◌}
+use Rattle.whole.specs.Plain.{ℕ, Bool, not, List, eqb, ℤ, length, Words, fold}
 use Rattle.paper.specs.Limits as Limits
 use Rattle.paper.specs.Advance.{put_if}
 use Rattle.plan_rows.specs.Planned.{row_in}

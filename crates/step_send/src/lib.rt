@@ -1,7 +1,8 @@
 #![tactic(auto)]
 
 // What a line's end sends, into that end's store: "step s in place s mod 2d".
-ghost use Rattle.whole.specs.Plain.{◌+◌, ◌≤◌, ◌<◌, ◌%◌, ◌≡◌, length, set};
+ghost use Rattle.std.specs.Prelude.{◌+◌, ◌≤◌, ◌<◌, ◌%◌, ◌≡◌};
+ghost use Rattle.whole.specs.Plain.{length, set};
 ghost use Rattle.paper.specs.Limits as Limits;
 ghost use Rattle.step_send.specs.Stores.{is_from_end, is_to_end, sent_put, Slotted};
 

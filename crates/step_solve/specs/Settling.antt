@@ -1,9 +1,9 @@
 -- From doubles to voltages, free node by free node: the search for one outside the range, and the voltages where there is none. Assumes nothing.
-use Rattle.whole.specs.Plain.{ℕ, ◌+◌, ◌≤◌, ◌<◌, ◌≡◌, refl, sym, ap, ◌∙◌, true, false, cond, List, [], ◌∷◌, map, ℤ, get_or}
+use Rattle.whole.specs.Plain.{ℕ, refl, sym, ap, ◌∙◌, true, false, cond, List, [], map, ℤ, get_or}
 use Rattle.whole.specs.Plain.{length, take, drop, length-set, length-map, drop-cons, drop-length, get_or-take}
 use Rattle.whole.specs.Plain.{length-take-le, arith, Words}
 use Rattle.std.proofs.Common.{add-one}
-use Rattle.std.specs.Prelude.{Float}
+use Rattle.std.specs.Prelude.{Float, ◌+◌, ◌≤◌, ◌<◌, ◌≡◌, ◌∷◌}
 use Rattle.std.specs.Float.{nan}
 use Rattle.whole.specs.Folds.{get_d_map}
 use Rattle.paper.specs.Limits as Limits

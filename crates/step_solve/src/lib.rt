@@ -2,7 +2,8 @@
 
 // One right side for the factors that an area keeps: what its legs draw, the equations' right sides as doubles, and the voltages of its free nodes, or
 // refusal 15 with the lowest node whose double is outside the range.
-ghost use Rattle.whole.specs.Plain.{suc, ◌+◌, ◌≤◌, ◌<◌, ◌≡◌, map, length, word};
+ghost use Rattle.std.specs.Prelude.{◌+◌, ◌≤◌, ◌<◌, ◌≡◌};
+ghost use Rattle.whole.specs.Plain.{suc, map, length, word};
 ghost use Rattle.paper.specs.Limits as Limits;
 ghost use Rattle.paper.specs.Doubles.{in_range, nearest_of};
 ghost use Rattle.paper.specs.Solve.{settle, proposed};

@@ -1,6 +1,7 @@
 -- What some sources give by node is a sum over them; one more, and the node still has room. Assumes nothing.
-use Rattle.whole.specs.Plain.{ℕ, suc, ◌+◌, ◌*◌, ◌≤◌, ◌<◌, ◌≡◌, refl, sym, ap, ◌∙◌, Bool, true, false, cond, ◌&&◌, List}
-use Rattle.whole.specs.Plain.{[], ◌∷◌, eqb, ℤ, nat_abs, ◌+ℤ◌, +ℤ_assoc, +ℤ_idr, length, set, length-set}
+use Rattle.std.specs.Prelude.{◌+◌, ◌*◌, ◌≤◌, ◌<◌, ◌≡◌, ◌&&◌, ◌∷◌, ◌+ℤ◌}
+use Rattle.whole.specs.Plain.{ℕ, suc, refl, sym, ap, ◌∙◌, Bool, true, false, cond, List}
+use Rattle.whole.specs.Plain.{[], eqb, ℤ, nat_abs, +ℤ_assoc, +ℤ_idr, length, set, length-set}
 use Rattle.whole.specs.Plain.{length-replicate, eqb-true, arith, Words, z, word, fold, total}
 use Rattle.std.specs.Int.{w64}
 use Rattle.std.proofs.Common.{SFits}

@@ -1,6 +1,7 @@
 -- An area's own sources: their lines may be driven, and they give what the paper's sums over all rows have at the area's nodes. Assumes nothing.
-use Rattle.whole.specs.Plain.{ℕ, ◌-◌, ◌*◌, ◌≤◌, ◌<◌, zero, suc, ◌≡◌, refl, sym, ◌∙◌, ap, Bool, true, false, cond, ◌&&◌, [], List}
-use Rattle.whole.specs.Plain.{◌∷◌, eqb, ltb, ℤ, pos, negsuc, neg_ℤ, nat_abs, lt_z, ◌+ℤ◌, ◌*ℤ◌, quot_z, +ℤ_idl, length, get_or, length-map, ext_get_or, eq-eqb, eqb-true, le_trans, mul-le-mul_left, mul-le-mul_right}
+use Rattle.std.specs.Prelude.{◌-◌, ◌*◌, ◌≤◌, ◌<◌, ◌≡◌, ◌&&◌, ◌∷◌, ◌+ℤ◌, ◌*ℤ◌}
+use Rattle.whole.specs.Plain.{ℕ, zero, suc, refl, sym, ◌∙◌, ap, Bool, true, false, cond, [], List}
+use Rattle.whole.specs.Plain.{eqb, ltb, ℤ, pos, negsuc, neg_ℤ, nat_abs, lt_z, quot_z, +ℤ_idl, length, get_or, length-map, ext_get_or, eq-eqb, eqb-true, le_trans, mul-le-mul_left, mul-le-mul_right}
 use Rattle.whole.specs.Plain.{arith, z, word, total, keep}
 use Rattle.whole.specs.Int.{abs_neg}
 use Rattle.whole.specs.Folds.{and_left, and_right, length_keep, get_d_map}

@@ -1,6 +1,7 @@
 -- An area's sources as lines of words, which stand as in a row: kind, node, peak, start, and the rise; a VC has minus its pace there. What those that
 -- pass give by node. Assumes nothing.
-use Rattle.whole.specs.Plain.{ℕ, ◌*◌, ◌≤◌, ◌<◌, ◌≡◌, true, false, Bool, cond, List, [], ℤ, pos, neg_ℤ, nat_abs, lt_z, ◌+ℤ◌, ◌-ℤ◌, ◌*ℤ◌, quot_z}
+use Rattle.std.specs.Prelude.{◌*◌, ◌≤◌, ◌<◌, ◌≡◌, ◌+ℤ◌, ◌-ℤ◌, ◌*ℤ◌}
+use Rattle.whole.specs.Plain.{ℕ, true, false, Bool, cond, List, [], ℤ, pos, neg_ℤ, nat_abs, lt_z, quot_z}
 use Rattle.whole.specs.Plain.{length, get_or, set, Words, z, word, nat, fold}
 use Rattle.paper.specs.Limits as Limits
 use Rattle.paper.specs.Rows.{Row, kind, is_source, is_vC, at, peak}

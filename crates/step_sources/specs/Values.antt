@@ -1,6 +1,7 @@
 -- A source's value in its cases, before, during and after the rise, and as it swings; that the products on the way fit. Assumes nothing.
-use Rattle.whole.specs.Plain.{ℕ, zero, suc, ◌+◌, ◌-◌, ◌*◌, ◌/◌, ◌%◌, ◌^◌, ◌≤◌, ◌≡◌, refl, sym, ap, ◌∙◌, Bool, true, false, false≢true, cond, ltb, ltb-true, lt-ltb, le-ltb, ℤ, pos, negsuc, neg_ℤ, nat_abs}
-use Rattle.whole.specs.Plain.{sub_ℕ, lt_z, le_z, leb-true, le-leb, ◌-ℤ◌, ◌*ℤ◌, quot_z, mul-le-mul_left, mul-le-mul_right, le_trans, arith, z, word, nat}
+use Rattle.std.specs.Prelude.{◌+◌, ◌-◌, ◌*◌, ◌/◌, ◌%◌, ◌^◌, ◌≤◌, ◌≡◌, ◌-ℤ◌, ◌*ℤ◌}
+use Rattle.whole.specs.Plain.{ℕ, zero, suc, refl, sym, ap, ◌∙◌, Bool, true, false, false≢true, cond, ltb, ltb-true, lt-ltb, le-ltb, ℤ, pos, negsuc, neg_ℤ, nat_abs}
+use Rattle.whole.specs.Plain.{sub_ℕ, lt_z, le_z, leb-true, le-leb, quot_z, mul-le-mul_left, mul-le-mul_right, le_trans, arith, z, word, nat}
 use Rattle.std.specs.Int.{w64}
 use Rattle.std.proofs.Common.{SFits}
 use Rattle.whole.specs.Int.{subℕ_ge}

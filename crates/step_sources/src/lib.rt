@@ -1,7 +1,8 @@
 #![tactic(auto)]
 
 // "A source before its start is 0; from start, with n steps since": what an area's sources hold and inject at one step.
-ghost use Rattle.whole.specs.Plain.{◌*◌, ◌≤◌, ◌<◌, ◌≡◌, true, [], pos, nat_abs, le_z, length, get_or, nat};
+ghost use Rattle.std.specs.Prelude.{◌*◌, ◌≤◌, ◌<◌, ◌≡◌};
+ghost use Rattle.whole.specs.Plain.{true, [], pos, nat_abs, le_z, length, get_or, nat};
 ghost use Rattle.paper.specs.Limits as Limits;
 ghost use Rattle.paper.specs.Rows.{is_fixing, is_iS};
 ghost use Rattle.step_legs.specs.Sums.{none};

@@ -1,7 +1,7 @@
 -- An area's step from the tables is the paper's. Assumes nothing.
-use Rattle.whole.specs.Plain.{ℕ, suc, ◌≤◌, ◌<◌, ◌≡◌, refl, sym, ap, subst, ◌∙◌, ◌≢◌, Bool, true, false, true≢false, List}
+use Rattle.whole.specs.Plain.{ℕ, suc, refl, sym, ap, subst, ◌∙◌, Bool, true, false, true≢false, List}
 use Rattle.whole.specs.Plain.{pos, ℕ_discrete, arith, Words, z, word}
-use Rattle.std.specs.Prelude.{Float}
+use Rattle.std.specs.Prelude.{Float, ◌≤◌, ◌<◌, ◌≡◌, ◌≢◌}
 use Rattle.paper.specs.declared.Advance.{Advance}
 use Rattle.paper.specs.declared.Advance.TheVariants.{Took, Floating, Range, Unbalanced, History}
 use Rattle.paper.specs.Rows as Rows

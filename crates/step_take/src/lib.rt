@@ -1,7 +1,7 @@
 #![tactic(auto)]
 
 // One step of one area, from what is kept for it: 15 to 17 in turn, or the step is taken and written.
-ghost use Rattle.whole.specs.Plain.{◌≡◌};
+ghost use Rattle.std.specs.Prelude.{◌≡◌};
 ghost use Rattle.paper.specs.Advance.{memory};
 ghost use Rattle.step_take.specs.Stepping.{at_of, Movable, Moves};
 

@@ -1,6 +1,7 @@
 -- The first row of which a leg passes on too much is the paper's. Assumes nothing.
-use Rattle.whole.specs.Plain.{ℕ, zero, suc, ◌+◌, ◌*◌, ◌/◌, ◌≤◌, ◌<◌, ◌≡◌, refl, ap, ◌∙◌, Bool, true, false, cond, not}
-use Rattle.whole.specs.Plain.{◌&&◌, ◌||◌, List, [], ◌∷◌, map, eqb, neg_ℤ, zero-*ℤ, length, arith, Words, z, up_to}
+use Rattle.std.specs.Prelude.{◌+◌, ◌*◌, ◌/◌, ◌≤◌, ◌<◌, ◌≡◌, ◌&&◌, ◌||◌, ◌∷◌}
+use Rattle.whole.specs.Plain.{ℕ, zero, suc, refl, ap, ◌∙◌, Bool, true, false, cond, not}
+use Rattle.whole.specs.Plain.{List, [], map, eqb, neg_ℤ, zero-*ℤ, length, arith, Words, z, up_to}
 use Rattle.whole.specs.Plain.{numbers, keep}
 use Rattle.paper.specs.Limits as Limits
 use Rattle.paper.specs.Rows.{kind}

@@ -1,5 +1,6 @@
 -- What a step's outcome is answered by, and the refusals 15 to 17 in turn, by their places. Assumes nothing.
-use Rattle.whole.specs.Plain.{ℕ, zero, suc, ◌≡◌, refl, sym, ap, ◌∙◌, List, arith, Words}
+use Rattle.std.specs.Prelude.{◌≡◌}
+use Rattle.whole.specs.Plain.{ℕ, zero, suc, refl, sym, ap, ◌∙◌, List, arith, Words}
 use Rattle.paper.specs.declared.Advance.{Advance}
 use Rattle.paper.specs.declared.Advance.TheVariants.{Took, Range, Unbalanced, History}
 use Rattle.paper.specs.Rows.{limit}

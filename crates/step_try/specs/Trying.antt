@@ -1,7 +1,7 @@
 -- A step tried on what is kept for it: what it goes by, what it leaves in the lines, and that it is the paper's step. Assumes nothing.
-use Rattle.whole.specs.Plain.{ℕ, zero, suc, ◌+◌, ◌-◌, ◌≤◌, ◌<◌, ◌≡◌, refl, sym, ap, ◌∙◌, Bool, true, false, cond, List}
-use Rattle.whole.specs.Plain.{[], ◌∷◌, map, T, ℤ, pos, non_neg, length, get_or, take, arith, Words, z, word, nat}
-use Rattle.std.specs.Prelude.{Float}
+use Rattle.whole.specs.Plain.{ℕ, zero, suc, refl, sym, ap, ◌∙◌, Bool, true, false, cond, List}
+use Rattle.whole.specs.Plain.{[], map, T, ℤ, pos, non_neg, length, get_or, take, arith, Words, z, word, nat}
+use Rattle.std.specs.Prelude.{Float, ◌+◌, ◌-◌, ◌≤◌, ◌<◌, ◌≡◌, ◌∷◌}
 use Rattle.paper.specs.declared.Advance.{Advance}
 use Rattle.paper.specs.declared.Advance.TheVariants.{Took, Range, Unbalanced, History}
 use Rattle.whole.specs.Size.{∣◌∣≤◌}

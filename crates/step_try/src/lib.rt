@@ -1,7 +1,8 @@
 #![tactic(auto)]
 
 // One step of one area tried, on what is kept for its switches' positions: 15, 16 and 17 in turn, or the voltages. Nothing lent for the study is written.
-ghost use Rattle.whole.specs.Plain.{ℕ, drop, ◌-◌, ◌≡◌, nat};
+ghost use Rattle.std.specs.Prelude.{◌-◌, ◌≡◌};
+ghost use Rattle.whole.specs.Plain.{ℕ, drop, nat};
 ghost use Rattle.paper.specs.Answers.{accepted};
 ghost use Rattle.paper.specs.Areas.{Net};
 ghost use Rattle.plan_rows.specs.Planned.{row_in};

@@ -1,6 +1,7 @@
 -- A row without fault: what is seen with it stands for the rows with it. Assumes nothing.
-use Rattle.whole.specs.Plain.{ℕ, ◌+◌, ◌≤◌, ◌<◌, ◌≡◌, refl, sym, ◌∙◌, ap, Bool, true, false, cond, ◌&&◌, ◌||◌, List, []}
-use Rattle.whole.specs.Plain.{◌∷◌, ◌++◌, eqb, leb, ltb, pos, length, get_or, set, length-set, get_or-set_same}
+use Rattle.std.specs.Prelude.{◌+◌, ◌≤◌, ◌<◌, ◌≡◌, ◌&&◌, ◌||◌, ◌∷◌, ◌++◌}
+use Rattle.whole.specs.Plain.{ℕ, refl, sym, ◌∙◌, ap, Bool, true, false, cond, List, []}
+use Rattle.whole.specs.Plain.{eqb, leb, ltb, pos, length, get_or, set, length-set, get_or-set_same}
 use Rattle.whole.specs.Plain.{get_or-set_other, eqb-true, eqb-false, eq-eqb, leb-false, ltb-false, arith, Words, word}
 use Rattle.whole.specs.Plain.{nat, between, empty, any, count, sum}
 use Rattle.whole.specs.Truths.{or_false, or-true}

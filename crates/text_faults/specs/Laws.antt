@@ -1,6 +1,7 @@
 -- From a row's words to what its faults ask. Assumes nothing.
-use Rattle.whole.specs.Plain.{ℕ, suc, ◌+◌, ◌%◌, ◌≤◌, ◌<◌, ◌≡◌, refl, sym, ◌∙◌, ap, Bool, true, false, not, cond, ◌&&◌, ◌||◌}
-use Rattle.whole.specs.Plain.{true≢false, false≢true, List, [], ◌∷◌, tail, T, leb, ltb, eqb, ℤ, pos, negsuc, nat_abs}
+use Rattle.std.specs.Prelude.{◌+◌, ◌%◌, ◌≤◌, ◌<◌, ◌≡◌, ◌&&◌, ◌||◌, ◌∷◌}
+use Rattle.whole.specs.Plain.{ℕ, suc, refl, sym, ◌∙◌, ap, Bool, true, false, not, cond}
+use Rattle.whole.specs.Plain.{true≢false, false≢true, List, [], tail, T, leb, ltb, eqb, ℤ, pos, negsuc, nat_abs}
 use Rattle.whole.specs.Plain.{non_neg, length, ne_eqb, eqb-true, div-le_self, arith, Words, word, nat, between}
 use Rattle.whole.specs.Plain.{count}
 use Rattle.whole.specs.Folds.{or_left}

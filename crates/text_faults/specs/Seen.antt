@@ -1,5 +1,6 @@
 -- What the rows before tell, held in a few words, and the faults of a row by them. Assumes nothing.
-use Rattle.whole.specs.Plain.{ℕ, ◌+◌, ◌*◌, ◌≤◌, ◌^◌, ◌≡◌, Bool, true, false, cond, ◌&&◌, ◌||◌, List, [], ◌∷◌, leb, ltb}
+use Rattle.std.specs.Prelude.{◌+◌, ◌*◌, ◌≤◌, ◌^◌, ◌≡◌, ◌&&◌, ◌||◌, ◌∷◌}
+use Rattle.whole.specs.Plain.{ℕ, Bool, true, false, cond, List, [], leb, ltb}
 use Rattle.whole.specs.Plain.{eqb, pos, get_or, set, replicate, Words, z}
 use Rattle.paper.specs.Limits as Limits
 use Rattle.paper.specs.Rows.{Row, is_study, is_branch, is_source, is_fixing, at, step_length}

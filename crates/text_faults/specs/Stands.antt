@@ -1,6 +1,7 @@
 -- The faults of a row by what is seen are the paper's, after the rows that it stands for. Assumes nothing.
-use Rattle.whole.specs.Plain.{ℕ, ◌≤◌, ◌<◌, ◌≡◌, refl, sym, ◌∙◌, ap, subst, Bool, true, false, ◌&&◌, false≢true}
-use Rattle.whole.specs.Plain.{true≢false, List, [], ◌∷◌, tail, ℤ, pos, negsuc, length, get_or, drop, get_or-replicate}
+use Rattle.std.specs.Prelude.{◌≤◌, ◌<◌, ◌≡◌, ◌&&◌, ◌∷◌}
+use Rattle.whole.specs.Plain.{ℕ, refl, sym, ◌∙◌, ap, subst, Bool, true, false, false≢true}
+use Rattle.whole.specs.Plain.{true≢false, List, [], tail, ℤ, pos, negsuc, length, get_or, drop, get_or-replicate}
 use Rattle.whole.specs.Plain.{arith, Words, word, between, empty, any, count, sum}
 use Rattle.whole.specs.Folds.{or_left}
 use Rattle.paper.specs.Rows.{Row, bytes, kinds, kind, fields_of, is_study, is_branch, is_source, is_fixing, branch_kind, source_kind, fixing_kind, at, step_length}

@@ -2,7 +2,8 @@
 
 // What may be wrong with a row whose spelling is right, after the rows before it: refusals 2 to 6. One function, for the reader's lines and for the rows of a
 // lent network record.
-ghost use Rattle.whole.specs.Plain.{◌≤◌, ◌<◌, ◌+◌, ◌*◌, ◌≡◌, false, true, cond, nat_abs, get_or, word};
+ghost use Rattle.std.specs.Prelude.{◌≤◌, ◌<◌, ◌+◌, ◌*◌, ◌≡◌};
+ghost use Rattle.whole.specs.Plain.{false, true, cond, nat_abs, get_or, word};
 ghost use Rattle.paper.specs.Limits as Limits;
 ghost use Rattle.paper.specs.Rows.{kind, is_study, step_length};
 ghost use Rattle.paper.specs.Faults as Faults;

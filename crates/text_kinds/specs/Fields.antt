@@ -1,5 +1,6 @@
 -- The paper's test of a row's fields is the loop's, and what a row that passes it has. Assumes nothing.
-use Rattle.whole.specs.Plain.{ℕ, zero, suc, ◌+◌, ◌-◌, ◌<◌, ◌≤◌, ◌≡◌, refl, Bool, true, false, not, [], ◌∷◌, tail, eqb}
+use Rattle.std.specs.Prelude.{◌+◌, ◌-◌, ◌<◌, ◌≤◌, ◌≡◌, ◌∷◌}
+use Rattle.whole.specs.Plain.{ℕ, zero, suc, refl, Bool, true, false, not, [], tail, eqb}
 use Rattle.whole.specs.Plain.{leb, ltb, ℤ, pos, negsuc, nat_abs, length, drop, eqb-true, eqb-false, leb-true, not-false}
 use Rattle.whole.specs.Plain.{zero-add, arith, Words, word, between, count}
 use Rattle.std.proofs.Math.Nat.{sub-zero}

@@ -1,5 +1,6 @@
 -- The table of kinds as code holds it, flat, against the paper's lists of fields. Assumes nothing.
-use Rattle.whole.specs.Plain.{ℕ, zero, suc, ◌+◌, ◌-◌, ◌<◌, ◌≤◌, ◌≡◌, sym, Bool, true, false, not, cond, ◌||◌, List, ℤ}
+use Rattle.std.specs.Prelude.{◌+◌, ◌-◌, ◌<◌, ◌≤◌, ◌≡◌, ◌||◌}
+use Rattle.whole.specs.Plain.{ℕ, zero, suc, sym, Bool, true, false, not, cond, List, ℤ}
 use Rattle.whole.specs.Plain.{get_or, length, ltb, lt-ltb, le-ltb, not-false, add-zero, arith, Words, z, word, between, count}
 use Rattle.std.proofs.Math.Nat.{sub-zero}
 use Rattle.std.proofs.Common.{add-one, one-add}

@@ -1,7 +1,8 @@
 #![tactic(auto)]
 
 // The table of kinds: study, R, L, C, LINE, SW, VS, IS, VC, SWT, kinds 0 to 9. A kind's fields that name a node are its first.
-ghost use Rattle.whole.specs.Plain.{◌<◌, ◌≡◌, length, between};
+ghost use Rattle.std.specs.Prelude.{◌<◌, ◌≡◌};
+ghost use Rattle.whole.specs.Plain.{length, between};
 ghost use Rattle.paper.specs.Rows.{fields_of};
 ghost use Rattle.text_kinds.specs.Table.{names_of, lows_of, highs_of, in_range};
 

@@ -1,6 +1,7 @@
 -- What is read of a line is what the paper says of it. Assumes nothing.
-use Rattle.whole.specs.Plain.{ℕ, zero, suc, ◌+◌, ◌-◌, ◌≤◌, ◌<◌, ◌≡◌, refl, sym, ◌∙◌, ap, Bool, true, false, not, ◌&&◌}
-use Rattle.whole.specs.Plain.{◌||◌, false≢true, List, [], ◌∷◌, ◌++◌, tail, eqb, ℤ, pos, lt_z, get_or, length, drop, set}
+use Rattle.std.specs.Prelude.{◌+◌, ◌-◌, ◌≤◌, ◌<◌, ◌≡◌, ◌&&◌, ◌||◌, ◌∷◌, ◌++◌}
+use Rattle.whole.specs.Plain.{ℕ, zero, suc, refl, sym, ◌∙◌, ap, Bool, true, false, not}
+use Rattle.whole.specs.Plain.{false≢true, List, [], tail, eqb, ℤ, pos, lt_z, get_or, length, drop, set}
 use Rattle.whole.specs.Plain.{replicate, length-replicate, drop-drop, get_or-drop, sets, sets-eq, eqb-true, le-leb}
 use Rattle.whole.specs.Plain.{lt-leb, ne_eqb, dec_lt, arith, Words, z, any, filled, same_bytes}
 use Rattle.std.proofs.Math.Numerals.{add-one}

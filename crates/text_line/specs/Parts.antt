@@ -1,5 +1,6 @@
 -- The lines of a text and the fields of a line, as a reader meets them: the bytes up to the next LF, or up to the next tab or LF. Assumes nothing.
-use Rattle.whole.specs.Plain.{ℕ, suc, ◌+◌, ◌≤◌, ◌<◌, ◌≡◌, refl, ap, Bool, true, false, cond, ◌||◌, List, [], ◌∷◌, eqb}
+use Rattle.std.specs.Prelude.{◌+◌, ◌≤◌, ◌<◌, ◌≡◌, ◌||◌, ◌∷◌}
+use Rattle.whole.specs.Plain.{ℕ, suc, refl, ap, Bool, true, false, cond, List, [], eqb}
 use Rattle.whole.specs.Plain.{get_or, length, drop, take, drop-cons, eqb-true, arith, any}
 use Rattle.std.proofs.Common.{add-one}
 use Rattle.whole.specs.Folds.{or_left, or_right}

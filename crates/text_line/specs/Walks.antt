@@ -1,6 +1,7 @@
 -- A line, as far as it is read. Assumes nothing.
-use Rattle.whole.specs.Plain.{ℕ, ◌+◌, ◌-◌, ◌≤◌, ◌<◌, ◌≡◌, refl, sym, ◌∙◌, ap, Bool, true, false, not, cond, ◌&&◌}
-use Rattle.whole.specs.Plain.{false≢true, List, [], ◌∷◌, leb, eqb, ℤ, pos, lt_z, get_or, length, drop, take, set}
+use Rattle.std.specs.Prelude.{◌+◌, ◌-◌, ◌≤◌, ◌<◌, ◌≡◌, ◌&&◌, ◌∷◌}
+use Rattle.whole.specs.Plain.{ℕ, refl, sym, ◌∙◌, ap, Bool, true, false, not, cond}
+use Rattle.whole.specs.Plain.{false≢true, List, [], leb, eqb, ℤ, pos, lt_z, get_or, length, drop, take, set}
 use Rattle.whole.specs.Plain.{replicate, length-drop, drop_of_length-le, drop-cons, le-leb, lt-leb, not-true, not-false}
 use Rattle.whole.specs.Plain.{arith, z}
 use Rattle.whole.specs.Folds.{and_right}

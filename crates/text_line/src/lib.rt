@@ -1,7 +1,8 @@
 #![tactic(auto)]
 
 // One line of the study text as a row: "Lines end in LF, the last one too; fields are parted by one tab."
-ghost use Rattle.whole.specs.Plain.{◌≤◌, ◌<◌, ◌+◌, ◌≡◌, length, drop};
+ghost use Rattle.std.specs.Prelude.{◌≤◌, ◌<◌, ◌+◌, ◌≡◌};
+ghost use Rattle.whole.specs.Plain.{length, drop};
 ghost use Rattle.text_line.specs.Parts.{ends, field_of, starts_with};
 ghost use Rattle.text_line.specs.Walks.{field_at, fields_at, line_at};
 

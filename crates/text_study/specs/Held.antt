@@ -1,6 +1,7 @@
 -- No test of a row can tell a number that is held at the end from the true one. Assumes nothing.
-use Rattle.whole.specs.Plain.{ℕ, zero, suc, ◌-◌, ◌≤◌, ◌<◌, ◌≡◌, refl, sym, ◌∙◌, ap, Bool, true, false, ◌&&◌, false≢true}
-use Rattle.whole.specs.Plain.{List, [], ◌∷◌, tail, map, leb, ltb, ℤ, pos, negsuc, nat_abs, le_z, length, length-map}
+use Rattle.std.specs.Prelude.{◌-◌, ◌≤◌, ◌<◌, ◌≡◌, ◌&&◌, ◌∷◌}
+use Rattle.whole.specs.Plain.{ℕ, zero, suc, refl, sym, ◌∙◌, ap, Bool, true, false, false≢true}
+use Rattle.whole.specs.Plain.{List, [], tail, map, leb, ltb, ℤ, pos, negsuc, nat_abs, le_z, length, length-map}
 use Rattle.whole.specs.Plain.{get_or-map, get_or-eq_default, ext_get_or, leb-true, ltb-true, dec_lt, arith, Words, z}
 use Rattle.whole.specs.Plain.{word, between, every, count}
 use Rattle.whole.specs.Int.{abs_neg}

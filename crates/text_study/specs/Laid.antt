@@ -1,5 +1,6 @@
 -- One row more in the record: its eight words in their place, and the number of rows. Assumes nothing.
-use Rattle.whole.specs.Plain.{ℕ, suc, ◌+◌, ◌*◌, ◌-◌, ◌≤◌, ◌<◌, ◌≡◌, refl, sym, ◌∙◌, ap, cond, List, [], ◌∷◌, ◌++◌}
+use Rattle.std.specs.Prelude.{◌+◌, ◌*◌, ◌-◌, ◌≤◌, ◌<◌, ◌≡◌, ◌∷◌, ◌++◌}
+use Rattle.whole.specs.Plain.{ℕ, suc, refl, sym, ◌∙◌, ap, cond, List, []}
 use Rattle.whole.specs.Plain.{append_assoc, append-nil, ℤ, pos, get_or, length, drop, take, set, replicate, length-append}
 use Rattle.whole.specs.Plain.{length-replicate, take-suc, length-take-le, sets, sets-eq, take_at, drop-append-add}
 use Rattle.whole.specs.Plain.{set-append_left, arith, Words, z, word, filled}

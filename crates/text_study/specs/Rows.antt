@@ -1,6 +1,7 @@
 -- A line that is well formed, and the row that is read of it. Assumes nothing.
-use Rattle.whole.specs.Plain.{ℕ, zero, suc, ◌+◌, ◌-◌, ◌≤◌, ◌<◌, ◌≡◌, refl, sym, ◌∙◌, ap, subst, Bool, true, false, not}
-use Rattle.whole.specs.Plain.{bool_beq, false≢true, List, [], ◌∷◌, ◌++◌, tail, map, eqb, pos, get_or, length, length-map}
+use Rattle.std.specs.Prelude.{◌-◌, ◌≤◌, ◌<◌, ◌≡◌, ◌∷◌, ◌++◌}
+use Rattle.whole.specs.Plain.{ℕ, zero, suc, refl, sym, ◌∙◌, ap, subst, Bool, true, false, not}
+use Rattle.whole.specs.Plain.{bool_beq, false≢true, List, [], tail, map, eqb, pos, get_or, length, length-map}
 use Rattle.whole.specs.Plain.{replicate, get_or-eq_default, take_at, eqb-false, not-true, arith, Words, z, word}
 use Rattle.whole.specs.Plain.{empty, filled}
 use Rattle.whole.specs.Folds.{and_left, and_right, map_append}

@@ -1,6 +1,7 @@
 -- The text as far as it is read. Assumes nothing.
-use Rattle.whole.specs.Plain.{ℕ, suc, ◌+◌, ◌*◌, ◌-◌, ◌≤◌, ◌<◌, ◌≡◌, refl, sym, ◌∙◌, ap, Bool, true, false, cond, ◌&&◌}
-use Rattle.whole.specs.Plain.{bool_beq, true≢false, List, [], ◌∷◌, ◌++◌, tail, eqb, get_or, length, drop, replicate}
+use Rattle.std.specs.Prelude.{◌+◌, ◌*◌, ◌≤◌, ◌<◌, ◌≡◌, ◌&&◌, ◌∷◌, ◌++◌}
+use Rattle.whole.specs.Plain.{ℕ, suc, refl, sym, ◌∙◌, ap, Bool, true, false, cond}
+use Rattle.whole.specs.Plain.{bool_beq, true≢false, List, [], tail, eqb, get_or, length, drop, replicate}
 use Rattle.whole.specs.Plain.{length-append, length-replicate, eqb-true, eqb-false, arith, Words, z, empty, filled}
 use Rattle.whole.specs.Filled.{length_filled}
 use Rattle.paper.specs.Rows.{bytes, kinds, fields_of, branch_kind, source_kind, is_study}

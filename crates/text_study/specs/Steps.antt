@@ -1,6 +1,7 @@
 -- One line more, and the end of the text. Assumes nothing.
-use Rattle.whole.specs.Plain.{ℕ, zero, suc, ◌+◌, ◌-◌, ◌≤◌, ◌<◌, ◌≡◌, refl, sym, ◌∙◌, ap, subst, Bool, true, false, cond}
-use Rattle.whole.specs.Plain.{◌&&◌, ◌||◌, bool_beq, false≢true, List, [], ◌∷◌, ◌++◌, eqb, ltb, get_or, length, drop}
+use Rattle.std.specs.Prelude.{◌+◌, ◌-◌, ◌≤◌, ◌<◌, ◌≡◌, ◌&&◌, ◌||◌, ◌∷◌, ◌++◌}
+use Rattle.whole.specs.Plain.{ℕ, zero, suc, refl, sym, ◌∙◌, ap, subst, Bool, true, false, cond}
+use Rattle.whole.specs.Plain.{bool_beq, false≢true, List, [], eqb, ltb, get_or, length, drop}
 use Rattle.whole.specs.Plain.{length-append, length-set, length-drop, drop_of_length-le, drop-cons, drop-drop}
 use Rattle.whole.specs.Plain.{length-sets, eq-eqb, ne_eqb, ltb-false, ℕ_discrete, arith, Words, z, empty, any, filled}
 use Rattle.whole.specs.Folds.{and_left, and_right}

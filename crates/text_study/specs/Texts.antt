@@ -1,6 +1,7 @@
 -- The lines of a text, one after the other. Assumes nothing.
-use Rattle.whole.specs.Plain.{ℕ, suc, ◌≡◌, refl, ap, Bool, true, false, not, cond, ◌&&◌, bool_beq, and-false, List, []}
-use Rattle.whole.specs.Plain.{◌∷◌, tail, eqb, length, drop, empty, lead, final, fold}
+use Rattle.std.specs.Prelude.{◌≡◌, ◌&&◌, ◌∷◌}
+use Rattle.whole.specs.Plain.{ℕ, suc, refl, ap, Bool, true, false, not, cond, bool_beq, and-false, List, []}
+use Rattle.whole.specs.Plain.{tail, eqb, length, drop, empty, lead, final, fold}
 use Rattle.whole.specs.Folds.{and_left, and_right}
 use Rattle.paper.specs.Rows.{no_kind, fields_of}
 use Rattle.paper.specs.Faults.{row_fault}

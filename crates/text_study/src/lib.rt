@@ -1,7 +1,8 @@
 #![tactic(auto)]
 
 // All lines of the study text, one after the other, into a network record; or the first faulty line and its fault.
-ghost use Rattle.whole.specs.Plain.{◌≤◌, ◌<◌, ◌+◌, ◌≡◌, true, false, ◌&&◌, bool_beq, eqb, ltb, pos, length, replicate};
+ghost use Rattle.std.specs.Prelude.{◌≤◌, ◌<◌, ◌+◌, ◌≡◌, ◌&&◌};
+ghost use Rattle.whole.specs.Plain.{true, false, bool_beq, eqb, ltb, pos, length, replicate};
 ghost use Rattle.whole.specs.Plain.{sets};
 ghost use Rattle.paper.specs.Limits as Limits;
 ghost use Rattle.paper.specs.Rows.{kind, is_study};

@@ -1,5 +1,6 @@
 -- A small number as a signed word, and its negation. Assumes nothing.
-use Rattle.whole.specs.Plain.{ℕ, ◌≤◌, ◌≡◌, ◌∙◌, ap, true, List, [], ◌∷◌, eqb, ℤ, pos, neg_ℤ, ◌-ℤ◌, +ℤ_idl, get_or, length}
+use Rattle.std.specs.Prelude.{◌≤◌, ◌≡◌, ◌∷◌, ◌-ℤ◌}
+use Rattle.whole.specs.Plain.{ℕ, ◌∙◌, ap, true, List, [], eqb, ℤ, pos, neg_ℤ, +ℤ_idl, get_or, length}
 use Rattle.whole.specs.Plain.{arith}
 use Rattle.std.specs.Int.{w64}
 use Rattle.std.proofs.Common.{SFits, to_z, of_z, to_z-of_z}

@@ -1,6 +1,7 @@
 -- A number of any length, held at an end that lies past every field's. Assumes nothing.
-use Rattle.whole.specs.Plain.{ℕ, zero, suc, ◌+◌, ◌*◌, ◌-◌, ◌≤◌, ◌<◌, ◌≡◌, refl, sym, ◌∙◌, ap, subst, Bool, true, false}
-use Rattle.whole.specs.Plain.{not, cond, ◌&&◌, ◌||◌, List, [], ◌∷◌, ltb, eqb, ℤ, pos, negsuc, neg_ℤ, get_or, length, drop}
+use Rattle.std.specs.Prelude.{◌+◌, ◌*◌, ◌-◌, ◌≤◌, ◌<◌, ◌≡◌, ◌&&◌, ◌||◌, ◌∷◌}
+use Rattle.whole.specs.Plain.{ℕ, zero, suc, refl, sym, ◌∙◌, ap, subst, Bool, true, false}
+use Rattle.whole.specs.Plain.{not, cond, List, [], ltb, eqb, ℤ, pos, negsuc, neg_ℤ, get_or, length, drop}
 use Rattle.whole.specs.Plain.{drop_of_length-le, length-drop, drop-cons, lt-ltb, le-ltb, eqb-true, eq-eqb, ne_eqb}
 use Rattle.whole.specs.Plain.{dec_lt, ℕ_discrete, arith, z, empty, every, fold}
 use Rattle.whole.specs.Truths.{and-false, and-true, or_false}

@@ -1,6 +1,7 @@
 -- The words of the study text. Assumes nothing.
-use Rattle.whole.specs.Plain.{ℕ, suc, ◌+◌, ◌≤◌, ◌<◌, ◌≡◌, refl, sym, ◌∙◌, ap, Bool, true, false, cond, ◌&&◌, List, []}
-use Rattle.whole.specs.Plain.{◌∷◌, eqb, get_or, length, drop, drop_of_length-le, drop-cons, eq-eqb, ne_eqb, arith}
+use Rattle.std.specs.Prelude.{◌+◌, ◌≤◌, ◌<◌, ◌≡◌, ◌&&◌, ◌∷◌}
+use Rattle.whole.specs.Plain.{ℕ, suc, refl, sym, ◌∙◌, ap, Bool, true, false, cond, List, []}
+use Rattle.whole.specs.Plain.{eqb, get_or, length, drop, drop_of_length-le, drop-cons, eq-eqb, ne_eqb, arith}
 use Rattle.whole.specs.Plain.{same_bytes}
 use Rattle.std.proofs.Common.{add-one}
 use Rattle.whole.specs.Tables.{table, table_at}

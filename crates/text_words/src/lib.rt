@@ -2,7 +2,8 @@
 
 // A line's word as a kind, and a field as a number. "Numbers are decimal without leading zeros; a minus stands only before a nonzero peak";
 // "a number however long is well spelt".
-ghost use Rattle.whole.specs.Plain.{◌≤◌, ◌<◌, ◌+◌, ◌≡◌, true, false, cond, ◌&&◌, eqb, pos, neg_ℤ, length, get_or, drop};
+ghost use Rattle.std.specs.Prelude.{◌≤◌, ◌<◌, ◌+◌, ◌≡◌, ◌&&◌};
+ghost use Rattle.whole.specs.Plain.{true, false, cond, eqb, pos, neg_ℤ, length, get_or, drop};
 ghost use Rattle.whole.specs.Plain.{same_bytes};
 ghost use Rattle.paper.specs.Rows.{kinds, word_of};
 ghost use Rattle.paper.specs.Text.{digit, place_of};

@@ -1,5 +1,6 @@
 -- The lines of a network record, from the record's own words. Assumes nothing.
-use Rattle.whole.specs.Plain.{ℕ, zero, suc, ◌+◌, ◌*◌, ◌<◌, ◌≤◌, ◌≡◌, refl, ap, ◌∙◌, List, [], ◌∷◌, tail, get_or, length, ℤ}
+use Rattle.std.specs.Prelude.{◌+◌, ◌*◌, ◌<◌, ◌≤◌, ◌≡◌, ◌∷◌}
+use Rattle.whole.specs.Plain.{ℕ, zero, suc, refl, ap, ◌∙◌, List, [], tail, get_or, length, ℤ}
 use Rattle.whole.specs.Plain.{take, drop, drop-drop, take-take, drop-cons, drop_of_length-le, arith, Words, z, nat}
 use Rattle.std.proofs.Common.{add-one}
 use Rattle.whole.specs.Tables.{table, entries}

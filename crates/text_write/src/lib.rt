@@ -2,7 +2,8 @@
 
 // A study's text from its network record, put into a lent buffer line by line, in table order; each function answers the next place. The words,
 // and how many fields follow them, come from the table of kinds.
-ghost use Rattle.whole.specs.Plain.{◌+◌, ◌≤◌, ◌<◌, ◌≡◌, true, length};
+ghost use Rattle.std.specs.Prelude.{◌+◌, ◌≤◌, ◌<◌, ◌≡◌};
+ghost use Rattle.whole.specs.Plain.{true, length};
 ghost use Rattle.paper.specs.Rows.{word_of};
 ghost use Rattle.paper.specs.Network.{is_network, table_of};
 ghost use Rattle.paper.specs.Listing.{shown_all, line_of};

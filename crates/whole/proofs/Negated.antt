@@ -1,6 +1,7 @@
 -- The magnitude of a signed number by way of -(x + 1) + 1, which no least number breaks. Assumes nothing.
-use Rattle.whole.specs.Plain.{ℕ, zero, suc, ◌^◌, ◌<◌, ◌≡◌, refl, sym, subst, ap, ◌∙◌, true, false, T, ℤ, pos}
-use Rattle.whole.specs.Plain.{negsuc, neg_ℤ, ◌+ℤ◌, ◌-ℤ◌, +ℤ_one, +ℤ_idl, neg_ℤ-neg_ℤ, mag, lt_z, ltb-true, arith}
+use Rattle.std.specs.Prelude.{◌^◌, ◌<◌, ◌≡◌, ◌+ℤ◌, ◌-ℤ◌}
+use Rattle.whole.specs.Plain.{ℕ, zero, suc, refl, sym, subst, ap, ◌∙◌, true, false, T, ℤ, pos}
+use Rattle.whole.specs.Plain.{negsuc, neg_ℤ, +ℤ_one, +ℤ_idl, neg_ℤ-neg_ℤ, mag, lt_z, ltb-true, arith}
 use borrow.Author.Rules.{sfits_of}
 use mir.Syntax.{w64}
 use mir.Val.{SFits, to_z, of_z}

@@ -1,5 +1,6 @@
 -- Laws of `filled`: a list filled up with d has the list's own places, and d past them. Assumes nothing.
-use Rattle.whole.specs.Plain.{ℕ, zero, suc, ◌-◌, ◌≤◌, ◌<◌, ◌≡◌, refl, sym, ◌∙◌, List, [], ◌∷◌, ◌++◌, length, get_or}
+use Rattle.std.specs.Prelude.{◌-◌, ◌≤◌, ◌<◌, ◌≡◌, ◌∷◌, ◌++◌}
+use Rattle.whole.specs.Plain.{ℕ, zero, suc, refl, sym, ◌∙◌, List, [], length, get_or}
 use Rattle.whole.specs.Plain.{set, replicate, length-append, length-replicate, length-set, get_or-append}
 use Rattle.whole.specs.Plain.{set-append_left, arith, filled}
 

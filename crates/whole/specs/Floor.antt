@@ -1,6 +1,7 @@
 -- A whole number by its floor and rest of 2^32: x = high x * 2^32 + low x with 0 ≤ low x < 2^32. Assumes nothing.
-use Rattle.whole.specs.Plain.{ℕ, suc, ◌+◌, ◌*◌, ◌-◌, ◌<◌, ◌^◌, ◌/◌, ◌%◌, ◌≡◌, refl, ap, ◌∙◌, ℤ, pos, negsuc, neg_ℤ}
-use Rattle.whole.specs.Plain.{◌+ℤ◌, ◌*ℤ◌, shr_z, mag_shr, lt_of_le_of_lt, arith}
+use Rattle.std.specs.Prelude.{◌+◌, ◌*◌, ◌-◌, ◌<◌, ◌^◌, ◌/◌, ◌%◌, ◌≡◌, ◌+ℤ◌, ◌*ℤ◌}
+use Rattle.whole.specs.Plain.{ℕ, suc, refl, ap, ◌∙◌, ℤ, pos, negsuc, neg_ℤ}
+use Rattle.whole.specs.Plain.{shr_z, mag_shr, lt_of_le_of_lt, arith}
 use Rattle.std.specs.Int.Bits.{bit_and}
 use Rattle.std.proofs.lemmas.Nat.{and_mask}
 use Rattle.std.specs.Int.{w64}

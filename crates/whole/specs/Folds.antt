@@ -1,6 +1,7 @@
 -- Laws of the folds of specs/Lists: over append, map and one more place; where a test fails or passes. Assumes nothing.
-use Rattle.whole.specs.Plain.{ℕ, zero, suc, ◌+◌, ◌<◌, ◌≤◌, ◌≡◌, refl, sym, ap, ◌∙◌, Bool, true, false, cond, ◌&&◌}
-use Rattle.whole.specs.Plain.{◌||◌, and_assoc, and-true, or_assoc, List, [], ◌∷◌, ◌++◌, map, length, get_or, take}
+use Rattle.std.specs.Prelude.{◌+◌, ◌<◌, ◌≤◌, ◌≡◌, ◌&&◌, ◌||◌, ◌∷◌, ◌++◌}
+use Rattle.whole.specs.Plain.{ℕ, zero, suc, refl, sym, ap, ◌∙◌, Bool, true, false, cond}
+use Rattle.whole.specs.Plain.{and_assoc, and-true, or_assoc, List, [], map, length, get_or, take}
 use Rattle.whole.specs.Plain.{drop, drop_of_length-le, drop-cons, take-suc, arith, every, any, count, keep, sum}
 use Rattle.whole.specs.Plain.{fold, numbers}
 use Rattle.std.proofs.Common.{add-one}

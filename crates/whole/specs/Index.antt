@@ -1,5 +1,6 @@
 -- A word as an index, `w as usize`: one that is no negative number. Assumes nothing.
-use Rattle.whole.specs.Plain.{ℕ, ◌<◌, ◌^◌, ◌≡◌, T, ℤ, pos, nat_abs, mag, non_neg, arith}
+use Rattle.std.specs.Prelude.{◌<◌, ◌^◌, ◌≡◌}
+use Rattle.whole.specs.Plain.{ℕ, T, ℤ, pos, nat_abs, mag, non_neg, arith}
 use Rattle.std.specs.Int.{w64}
 use Rattle.std.proofs.Common.{Fits, to_z, of_z}
 use Rattle.whole.specs.Int.{read64}

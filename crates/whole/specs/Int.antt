@@ -1,7 +1,8 @@
 -- Laws on ℤ that lib.IntN lacks: sizes of sums and products, ring laws, tests as facts. Assumes nothing.
-use Rattle.whole.specs.Plain.{ℕ, zero, suc, ◌+◌, ◌*◌, ◌-◌, ◌<◌, ◌≤◌, ◌^◌, ◌≡◌, refl, sym, ◌∙◌, ap, subst, Bool}
+use Rattle.std.specs.Prelude.{◌+◌, ◌*◌, ◌-◌, ◌<◌, ◌≤◌, ◌^◌, ◌≡◌, ◌+ℤ◌, ◌-ℤ◌, ◌*ℤ◌}
+use Rattle.whole.specs.Plain.{ℕ, zero, suc, refl, sym, ◌∙◌, ap, subst, Bool}
 use Rattle.whole.specs.Plain.{true, false, not, cond, T, ltb, ltb→lt, ℤ, pos, negsuc, neg_ℤ, nat_abs, suc_ℤ, pred_ℤ}
-use Rattle.whole.specs.Plain.{sub_ℕ, ◌+ℤ◌, ◌-ℤ◌, ◌*ℤ◌, +ℤ_assoc, +ℤ_comm, +ℤ_idl, +ℤ_idr, *ℤ-zero, zero-*ℤ}
+use Rattle.whole.specs.Plain.{sub_ℕ, +ℤ_assoc, +ℤ_comm, +ℤ_idl, +ℤ_idr, *ℤ-zero, zero-*ℤ}
 use Rattle.whole.specs.Plain.{suc_ℤ-*ℤ, pred_ℤ-*ℤ, *ℤ_comm, suc_ℤ-+ℤ, pred_ℤ-+ℤ, neg_ℤ-+ℤ, neg_ℤ-neg_ℤ, mag, lt_z, non_neg}
 use Rattle.whole.specs.Plain.{lt-ltb, le-ltb, arith}
 use Rattle.std.proofs.Math.Nat as NatL

@@ -1,6 +1,7 @@
 -- What stands in a list: in a list of numbers, in what is kept, in a map; the first that passes. Assumes nothing.
-use Rattle.whole.specs.Plain.{ℕ, zero, suc, ◌+◌, ◌≤◌, ◌<◌, ◌≡◌, refl, sym, ap, ◌∙◌, ◌⊎◌, inl, inr, Bool, true}
-use Rattle.whole.specs.Plain.{false, cond, true≢false, List, [], ◌∷◌, map, Mem, Mem-head}
+use Rattle.std.specs.Prelude.{◌+◌, ◌≤◌, ◌<◌, ◌≡◌, ◌⊎◌, ◌∷◌}
+use Rattle.whole.specs.Plain.{ℕ, zero, suc, refl, sym, ap, ◌∙◌, inl, inr, Bool, true}
+use Rattle.whole.specs.Plain.{false, cond, true≢false, List, [], map, Mem, Mem-head}
 use Rattle.whole.specs.Plain.{Mem-tail, Mem-cases_cons, Mem-not_nil, length, get_or, ℕ_discrete}
 use Rattle.whole.specs.Plain.{arith, keep, numbers, first}
 

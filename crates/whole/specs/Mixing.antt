@@ -1,6 +1,7 @@
 -- A quotient rounded down, also below zero, and a value between two others, which never leaves them. Assumes nothing.
-use Rattle.whole.specs.Plain.{ℕ, zero, suc, ◌+◌, ◌*◌, ◌-◌, ◌/◌, ◌%◌, ◌≤◌, ◌<◌, ◌≡◌, refl, sym, ap, ◌∙◌, ℤ, pos, negsuc}
-use Rattle.whole.specs.Plain.{neg_ℤ, nat_abs, sub_ℕ, ◌+ℤ◌, ◌-ℤ◌, ◌*ℤ◌, +ℤ_assoc, +ℤ_comm, +ℤ_idr, neg_ℤ-+ℤ, neg_ℤ-neg_ℤ, *ℤ-zero, zero-mul}
+use Rattle.std.specs.Prelude.{◌+◌, ◌*◌, ◌-◌, ◌/◌, ◌%◌, ◌≤◌, ◌<◌, ◌≡◌, ◌+ℤ◌, ◌-ℤ◌, ◌*ℤ◌}
+use Rattle.whole.specs.Plain.{ℕ, zero, suc, refl, sym, ap, ◌∙◌, ℤ, pos, negsuc}
+use Rattle.whole.specs.Plain.{neg_ℤ, nat_abs, sub_ℕ, +ℤ_assoc, +ℤ_comm, +ℤ_idr, neg_ℤ-+ℤ, neg_ℤ-neg_ℤ, *ℤ-zero, zero-mul}
 use Rattle.whole.specs.Plain.{dec_lt, arith, div-eq_of_lt-le, div-le_of_le-mul, div-mul-le_self, lt-div-mul-add, zero-div}
 use Rattle.whole.specs.Plain.{le_trans, add-mul, mul-sub, div-add-mod', mod-lt, mul-le-mul_left, mul-le-mul_right}
 use Rattle.std.proofs.Math.IntN.{+ℤ_invr}

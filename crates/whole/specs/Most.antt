@@ -1,5 +1,6 @@
 -- The largest of some numbers, as a fold of `max`. Assumes nothing.
-use Rattle.whole.specs.Plain.{ℕ, zero, suc, ◌≤◌, ◌<◌, max, List, [], ◌∷◌, length, get_or, arith, fold}
+use Rattle.std.specs.Prelude.{◌≤◌, ◌<◌, ◌∷◌}
+use Rattle.whole.specs.Plain.{ℕ, zero, suc, max, List, [], length, get_or, arith, fold}
 
 module _ {A : Type 0} (f : A → ℕ) where
   abbrev pub most : ℕ → List A → ℕ

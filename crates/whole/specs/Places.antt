@@ -1,5 +1,6 @@
 -- The first place of a list that passes a test: none, or the least. Assumes nothing.
-use Rattle.whole.specs.Plain.{ℕ, zero, suc, ◌+◌, ◌<◌, ◌≡◌, refl, ◌∙◌, Bool, true, false, cond, List, [], ◌∷◌}
+use Rattle.std.specs.Prelude.{◌+◌, ◌<◌, ◌≡◌, ◌∷◌}
+use Rattle.whole.specs.Plain.{ℕ, zero, suc, refl, ◌∙◌, Bool, true, false, cond, List, []}
 use Rattle.whole.specs.Plain.{length, get_or, arith}
 
 module _ {A : Type 0} where

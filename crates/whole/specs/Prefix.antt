@@ -1,6 +1,7 @@
 -- Counts and sums over the first i of a list: they grow with i, and stay where each one more was tested. Assumes nothing.
-use Rattle.whole.specs.Plain.{ℕ, zero, suc, ◌+◌, ◌≤◌, ◌<◌, ◌≡◌, refl, Bool, true, false, cond, ◌&&◌, List, []}
-use Rattle.whole.specs.Plain.{◌∷◌, leb, ltb, ℤ, +ℤ_idl, +ℤ_idr, length, get_or, take, take-length, leb-false}
+use Rattle.std.specs.Prelude.{◌+◌, ◌≤◌, ◌<◌, ◌≡◌, ◌&&◌, ◌∷◌}
+use Rattle.whole.specs.Plain.{ℕ, zero, suc, refl, Bool, true, false, cond, List, []}
+use Rattle.whole.specs.Plain.{leb, ltb, ℤ, +ℤ_idl, +ℤ_idr, length, get_or, take, take-length, leb-false}
 use Rattle.whole.specs.Plain.{ltb-false, arith, z, count, sum, total}
 use Rattle.std.proofs.Math.Numerals.{add-one}
 use Rattle.whole.specs.Folds.{count_next, sum_next, none_if}

@@ -1,7 +1,8 @@
 -- Whether |x| ≤ m: by the sign of m - |x|, and for many words at once by the sign of all these taken together. Assumes nothing.
-use Rattle.whole.specs.Plain.{ℕ, zero, suc, ◌-◌, ◌<◌, ◌≤◌, ◌^◌, ◌≡◌, refl, sym, ap, ◌∙◌, Bool, true, false, ◌&&◌}
+use Rattle.std.specs.Prelude.{◌-◌, ◌<◌, ◌≤◌, ◌^◌, ◌≡◌, ◌&&◌, ◌+ℤ◌, ◌-ℤ◌}
+use Rattle.whole.specs.Plain.{ℕ, zero, suc, refl, sym, ap, ◌∙◌, Bool, true, false}
 use Rattle.whole.specs.Plain.{true≢false, T, leb, ltb, eqb, leb-zero, leb-suc-zero, eqb-suc-zero, ℤ, pos, negsuc}
-use Rattle.whole.specs.Plain.{nat_abs, sub_ℕ, ◌+ℤ◌, ◌-ℤ◌, mag, le_z, lt_z, non_neg, ltb-true, ltb-false, lt-ltb}
+use Rattle.whole.specs.Plain.{nat_abs, sub_ℕ, mag, le_z, lt_z, non_neg, ltb-true, ltb-false, lt-ltb}
 use Rattle.whole.specs.Plain.{le-ltb, lt-leb, le-leb, eqb-true, eqb-false, ne_eqb, arith, up_to}
 use Rattle.std.specs.Int.Bits.{bit_or, or_add_and}
 use Rattle.std.proofs.lemmas.Nat.{or_lt, or_comm, and_le_r}

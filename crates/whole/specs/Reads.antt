@@ -1,5 +1,6 @@
 -- The machine's tests of two signed words are the tests of the numbers. Assumes nothing.
-use Rattle.whole.specs.Plain.{ℕ, ◌<◌, ◌^◌, ◌≡◌, ℤ, pos, le_z, lt-ltb}
+use Rattle.std.specs.Prelude.{◌<◌, ◌^◌, ◌≡◌}
+use Rattle.whole.specs.Plain.{ℕ, ℤ, pos, le_z, lt-ltb}
 use Rattle.std.specs.Int.{w64}
 use Rattle.std.proofs.Common.{SFits, to_z, of_z, to_z-of_z}
 

@@ -1,5 +1,6 @@
 -- What is left of a repeated element. Assumes nothing.
-use Rattle.whole.specs.Plain.{ℕ, zero, suc, ◌-◌, ◌≡◌, drop, replicate, arith}
+use Rattle.std.specs.Prelude.{◌-◌, ◌≡◌}
+use Rattle.whole.specs.Plain.{ℕ, zero, suc, drop, replicate, arith}
 
 pub drop_replicate : {A : Type 0} (m n : ℕ) (a : A) → drop m (replicate n a) ≡ replicate (n - m) a
 drop_replicate zero n a = let e : n - 0 ≡ n = omega arith in rw e

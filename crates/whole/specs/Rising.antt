@@ -1,6 +1,7 @@
 -- Rising lists of numbers, in which the first that passes a test is the lowest that does. Assumes nothing.
-use Rattle.whole.specs.Plain.{ℕ, zero, suc, ◌≤◌, ◌<◌, ◌≡◌, refl, sym, ◌⊎◌, inl, inr, Bool, true, false, cond}
-use Rattle.whole.specs.Plain.{List, [], ◌∷◌, Mem-cases_cons, Mem-not_nil, arith, keep, numbers, first}
+use Rattle.std.specs.Prelude.{◌≤◌, ◌<◌, ◌≡◌, ◌⊎◌, ◌∷◌}
+use Rattle.whole.specs.Plain.{ℕ, zero, suc, refl, sym, inl, inr, Bool, true, false, cond}
+use Rattle.whole.specs.Plain.{List, [], Mem-cases_cons, Mem-not_nil, arith, keep, numbers, first}
 use Rattle.whole.specs.Members.{Among, top, below}
 
 -- each is over b, and over the one before it

@@ -1,6 +1,7 @@
 -- Quotients: to the nearest, halves up; toward zero. Assumes nothing.
-use Rattle.whole.specs.Plain.{ℕ, zero, suc, ◌+◌, ◌*◌, ◌-◌, ◌<◌, ◌≤◌, ◌^◌, ◌/◌, ◌%◌, ◌≡◌, refl, sym, ap, ◌∙◌, true}
-use Rattle.whole.specs.Plain.{false≢true, ℤ, pos, negsuc, neg_ℤ, nat_abs, ◌*ℤ◌, mag, lt_z, quot_z, ltb-true}
+use Rattle.std.specs.Prelude.{◌+◌, ◌*◌, ◌-◌, ◌<◌, ◌≤◌, ◌^◌, ◌/◌, ◌%◌, ◌≡◌, ◌*ℤ◌}
+use Rattle.whole.specs.Plain.{ℕ, zero, suc, refl, sym, ap, ◌∙◌, true}
+use Rattle.whole.specs.Plain.{false≢true, ℤ, pos, negsuc, neg_ℤ, nat_abs, mag, lt_z, quot_z, ltb-true}
 use Rattle.whole.specs.Plain.{div-eq_of_lt-le, div-add-mod', div-le_of_le-mul, div-mul-le_self, lt-div-mul-add}
 use Rattle.whole.specs.Plain.{mul-le-mul_right, mul-le-mul_left, mod-lt, arith}
 use Rattle.std.proofs.Math.Nat as NatL

@@ -1,5 +1,6 @@
 -- ∣ z ∣≤ m, as a record, so that z and m are inferred from a proof: bounds are put together forward, and no argument is written.
-use Rattle.whole.specs.Plain.{ℕ, ◌+◌, ◌*◌, ◌≤◌, ◌^◌, T, ltb, leb, ltb→lt, leb→le, ℤ, nat_abs, ◌+ℤ◌, ◌-ℤ◌, ◌*ℤ◌}
+use Rattle.std.specs.Prelude.{◌+◌, ◌*◌, ◌≤◌, ◌^◌, ◌+ℤ◌, ◌-ℤ◌, ◌*ℤ◌}
+use Rattle.whole.specs.Plain.{ℕ, T, ltb, leb, ltb→lt, leb→le, ℤ, nat_abs}
 use Rattle.whole.specs.Plain.{le_trans, arith}
 use Rattle.std.specs.Int.{w64}
 use Rattle.std.proofs.Common.{SFits}

@@ -1,5 +1,6 @@
 -- A table as the list of what a function gives at each place: a constant table of the code is one, by computation. Assumes nothing.
-use Rattle.whole.specs.Plain.{ℕ, zero, suc, ◌+◌, ◌<◌, ◌≡◌, ap, ◌∙◌, List, [], ◌∷◌, get_or, arith}
+use Rattle.std.specs.Prelude.{◌+◌, ◌<◌, ◌≡◌, ◌∷◌}
+use Rattle.whole.specs.Plain.{ℕ, zero, suc, ap, ◌∙◌, List, [], get_or, arith}
 
 module _ {A : Type 0} where
   -- f at i, i + 1, .. : n entries

@@ -1,5 +1,6 @@
 -- Sums of whole numbers over a list: of append, of map, one more place. Assumes nothing.
-use Rattle.whole.specs.Plain.{ℕ, ◌+◌, ◌<◌, ◌≡◌, refl, sym, ap, List, [], ◌∷◌, ◌++◌, map, ℤ, ◌+ℤ◌, +ℤ_assoc}
+use Rattle.std.specs.Prelude.{◌+◌, ◌<◌, ◌≡◌, ◌∷◌, ◌++◌, ◌+ℤ◌}
+use Rattle.whole.specs.Plain.{ℕ, refl, sym, ap, List, [], map, ℤ, +ℤ_assoc}
 use Rattle.whole.specs.Plain.{+ℤ_idl, +ℤ_idr, length, get_or, take, take-suc, z, total}
 use Rattle.std.proofs.Common.{add-one}
 

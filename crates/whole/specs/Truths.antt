@@ -1,5 +1,6 @@
 -- Tests joined with a known one. Assumes nothing.
-use Rattle.whole.specs.Plain.{◌≡◌, refl, Bool, true, false, ◌&&◌, ◌||◌}
+use Rattle.std.specs.Prelude.{◌≡◌, ◌&&◌, ◌||◌}
+use Rattle.whole.specs.Plain.{refl, Bool, true, false}
 
 pub and-false : (b : Bool) → (b && false) ≡ false
 and-false true = refl

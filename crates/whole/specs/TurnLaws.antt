@@ -1,5 +1,6 @@
 -- More laws of counted loops: split, kept, seen through a function, written place by place. Assumes nothing.
-use Rattle.whole.specs.Plain.{ℕ, zero, suc, ◌+◌, ◌-◌, ◌<◌, ◌≤◌, ◌≡◌, refl, ap, ◌∙◌, Bool, true, false, List, ltb}
+use Rattle.std.specs.Prelude.{◌+◌, ◌-◌, ◌<◌, ◌≤◌, ◌≡◌}
+use Rattle.whole.specs.Plain.{ℕ, zero, suc, refl, ap, ◌∙◌, Bool, true, false, List, ltb}
 use Rattle.whole.specs.Plain.{length, get_or, set, length-set, get_or-set_same, get_or-set_other, ltb-true, ltb-false}
 use Rattle.whole.specs.Plain.{arith, fold, numbers}
 use Rattle.whole.specs.Turns.{run, turns, downs}

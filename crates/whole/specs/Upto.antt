@@ -1,5 +1,6 @@
 -- A list that has f k at each place k below n: what a loop that writes place by place has done so far. Assumes nothing.
-use Rattle.whole.specs.Plain.{ℕ, zero, suc, ◌+◌, ◌<◌, ◌≡◌, refl, ◌∙◌, List, [], ◌∷◌, length, get_or, set}
+use Rattle.std.specs.Prelude.{◌+◌, ◌<◌, ◌≡◌, ◌∷◌}
+use Rattle.whole.specs.Plain.{ℕ, zero, suc, refl, ◌∙◌, List, [], length, get_or, set}
 use Rattle.whole.specs.Plain.{get_or-set_same, get_or-set_other, ℕ_discrete, arith}
 
 module _ {A : Type 0} where

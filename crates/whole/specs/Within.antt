@@ -1,6 +1,7 @@
 -- The tests over many words: each magnitude at most its end, each sign; place by place and piece by piece. Assumes nothing.
-use Rattle.whole.specs.Plain.{ℕ, zero, suc, ◌≤◌, ◌<◌, ◌≡◌, refl, sym, ◌∙◌, Bool, true}
-use Rattle.whole.specs.Plain.{List, [], ◌∷◌, leb, eqb-zero-suc, leb-suc-zero, ℤ, pos, negsuc}
+use Rattle.std.specs.Prelude.{◌≤◌, ◌<◌, ◌≡◌, ◌∷◌}
+use Rattle.whole.specs.Plain.{ℕ, zero, suc, refl, sym, ◌∙◌, Bool, true}
+use Rattle.whole.specs.Plain.{List, [], leb, eqb-zero-suc, leb-suc-zero, ℤ, pos, negsuc}
 use Rattle.whole.specs.Plain.{nat_abs, length, get_or, take, leb-true}
 use Rattle.whole.specs.Plain.{le-leb, arith, Words, z, word, up_to, same, every, within}
 use Rattle.whole.specs.Folds.{and_left, and_right, both}

@@ -1,6 +1,7 @@
 -- Lists written place by place, and sums, counts and tests over the parts of a list that pass. Assumes nothing.
-use Rattle.whole.specs.Plain.{ℕ, zero, suc, ◌+◌, ◌<◌, ◌≤◌, ◌≡◌, refl, sym, ap, ◌∙◌, Bool, true, false, cond, ◌&&◌}
-use Rattle.whole.specs.Plain.{◌||◌, false≢true, List, [], ◌∷◌, eqb, ℤ, length, get_or, take, drop, set, length-set}
+use Rattle.std.specs.Prelude.{◌+◌, ◌<◌, ◌≤◌, ◌≡◌, ◌&&◌, ◌||◌, ◌∷◌}
+use Rattle.whole.specs.Plain.{ℕ, zero, suc, refl, sym, ap, ◌∙◌, Bool, true, false, cond}
+use Rattle.whole.specs.Plain.{false≢true, List, [], eqb, ℤ, length, get_or, take, drop, set, length-set}
 use Rattle.whole.specs.Plain.{take-append-drop, get_or-set_same, get_or-set_other, eqb-true, eqb-false, ne_eqb, arith}
 use Rattle.whole.specs.Plain.{z, any, count, keep, total, fold, numbers}
 use Rattle.whole.specs.Folds.{or_left, or_right, count_append}

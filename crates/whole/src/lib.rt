@@ -1,7 +1,8 @@
 #![tactic(auto)]
 
 // Whole numbers: the tests and divisions that every crate above makes. The laws stand in specs/.
-ghost use Rattle.whole.specs.Plain.{◌<◌, ◌≡◌, true, T, pos, nat_abs, non_neg, lt_z, quot_z, up_to, every};
+ghost use Rattle.std.specs.Prelude.{◌<◌, ◌≡◌};
+ghost use Rattle.whole.specs.Plain.{true, T, pos, nat_abs, non_neg, lt_z, quot_z, up_to, every};
 ghost use Rattle.whole.specs.Ranges.{room_of};
 ghost use Rattle.whole.specs.Rounding.{nearest};
 ghost use Rattle.whole.specs.Floor.{high, low};

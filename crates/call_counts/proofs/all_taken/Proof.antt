@@ -1,5 +1,6 @@
 -- `call_counts::all_taken` meets its contract. The invariant: the flag says whether the areas passed so far have taken as many. Assumes nothing.
-use Rattle.whole.specs.Plain.{◌+◌, ◌-◌, ◌≤◌, ◌≡◌, refl, add_comm, arith, every, numbers}
+use Rattle.std.specs.Prelude.{◌+◌, ◌-◌, ◌≤◌, ◌≡◌}
+use Rattle.whole.specs.Plain.{refl, add_comm, arith, every, numbers}
 use Rattle.whole.specs.Folds.{every_numbers}
 use Rattle.call_counts.specs.Level.{took_all}
 use Rattle.call_counts.proofs.all_taken.Statement.{statement}

@@ -1,5 +1,6 @@
 -- `call_counts::count_of` meets its contract. Assumes nothing.
-use Rattle.whole.specs.Plain.{◌+◌, ◌-◌, ◌≡◌, pos, zero-add, word}
+use Rattle.std.specs.Prelude.{◌+◌, ◌-◌, ◌≡◌}
+use Rattle.whole.specs.Plain.{pos, zero-add, word}
 use borrow.Author.Rules.{rules}
 use Rattle.whole.specs.Int.{read64}
 use Rattle.whole.specs.Index.{index}

@@ -1,6 +1,7 @@
 -- `call_counts::first_late` meets its contract. The invariant: of every network that the plan is of, the rows that are left lead to the answer.
 -- Assumes nothing.
-use Rattle.whole.specs.Plain.{◌-◌, ◌≤◌, ◌<◌, ◌≡◌, refl, sym, ◌∙◌, length, drop, arith}
+use Rattle.std.specs.Prelude.{◌-◌, ◌≤◌, ◌<◌, ◌≡◌}
+use Rattle.whole.specs.Plain.{refl, sym, ◌∙◌, length, drop, arith}
 use Rattle.paper.specs.Areas.{Net}
 use Rattle.paper.specs.Advance.{first_late}
 use Rattle.plan_rows.specs.Planned.{row_in}

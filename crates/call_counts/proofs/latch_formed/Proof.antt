@@ -1,5 +1,6 @@
 -- `call_counts::latch_formed` meets its contract. Assumes nothing.
-use Rattle.whole.specs.Plain.{◌≡◌, refl, sym, ◌∙◌, true, false, true≢false, ℤ, pos, negsuc, lt_z, non_neg, ltb-true, arith, nat}
+use Rattle.std.specs.Prelude.{◌≡◌}
+use Rattle.whole.specs.Plain.{refl, sym, ◌∙◌, true, false, true≢false, ℤ, pos, negsuc, lt_z, non_neg, ltb-true, arith, nat}
 use mir.Facts.{to_z-of_z}
 use borrow.Author.Rules.{rules}
 use Rattle.whole.specs.Index.{index}

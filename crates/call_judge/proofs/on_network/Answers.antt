@@ -1,5 +1,6 @@
 -- `call_judge::on_network` meets its contract: 10 to 13 in turn, else the next step may be tried. Assumes nothing.
-use Rattle.whole.specs.Plain.{ℕ, ◌+◌, ◌≤◌, ◌<◌, ◌≡◌, refl, sym, ap, ◌∙◌, List, Words, true, le-leb, lt-leb, arith}
+use Rattle.std.specs.Prelude.{◌+◌, ◌≤◌, ◌<◌, ◌≡◌}
+use Rattle.whole.specs.Plain.{ℕ, refl, sym, ap, ◌∙◌, List, Words, true, le-leb, lt-leb, arith}
 use Rattle.paper.specs.Network.{is_network}
 use Rattle.paper.specs.Areas.{area_count}
 use Rattle.paper.specs.Rows.{steps}

@@ -1,5 +1,6 @@
 -- `call_level::on_network` meets its contract: the plan, 10 for a state that is not well formed or whose areas are not in step, else the piece. Assumes nothing.
-use Rattle.whole.specs.Plain.{◌≡◌, sym, ◌∙◌, true, ◌&&◌, length, not-true, not-false, refl}
+use Rattle.std.specs.Prelude.{◌≡◌, ◌&&◌}
+use Rattle.whole.specs.Plain.{sym, ◌∙◌, true, length, not-true, not-false, refl}
 use borrow.Author.Rules.{rules}
 use Rattle.paper.specs.Records.{well_formed}
 use Rattle.paper.specs.Advance.{Memory, memory}

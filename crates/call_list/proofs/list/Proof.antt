@@ -1,5 +1,6 @@
 -- `call_list::list` meets its contract: 9, 8, then what the network says. Assumes nothing.
-use Rattle.whole.specs.Plain.{◌≡◌, sym, ◌∙◌, true, length, not-true, not-false, refl}
+use Rattle.std.specs.Prelude.{◌≡◌}
+use Rattle.whole.specs.Plain.{sym, ◌∙◌, true, length, not-true, not-false, refl}
 use Rattle.paper.specs.Network.{is_network}
 use Rattle.paper.specs.Advance.{Memory, memory, fits}
 use Rattle.call_lent.specs.Lengths.{lengths}

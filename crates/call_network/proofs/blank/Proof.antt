@@ -1,5 +1,6 @@
 -- `call_network::blank` meets its contract. Assumes nothing.
-use Rattle.whole.specs.Plain.{◌+◌, ◌*◌, ◌-◌, ◌≡◌, length, take, drop, length-drop, take_all, arith}
+use Rattle.std.specs.Prelude.{◌+◌, ◌*◌, ◌-◌, ◌≡◌}
+use Rattle.whole.specs.Plain.{length, take, drop, length-drop, take_all, arith}
 use borrow.Author.Rules.{rules}
 use Rattle.call_network.specs.Judged.{blank}
 use Rattle.call_network.proofs.blank.Statement.{statement}

@@ -1,5 +1,6 @@
 -- `call_network::good` meets its contract. Assumes nothing.
-use Rattle.whole.specs.Plain.{◌<◌, ◌≡◌, sym, ◌∙◌, true, leb, leb-true, not-true, not-false, arith}
+use Rattle.std.specs.Prelude.{◌<◌, ◌≡◌}
+use Rattle.whole.specs.Plain.{sym, ◌∙◌, true, leb, leb-true, not-true, not-false, arith}
 use borrow.Author.Rules.{rules}
 use Rattle.whole.specs.Folds.{and_right}
 use Rattle.paper.specs.Rows.{kind}

@@ -1,5 +1,6 @@
 -- `call_network::is_network` meets its contract. Assumes nothing.
-use Rattle.whole.specs.Plain.{◌≡◌, sym, ◌∙◌, pos, not-true, not-false, word, nat}
+use Rattle.std.specs.Prelude.{◌≡◌}
+use Rattle.whole.specs.Plain.{sym, ◌∙◌, pos, not-true, not-false, word, nat}
 use borrow.Author.Rules.{rules}
 use Rattle.whole.specs.Int.{read64}
 use Rattle.whole.specs.Index.{index}

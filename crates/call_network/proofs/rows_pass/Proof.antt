@@ -1,5 +1,6 @@
 -- `call_network::rows_pass` meets its contract: the rows passed are replayed; one that fails is refusal 8, and after the last there is none. Assumes nothing.
-use Rattle.whole.specs.Plain.{◌≤◌, ◌-◌, ◌≡◌, sym, ap, ◌∙◌, true, not-true, not-false, arith}
+use Rattle.std.specs.Prelude.{◌≤◌, ◌-◌, ◌≡◌}
+use Rattle.whole.specs.Plain.{sym, ap, ◌∙◌, true, not-true, not-false, arith}
 use Rattle.call_network.specs.Judged.{words_of, good_row}
 use Rattle.call_network.specs.Laws.{Replayed, good_known, good_fault, replayed_next, judged_true}
 use Rattle.call_network.specs.Refused.{row_refused}

@@ -1,5 +1,6 @@
 -- `call_network::spare_zero` meets its contract. Assumes nothing.
-use Rattle.whole.specs.Plain.{◌≡◌, ℤ, pos, get_or, length, arith, word}
+use Rattle.std.specs.Prelude.{◌≡◌}
+use Rattle.whole.specs.Plain.{ℤ, pos, get_or, length, arith, word}
 use borrow.Author.Rules.{rules}
 use Rattle.whole.specs.Int.{read64}
 use Rattle.paper.specs.Rows.{kind, fields_of}

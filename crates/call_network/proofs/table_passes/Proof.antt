@@ -1,5 +1,6 @@
 -- `call_network::table_passes` meets its contract: the study's row is the first. Assumes nothing.
-use Rattle.whole.specs.Plain.{◌≡◌, sym, ◌∙◌, arith}
+use Rattle.std.specs.Prelude.{◌≡◌}
+use Rattle.whole.specs.Plain.{sym, ◌∙◌, arith}
 use borrow.Author.Rules.{rules}
 use Rattle.text_faults.specs.Seen.{seen_fault, nothing_seen}
 use Rattle.text_faults.specs.Stands.{stands_none}

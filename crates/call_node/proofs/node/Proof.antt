@@ -1,5 +1,6 @@
 -- `call_node::node` meets its contract: 9, 8, and the rest of a network that passes. Assumes nothing.
-use Rattle.whole.specs.Plain.{◌≡◌, sym, ◌∙◌, true, false, ◌&&◌, eqb, length, eqb-true, not-true, not-false}
+use Rattle.std.specs.Prelude.{◌≡◌, ◌&&◌}
+use Rattle.whole.specs.Plain.{sym, ◌∙◌, true, false, eqb, length, eqb-true, not-true, not-false}
 use Rattle.whole.specs.Folds.{and_left, and_right}
 use Rattle.paper.specs.Limits as Limits
 use Rattle.paper.specs.Network.{is_network}

@@ -1,5 +1,6 @@
 -- `call_node::on_network` meets its contract: 10 of the records, 2, or what is told. Assumes nothing.
-use Rattle.whole.specs.Plain.{◌≤◌, ◌<◌, ◌≡◌, sym, ap, ◌∙◌, true, not-true, not-false, le-leb, lt-leb, arith}
+use Rattle.std.specs.Prelude.{◌≤◌, ◌<◌, ◌≡◌}
+use Rattle.whole.specs.Plain.{sym, ap, ◌∙◌, true, not-true, not-false, le-leb, lt-leb, arith}
 use borrow.Author.Rules.{rules}
 use Rattle.paper.specs.Records.{records_formed}
 use Rattle.paper.specs.Looking.{look_net}

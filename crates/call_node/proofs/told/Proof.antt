@@ -1,5 +1,6 @@
 -- `call_node::told` meets its contract. Assumes nothing.
-use Rattle.whole.specs.Plain.{ℕ, ◌+◌, ◌-◌, ℤ, word}
+use Rattle.std.specs.Prelude.{◌+◌, ◌-◌}
+use Rattle.whole.specs.Plain.{ℕ, ℤ, word}
 use borrow.Author.Rules.{rules}
 use Rattle.whole.specs.Int.{read64}
 use Rattle.call_node.proofs.told.Statement.{statement}

@@ -1,4 +1,5 @@
-use Rattle.whole.specs.Plain.{◌≡◌, ◌∙◌, ap, length, set, get_or, ℤ, pos, Words, arith}
+use Rattle.std.specs.Prelude.{◌≡◌}
+use Rattle.whole.specs.Plain.{◌∙◌, ap, length, set, get_or, ℤ, pos, Words, arith}
 use Rattle.std.proofs.Common.{to_z, of_z, w64, to_z-of_z}
 use Rattle.call_read.specs.Ways.{copied_length, copy_more}
 use Rattle.call_read.proofs.copy.Goals as goal

@@ -1,4 +1,5 @@
-use Rattle.whole.specs.Plain.{◌≤◌, ◌-◌, ◌≡◌, length}
+use Rattle.std.specs.Prelude.{◌≤◌, ◌-◌, ◌≡◌}
+use Rattle.whole.specs.Plain.{length}
 use Rattle.call_read.specs.Ways.{copied}
 use Rattle.call_read.proofs.copy.Given as goal
 

@@ -1,5 +1,6 @@
 -- `call_shape::area_in` meets its contract: a node of the network has the area that the plan has for it. Assumes nothing.
-use Rattle.whole.specs.Plain.{◌≤◌, ◌<◌, ◌≡◌, ap, le-leb, lt-leb, arith}
+use Rattle.std.specs.Prelude.{◌≤◌, ◌<◌, ◌≡◌}
+use Rattle.whole.specs.Plain.{ap, le-leb, lt-leb, arith}
 use borrow.Author.Rules.{rules}
 use Rattle.laws_facts.specs.Nets.{net_in, net_sound}
 use Rattle.plan_rows.specs.declared.Totals.{Totals}

@@ -1,5 +1,6 @@
 -- `call_shape::areas` meets its contract: 9, 8, and the rest of a network that passes. Assumes nothing.
-use Rattle.whole.specs.Plain.{◌≡◌, sym, ◌∙◌, true, length, eq-eqb, ne_eqb, not-true, not-false}
+use Rattle.std.specs.Prelude.{◌≡◌}
+use Rattle.whole.specs.Plain.{sym, ◌∙◌, true, length, eq-eqb, ne_eqb, not-true, not-false}
 use borrow.Author.Rules.{rules}
 use Rattle.paper.specs.Limits as Limits
 use Rattle.paper.specs.Network.{is_network}

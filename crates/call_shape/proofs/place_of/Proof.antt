@@ -1,5 +1,6 @@
 -- `call_shape::place_of` meets its contract: the rows that are left lead to the answer. Assumes nothing.
-use Rattle.whole.specs.Plain.{ℕ, suc, ◌+◌, ◌-◌, ◌≤◌, ◌≡◌, refl, sym, ap, ◌∙◌, eqb, List, eq-eqb, ne_eqb, arith}
+use Rattle.std.specs.Prelude.{◌+◌, ◌-◌, ◌≤◌, ◌≡◌}
+use Rattle.whole.specs.Plain.{ℕ, suc, refl, sym, ap, ◌∙◌, eqb, List, eq-eqb, ne_eqb, arith}
 use Rattle.plan_rows.specs.declared.Row.{Row}
 use Rattle.plan_rows.specs.Planned.{row_in}
 use Rattle.call_shape.specs.Asked.{place_from, place_next}

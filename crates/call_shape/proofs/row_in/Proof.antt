@@ -1,5 +1,6 @@
 -- `call_shape::row_in` meets its contract: the plan's numbers of branches are the paper's. Assumes nothing.
-use Rattle.whole.specs.Plain.{ℕ, suc, ◌≤◌, ◌<◌, ◌≡◌, sym, ap, ◌∙◌, le-leb, lt-leb, length, arith}
+use Rattle.std.specs.Prelude.{◌≤◌, ◌<◌, ◌≡◌}
+use Rattle.whole.specs.Plain.{ℕ, suc, sym, ap, ◌∙◌, le-leb, lt-leb, length, arith}
 use borrow.Author.Rules.{rules}
 use Rattle.paper.specs.Areas.{branch_number}
 use Rattle.laws_facts.specs.Nets.{net_in, net_sound}

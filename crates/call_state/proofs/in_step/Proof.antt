@@ -1,5 +1,6 @@
 -- `call_state::in_step` meets its contract: of every network that the plan is of. Assumes nothing.
-use Rattle.whole.specs.Plain.{◌≡◌, sym, ◌∙◌, true, not-true, not-false}
+use Rattle.std.specs.Prelude.{◌≡◌}
+use Rattle.whole.specs.Plain.{sym, ◌∙◌, true, not-true, not-false}
 use Rattle.paper.specs.Areas.{Net}
 use Rattle.paper.specs.Records.{well_formed}
 use Rattle.call_counts.specs.Counts.{CountsIn}

@@ -1,5 +1,6 @@
 -- `call_state::nodes_formed` meets its contract. Assumes nothing.
-use Rattle.whole.specs.Plain.{◌≡◌, pos, arith}
+use Rattle.std.specs.Prelude.{◌≡◌}
+use Rattle.whole.specs.Plain.{pos, arith}
 use borrow.Author.Rules.{rules}
 use mir.Facts.{to_z_pos}
 use mir.Syntax.{w64}

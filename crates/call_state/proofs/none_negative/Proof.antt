@@ -1,6 +1,7 @@
 -- `call_state::none_negative` meets its contract. The invariant: the flag and the words that are left say together what all words say.
 -- Assumes nothing.
-use Rattle.whole.specs.Plain.{◌-◌, ◌≤◌, ◌+◌, ◌≡◌, refl, sym, ap, ◌∙◌, Bool, ◌&&◌, and_assoc, and-true, leb-zero, ℤ, pos}
+use Rattle.std.specs.Prelude.{◌-◌, ◌≤◌, ◌+◌, ◌≡◌, ◌&&◌}
+use Rattle.whole.specs.Plain.{refl, sym, ap, ◌∙◌, Bool, and_assoc, and-true, leb-zero, ℤ, pos}
 use Rattle.whole.specs.Plain.{negsuc, le_z, non_neg, length, get_or, drop, arith, every}
 use mir.Syntax.{w64}
 use mir.Val.{to_z, of_z}

@@ -1,5 +1,6 @@
 -- `call_state::peak_formed` meets its contract. Assumes nothing.
-use Rattle.whole.specs.Plain.{◌≡◌, refl, true, false, true≢false, ℤ, pos, negsuc, lt_z, non_neg, ltb-true, arith}
+use Rattle.std.specs.Prelude.{◌≡◌}
+use Rattle.whole.specs.Plain.{refl, true, false, true≢false, ℤ, pos, negsuc, lt_z, non_neg, ltb-true, arith}
 use mir.Syntax.{w64}
 use mir.Val.{to_z, of_z}
 use mir.Facts.{to_z-of_z, to_z_pos}

@@ -1,5 +1,6 @@
 -- `call_state::peaks_formed` meets its contract. The invariant: the flag says whether the nodes passed so far are formed. Assumes nothing.
-use Rattle.whole.specs.Plain.{◌+◌, ◌-◌, ◌≤◌, ◌≡◌, refl, add_comm, arith, every, numbers}
+use Rattle.std.specs.Prelude.{◌+◌, ◌-◌, ◌≤◌, ◌≡◌}
+use Rattle.whole.specs.Plain.{refl, add_comm, arith, every, numbers}
 use Rattle.whole.specs.Folds.{every_numbers}
 use Rattle.call_state.specs.Judged.{peaked_by}
 use Rattle.call_state.proofs.peaks_formed.Statement.{statement}

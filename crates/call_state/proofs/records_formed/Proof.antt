@@ -1,5 +1,6 @@
 -- `call_state::records_formed` meets its contract: the sections of the records, each judged by itself. Assumes nothing.
-use Rattle.whole.specs.Plain.{◌≡◌, sym, ◌∙◌, true, not-true, not-false}
+use Rattle.std.specs.Prelude.{◌≡◌}
+use Rattle.whole.specs.Plain.{sym, ◌∙◌, true, not-true, not-false}
 use Rattle.call_counts.specs.Lines.{counted}
 use Rattle.call_counts.specs.Counts.{CountsIn}
 use Rattle.call_state.specs.Judged.{counts_formed, formed_by}

@@ -1,5 +1,6 @@
 -- `call_state::rows_formed` meets its contract. The invariant: the flag says whether the rows passed so far are formed. Assumes nothing.
-use Rattle.whole.specs.Plain.{◌-◌, ◌≤◌, ◌≡◌, refl, sym, subst, zero-add, arith, every, numbers}
+use Rattle.std.specs.Prelude.{◌-◌, ◌≤◌, ◌≡◌}
+use Rattle.whole.specs.Plain.{refl, sym, subst, zero-add, arith, every, numbers}
 use Rattle.whole.specs.Folds.{every_numbers}
 use Rattle.call_counts.specs.Counts.{LineIn, BreakerIn}
 use Rattle.call_state.specs.Judged.{planned_formed}

@@ -1,5 +1,6 @@
 -- `call_state::words_formed` meets its contract: each of the four words is held to the end that the row's kind gives it. Assumes nothing.
-use Rattle.whole.specs.Plain.{◌≡◌, pos, arith}
+use Rattle.std.specs.Prelude.{◌≡◌}
+use Rattle.whole.specs.Plain.{pos, arith}
 use mir.Syntax.{w64}
 use mir.Val.{to_z}
 use mir.Facts.{to_z_pos}

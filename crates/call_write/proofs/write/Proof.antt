@@ -1,5 +1,6 @@
 -- `call_write::write` meets its contract: 9, 8, or the text. Assumes nothing.
-use Rattle.whole.specs.Plain.{◌≡◌, sym, ◌∙◌, true, not-true, not-false, arith}
+use Rattle.std.specs.Prelude.{◌≡◌}
+use Rattle.whole.specs.Plain.{sym, ◌∙◌, true, not-true, not-false, arith}
 use borrow.Author.Rules.{rules}
 use Rattle.paper.specs.Network.{is_network}
 use Rattle.call_write.specs.Cases.{wrong_length, no_room, no_network, text_room, wrote}

@@ -1,5 +1,6 @@
 -- `emt::emt_advance` meets its contract: the number of what `advance` answers, and the count or the place. Assumes nothing.
-use Rattle.whole.specs.Plain.{◌+◌, ap, ◌∙◌}
+use Rattle.std.specs.Prelude.{◌+◌}
+use Rattle.whole.specs.Plain.{ap, ◌∙◌}
 use Rattle.paper.specs.Answers.{advance_number, advance_place, advance_count}
 use Rattle.emt.proofs.emt_advance.Statement.{statement}
 use Rattle.emt.proofs.emt_advance.Tie as tie

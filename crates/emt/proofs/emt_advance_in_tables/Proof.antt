@@ -1,5 +1,6 @@
 -- `emt::emt_advance_in_tables` meets its contract: 9 for a room of another size, else what `advance_in` answers. Assumes nothing.
-use Rattle.whole.specs.Plain.{◌+◌, ap, ◌∙◌}
+use Rattle.std.specs.Prelude.{◌+◌}
+use Rattle.whole.specs.Plain.{ap, ◌∙◌}
 use Rattle.paper.specs.Answers.{advance_number, advance_place, advance_count}
 use Rattle.emt.specs.Numbered.{other_room, right_room}
 use Rattle.emt.proofs.emt_advance_in_tables.Statement.{statement}

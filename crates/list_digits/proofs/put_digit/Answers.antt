@@ -1,5 +1,6 @@
 -- `list_digits::put_digit` meets its contract. Assumes nothing.
-use Rattle.whole.specs.Plain.{◌+◌, ◌%◌, ◌≡◌, arith}
+use Rattle.std.specs.Prelude.{◌+◌, ◌%◌, ◌≡◌}
+use Rattle.whole.specs.Plain.{arith}
 use Rattle.list_digits.specs.Puts.{puts_one}
 use Rattle.list_digits.specs.Decimal.{fixed}
 use Rattle.list_digits.proofs.put_digit.Goals as goal

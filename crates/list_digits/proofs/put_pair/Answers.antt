@@ -1,5 +1,6 @@
 -- `list_digits::put_pair` meets its contract: both digits are those looked up. Assumes nothing.
-use Rattle.whole.specs.Plain.{◌+◌, ◌/◌, ◌%◌, length-set, arith}
+use Rattle.std.specs.Prelude.{◌+◌, ◌/◌, ◌%◌}
+use Rattle.whole.specs.Plain.{length-set, arith}
 use Rattle.list_digits.specs.Puts.{puts_two}
 use Rattle.list_digits.specs.Pairs.{pair_tens, pair_ones, fixed_pair}
 use Rattle.list_digits.proofs.put_pair.Goals as goal

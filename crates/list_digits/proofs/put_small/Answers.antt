@@ -1,5 +1,6 @@
 -- `list_digits::put_small` meets its contract: the tens where there are any, and the ones. Assumes nothing.
-use Rattle.whole.specs.Plain.{◌+◌, ◌%◌, arith}
+use Rattle.std.specs.Prelude.{◌+◌, ◌%◌}
+use Rattle.whole.specs.Plain.{arith}
 use Rattle.list_digits.specs.Puts.{puts_one, room_first, room_second, both_put, puts_length}
 use Rattle.list_digits.specs.Pairs.{pair_ones, small_parts}
 use Rattle.list_digits.proofs.put_small.Goals as goal

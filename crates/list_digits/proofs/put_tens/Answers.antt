@@ -1,5 +1,6 @@
 -- `list_digits::put_tens` meets its contract. Assumes nothing.
-use Rattle.whole.specs.Plain.{◌+◌, ◌/◌, sym, ap, length, arith}
+use Rattle.std.specs.Prelude.{◌+◌, ◌/◌}
+use Rattle.whole.specs.Plain.{sym, ap, length, arith}
 use Rattle.list_digits.specs.Puts.{puts_none, puts_one, puts_as}
 use Rattle.list_digits.specs.Pairs.{pair_tens, no_tens, some_tens}
 use Rattle.list_digits.proofs.put_tens.Goals as goal

@@ -1,5 +1,6 @@
 -- `list_digits::put_to_eight` meets its contract: up to four digits, or these and four. Assumes nothing.
-use Rattle.whole.specs.Plain.{ℕ, ◌-◌, ◌*◌, ◌/◌, ◌^◌, ◌≤◌, ◌<◌, ◌≡◌, refl, arith}
+use Rattle.std.specs.Prelude.{◌-◌, ◌*◌, ◌/◌, ◌^◌, ◌≤◌, ◌<◌, ◌≡◌}
+use Rattle.whole.specs.Plain.{ℕ, refl, arith}
 use Rattle.paper.specs.Listing.{shown_nat}
 use Rattle.list_digits.specs.Puts.{Parts, room_first, room_second, both_put}
 use Rattle.list_digits.specs.Decimal.{fixed, length_fixed, shown_cut}

@@ -1,5 +1,6 @@
 -- `list_digits::put_to_four` meets its contract. Assumes nothing.
-use Rattle.whole.specs.Plain.{ℕ, ◌≤◌, ◌<◌, ◌≡◌, refl, sym, ap, length, arith}
+use Rattle.std.specs.Prelude.{◌≤◌, ◌<◌, ◌≡◌}
+use Rattle.whole.specs.Plain.{ℕ, refl, sym, ap, length, arith}
 use Rattle.paper.specs.Listing.{shown_nat}
 use Rattle.list_digits.specs.Puts.{puts_as}
 use Rattle.list_digits.specs.Decimal.{fixed, length_fixed, shown_exact}

@@ -1,5 +1,6 @@
 -- `list_digits::put_under_four` meets its contract: one digit or two, or one and two. Assumes nothing.
-use Rattle.whole.specs.Plain.{ℕ, ◌-◌, ◌*◌, ◌/◌, ◌≤◌, ◌<◌, ◌≡◌, refl, arith}
+use Rattle.std.specs.Prelude.{◌-◌, ◌*◌, ◌/◌, ◌≤◌, ◌<◌, ◌≡◌}
+use Rattle.whole.specs.Plain.{ℕ, refl, arith}
 use Rattle.paper.specs.Listing.{shown_nat}
 use Rattle.list_digits.specs.Puts.{Parts, room_first, room_second, both_put}
 use Rattle.list_digits.specs.Decimal.{fixed, length_fixed, exact_cut}

@@ -1,5 +1,6 @@
 -- `list_line::put_head` meets its contract: the text is put, some of it twice. Assumes nothing.
-use Rattle.whole.specs.Plain.{◌+◌, ◌-◌, ℕ, ap, ◌∙◌, List, sets, arith}
+use Rattle.std.specs.Prelude.{◌+◌, ◌-◌}
+use Rattle.whole.specs.Plain.{ℕ, ap, ◌∙◌, List, sets, arith}
 use Rattle.list_line.specs.Quads.{quad_bytes}
 use Rattle.list_line.specs.Heads.{head_put}
 use Rattle.list_line.proofs.put_head.Goals as goal

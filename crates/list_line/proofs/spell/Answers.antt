@@ -1,5 +1,6 @@
 -- `list_line::spell` meets its contract. Assumes nothing.
-use Rattle.whole.specs.Plain.{◌≡◌, ◌∙◌, length, length-set, arith}
+use Rattle.std.specs.Prelude.{◌≡◌}
+use Rattle.whole.specs.Plain.{◌∙◌, length, length-set, arith}
 use Rattle.list_digits.specs.Puts.{puts_one, puts_then, puts_length}
 use Rattle.list_digits.specs.Decimal.{shown_length}
 use Rattle.list_line.specs.Heads.{spelt}

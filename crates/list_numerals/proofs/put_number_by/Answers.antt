@@ -1,5 +1,6 @@
 -- `list_numerals::put_number_by` meets its contract: a minus, and the magnitude's digits. Assumes nothing.
-use Rattle.whole.specs.Plain.{ℕ, ◌≡◌, sym, ap, ◌∙◌, ◌∷◌, length, length-set, true, false, ℤ, pos, nat_abs, le_z, arith}
+use Rattle.std.specs.Prelude.{◌≡◌, ◌∷◌}
+use Rattle.whole.specs.Plain.{ℕ, sym, ap, ◌∙◌, length, length-set, true, false, ℤ, pos, nat_abs, le_z, arith}
 use mir.Facts.{to_z-of_z}
 use Rattle.paper.specs.Listing.{shown_nat, shown}
 use Rattle.list_digits.specs.Puts.{puts_one, puts_then, puts_as}

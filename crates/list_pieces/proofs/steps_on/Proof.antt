@@ -1,6 +1,7 @@
 -- `list_pieces::steps_on` meets its contract. The invariant: of every network that the tables are of, all areas have taken k steps, what is listed so far
 -- stands in the buffer, and the steps that are left lead to the piece. Assumes nothing.
-use Rattle.whole.specs.Plain.{◌+◌, ◌-◌, ◌≤◌, ◌<◌, ◌≡◌, refl, ap, ◌∙◌, [], length, get_or-replicate, arith, Words}
+use Rattle.std.specs.Prelude.{◌+◌, ◌-◌, ◌≤◌, ◌<◌, ◌≡◌}
+use Rattle.whole.specs.Plain.{refl, ap, ◌∙◌, [], length, get_or-replicate, arith, Words}
 use Rattle.paper.specs.Advance.{memory}
 use Rattle.list_digits.specs.Puts.{puts_length}
 use Rattle.list_round.specs.Passed.{Lent}

@@ -1,5 +1,6 @@
 -- `list_step::put_current` meets its contract, by the kind of the row. Assumes nothing.
-use Rattle.whole.specs.Plain.{ℕ, ◌≡◌, sym, ap, ◌∙◌, List, [], Words, true, false, arith}
+use Rattle.std.specs.Prelude.{◌≡◌}
+use Rattle.whole.specs.Plain.{ℕ, sym, ap, ◌∙◌, List, [], Words, true, false, arith}
 use Rattle.whole.specs.Int.{read64}
 use Rattle.paper.specs.Rows.{bytes, branch_kind}
 use Rattle.plan_rows.specs.declared.Row.{Row}

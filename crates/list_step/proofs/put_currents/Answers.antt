@@ -1,5 +1,6 @@
 -- `list_step::put_currents` meets its contract. The invariant: the lines of the rows passed are put. Assumes nothing.
-use Rattle.whole.specs.Plain.{ℕ, ◌+◌, ◌≡◌, ap, arith, numbers}
+use Rattle.std.specs.Prelude.{◌+◌, ◌≡◌}
+use Rattle.whole.specs.Plain.{ℕ, ap, arith, numbers}
 use Rattle.list_digits.specs.Puts.{puts_none, puts_as}
 use Rattle.list_step.specs.Joined.{joined, line_room, line_put}
 use Rattle.list_step.specs.ByPlan.{current_line_by}

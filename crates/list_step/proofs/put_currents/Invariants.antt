@@ -1,5 +1,6 @@
 -- `list_step::put_currents` meets its contract. The invariant: the lines of the rows passed are put. Assumes nothing.
-use Rattle.whole.specs.Plain.{◌-◌, ◌≤◌, numbers}
+use Rattle.std.specs.Prelude.{◌-◌, ◌≤◌}
+use Rattle.whole.specs.Plain.{numbers}
 use Rattle.list_digits.specs.Puts.{Puts}
 use Rattle.list_step.specs.Joined.{joined}
 use Rattle.list_step.specs.ByPlan.{current_line_by}

@@ -1,5 +1,6 @@
 -- `list_step::put_step_by` meets its contract: the nodes' lines, then the branches'. Assumes nothing.
-use Rattle.whole.specs.Plain.{ℕ, ◌+◌, ◌≤◌, length, List, Words, arith}
+use Rattle.std.specs.Prelude.{◌+◌, ◌≤◌}
+use Rattle.whole.specs.Plain.{ℕ, length, List, Words, arith}
 use Rattle.paper.specs.Limits as Limits
 use Rattle.paper.specs.Areas.{Net}
 use Rattle.paper.specs.Listing.{step_lines}

@@ -1,5 +1,6 @@
 -- `list_step::put_volts` meets its contract. The invariant: the lines of the nodes passed are put. Assumes nothing.
-use Rattle.whole.specs.Plain.{ℕ, ◌≡◌, ap, arith, numbers}
+use Rattle.std.specs.Prelude.{◌≡◌}
+use Rattle.whole.specs.Plain.{ℕ, ap, arith, numbers}
 use Rattle.whole.specs.Int.{read64}
 use Rattle.paper.specs.Rows.{bytes}
 use Rattle.list_digits.specs.Puts.{puts_none, puts_as}

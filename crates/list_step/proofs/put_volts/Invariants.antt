@@ -1,5 +1,6 @@
 -- `list_step::put_volts` meets its contract. The invariant: the lines of the nodes passed are put. Assumes nothing.
-use Rattle.whole.specs.Plain.{◌-◌, ◌≤◌, numbers}
+use Rattle.std.specs.Prelude.{◌-◌, ◌≤◌}
+use Rattle.whole.specs.Plain.{numbers}
 use Rattle.list_digits.specs.Puts.{Puts}
 use Rattle.list_step.specs.Joined.{joined, volt_line}
 use Rattle.list_step.proofs.put_volts.Given as goal

@@ -1,5 +1,6 @@
 -- `list_turn::put_turn` meets its contract: the step's lines where all areas took it, the stop line where one did not. Assumes nothing.
-use Rattle.whole.specs.Plain.{ℕ, ◌+◌, ◌≤◌, ◌≡◌, refl, arith}
+use Rattle.std.specs.Prelude.{◌+◌, ◌≤◌, ◌≡◌}
+use Rattle.whole.specs.Plain.{ℕ, refl, arith}
 use native.Mathlib.Numerals.{add-one}
 use borrow.Author.Rules.{rules}
 use denote.Enum.Declared.{tag_of}

@@ -1,5 +1,6 @@
 -- Assumes nothing.
-use Rattle.whole.specs.Plain.{◌≡◌, refl, sym, ℤ, pos, negsuc, non_neg, le_z, le-leb, arith}
+use Rattle.std.specs.Prelude.{◌≡◌}
+use Rattle.whole.specs.Plain.{refl, sym, ℤ, pos, negsuc, non_neg, le_z, le-leb, arith}
 use mir.Syntax.{w64}
 use mir.Val.{to_z, of_z}
 use mir.Facts.{to_z-of_z}

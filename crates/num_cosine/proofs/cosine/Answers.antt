@@ -1,5 +1,6 @@
 -- `num_cosine::cosine` meets its contract: an entry and its negative fit a word. Assumes nothing.
-use Rattle.whole.specs.Plain.{◌≤◌, ◌^◌, ◌≡◌, ◌∙◌, ap, ℕ, ℤ, pos, neg_ℤ, ◌-ℤ◌, +ℤ_idl, arith}
+use Rattle.std.specs.Prelude.{◌≤◌, ◌^◌, ◌≡◌, ◌-ℤ◌}
+use Rattle.whole.specs.Plain.{◌∙◌, ap, ℕ, ℤ, pos, neg_ℤ, +ℤ_idl, arith}
 use mir.Syntax.{w64}
 use mir.Val.{SFits, to_z, of_z}
 use mir.Facts.{to_z-of_z, to_z_pos}

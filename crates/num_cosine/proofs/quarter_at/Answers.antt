@@ -1,5 +1,6 @@
 -- `num_cosine::quarter_at` meets its contract: an entry is in its row. Assumes nothing.
-use Rattle.whole.specs.Plain.{ℕ, ◌%◌, ap, ◌∙◌, List, get_or}
+use Rattle.std.specs.Prelude.{◌%◌}
+use Rattle.whole.specs.Plain.{ℕ, ap, ◌∙◌, List, get_or}
 use Rattle.num_cosine.specs.Rows.{row_entry}
 use Rattle.num_cosine.proofs.quarter_at.Goals as goal
 

@@ -1,5 +1,6 @@
 -- `num_cosine::row_at` meets its contract: each constant computes to its row of the table. Assumes nothing.
-use Rattle.whole.specs.Plain.{◌≡◌, arith}
+use Rattle.std.specs.Prelude.{◌≡◌}
+use Rattle.whole.specs.Plain.{arith}
 use Rattle.whole.specs.Tables.{table, entries}
 use Rattle.num_cosine.specs.Quarter.{quarter}
 use Rattle.num_cosine.specs.Rows.{row_of, none_past}

@@ -1,5 +1,6 @@
 -- Assumes nothing.
-use Rattle.whole.specs.Plain.{ℕ, ◌+◌, ◌/◌, sym, subst, ap, ◌∙◌, T, lit≤, arith}
+use Rattle.std.specs.Prelude.{◌+◌, ◌/◌}
+use Rattle.whole.specs.Plain.{ℕ, sym, subst, ap, ◌∙◌, T, lit≤, arith}
 use lib.Ieee.{add, binary64}
 use lib.Ieee.Positive.{num, den, den_pos}
 use Rattle.paper.specs.Limits.{voltage_end}

@@ -1,5 +1,6 @@
 -- Assumes nothing.
-use Rattle.whole.specs.Plain.{◌≡◌, true}
+use Rattle.std.specs.Prelude.{◌≡◌}
+use Rattle.whole.specs.Plain.{true}
 use lib.Ieee.{in_float}
 use Rattle.whole.specs.Int.{read64}
 use Rattle.paper.specs.Doubles.{in_range, nearest_of}

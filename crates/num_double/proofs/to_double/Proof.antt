@@ -1,5 +1,6 @@
 -- Assumes nothing.
-use Rattle.whole.specs.Plain.{◌/◌, ◌^◌, ◌≡◌, ap, ◌∙◌, T, lt→ltb, le→leb, ℤ, pos, negsuc, arith}
+use Rattle.std.specs.Prelude.{◌/◌, ◌^◌, ◌≡◌}
+use Rattle.whole.specs.Plain.{ap, ◌∙◌, T, lt→ltb, le→leb, ℤ, pos, negsuc, arith}
 use Rattle.std.proofs.Common.{to_z-of_z, w64, SFits, to_z, of_z, rules}
 use lib.Ieee.{binary64, in_float, of_bits}
 use Rattle.whole.specs.Floor.{high, low, low_lt}

@@ -1,5 +1,6 @@
 -- Assumes nothing.
-use Rattle.whole.specs.Plain.{ℕ, zero, suc, ◌≤◌, ◌≡◌, sym, ap, ◌∙◌, ℤ, pos, neg_ℤ, ◌-ℤ◌, +ℤ_idl, arith}
+use Rattle.std.specs.Prelude.{◌≤◌, ◌≡◌, ◌-ℤ◌}
+use Rattle.whole.specs.Plain.{ℕ, zero, suc, sym, ap, ◌∙◌, ℤ, pos, neg_ℤ, +ℤ_idl, arith}
 use Rattle.std.proofs.Common.{to_z-of_z, w64, SFits, to_z, rules}
 use lib.Ieee.{of_bits}
 use mir.Facts.{to_z_pos}

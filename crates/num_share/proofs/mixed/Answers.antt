@@ -1,5 +1,6 @@
 -- `num_share::mixed` meets its contract: the share is no more than the gap, and the value lies between the two. Assumes nothing.
-use Rattle.whole.specs.Plain.{◌*◌, ◌≤◌, ◌≡◌, ◌∙◌, ap, true, false, ℤ, pos, nat_abs, lt_z, ◌+ℤ◌, ◌-ℤ◌, arith}
+use Rattle.std.specs.Prelude.{◌*◌, ◌≤◌, ◌≡◌, ◌+ℤ◌, ◌-ℤ◌}
+use Rattle.whole.specs.Plain.{◌∙◌, ap, true, false, ℤ, pos, nat_abs, lt_z, arith}
 use mir.Syntax.{w64}
 use mir.Val.{SFits, to_z, of_z}
 use mir.Facts.{to_z-of_z, to_z_pos}

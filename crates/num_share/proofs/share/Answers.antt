@@ -1,5 +1,6 @@
 -- `num_share::share` meets its contract: no part is more than the whole. Assumes nothing.
-use Rattle.whole.specs.Plain.{◌*◌, ◌≤◌, le_trans, mul-le-mul_left, mul-le-mul_right, arith}
+use Rattle.std.specs.Prelude.{◌*◌, ◌≤◌}
+use Rattle.whole.specs.Plain.{le_trans, mul-le-mul_left, mul-le-mul_right, arith}
 use Rattle.num_share.specs.Share.{share_is, share_steps, share_rest, share_most}
 use Rattle.num_share.proofs.share.Goals as goal
 

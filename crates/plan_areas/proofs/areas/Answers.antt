@@ -1,5 +1,6 @@
 -- `plan_areas::areas` meets its contract: from each node's own number, by rounds to the lowest nodes, and from these to the areas' numbers. Assumes nothing.
-use Rattle.whole.specs.Plain.{ℕ, suc, ◌≤◌, ap, ◌∙◌, List, length, arith, filled, numbers}
+use Rattle.std.specs.Prelude.{◌≤◌}
+use Rattle.whole.specs.Plain.{ℕ, suc, ap, ◌∙◌, List, length, arith, filled, numbers}
 use Rattle.whole.specs.Turns.{turns}
 use Rattle.whole.specs.Folds.{length_numbers}
 use Rattle.whole.specs.Filled.{length_filled}

@@ -1,5 +1,6 @@
 -- `plan_areas::join` meets its contract: what is stored is the lower of the two marks. Assumes nothing.
-use Rattle.whole.specs.Plain.{min, ◌≡◌, get_or, arith}
+use Rattle.std.specs.Prelude.{◌≡◌}
+use Rattle.whole.specs.Plain.{min, get_or, arith}
 use Rattle.plan_areas.specs.Marks.{join_moves}
 use Rattle.plan_areas.proofs.join.Goals as goal
 use Rattle.plan_areas.proofs.join.Goals.{then-a-b, else-a-b}

@@ -1,5 +1,6 @@
 -- `plan_areas::join_row` meets its contract: each way out is a row that joins nothing, but for the last. Assumes nothing.
-use Rattle.whole.specs.Plain.{ℕ, ◌<◌, ◌≡◌, Bool, length, Words, sym, ap, ◌∙◌, true, arith}
+use Rattle.std.specs.Prelude.{◌<◌, ◌≡◌}
+use Rattle.whole.specs.Plain.{ℕ, Bool, length, Words, sym, ap, ◌∙◌, true, arith}
 use Rattle.paper.specs.Rows.{Row, kind, is_branch, branch_kind}
 use Rattle.paper.specs.Network.{is_network}
 use Rattle.paper.specs.Areas.{step}

@@ -1,5 +1,6 @@
 -- `plan_areas::number_areas` meets its contract: the nodes passed have their areas' numbers. Assumes nothing.
-use Rattle.whole.specs.Plain.{◌≡◌, arith}
+use Rattle.std.specs.Prelude.{◌≡◌}
+use Rattle.whole.specs.Plain.{arith}
 use Rattle.laws_facts.specs.Nets.{net_in, net_sound}
 use Rattle.plan_areas.specs.Numbered.{first_in, next_in, mark_in, count_in, areas_in}
 use Rattle.plan_areas.proofs.number_areas.Goals as goal

@@ -1,5 +1,5 @@
 -- `plan_areas::number_areas` meets its contract: the nodes passed have their areas' numbers. Assumes nothing.
-use Rattle.whole.specs.Plain.{◌≤◌, ◌-◌}
+use Rattle.std.specs.Prelude.{◌≤◌, ◌-◌}
 use Rattle.plan_areas.specs.Numbered.{Numbering, low_in}
 use Rattle.plan_areas.proofs.number_areas.Given as goal
 

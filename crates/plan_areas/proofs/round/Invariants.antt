@@ -1,5 +1,6 @@
 -- `plan_areas::round` meets its contract: the rows that are left lead to the round, and where no mark changed so far they stand as they were. Assumes nothing.
-use Rattle.whole.specs.Plain.{◌≤◌, ◌-◌, ◌≡◌, false, length, drop, fold}
+use Rattle.std.specs.Prelude.{◌≤◌, ◌-◌, ◌≡◌}
+use Rattle.whole.specs.Plain.{false, length, drop, fold}
 use Rattle.laws_facts.specs.Nets.{net_in}
 use Rattle.plan_areas.specs.Marks.{join_row}
 use Rattle.plan_areas.proofs.round.Given as goal

@@ -1,5 +1,6 @@
 -- `plan_areas::spread` meets its contract: the rounds that are left lead to all of them. Assumes nothing.
-use Rattle.whole.specs.Plain.{◌≤◌, ◌<◌, refl, ◌∙◌, arith}
+use Rattle.std.specs.Prelude.{◌≤◌, ◌<◌}
+use Rattle.whole.specs.Plain.{refl, ◌∙◌, arith}
 use Rattle.whole.specs.Turns.{turns_end}
 use Rattle.laws_facts.specs.Nets.{net_in}
 use Rattle.plan_areas.specs.Marks.{round_of, round_next, next_turn, length_round}

@@ -1,5 +1,6 @@
 -- `plan_areas::start` meets its contract. The invariant: the places passed have their nodes' own numbers. Assumes nothing.
-use Rattle.whole.specs.Plain.{◌≡◌, ◌∙◌, length-set, arith}
+use Rattle.std.specs.Prelude.{◌≡◌}
+use Rattle.whole.specs.Plain.{◌∙◌, length-set, arith}
 use Rattle.whole.specs.Upto.{upto_none, upto_next}
 use Rattle.plan_areas.specs.Marks.{own_mark, own_marks}
 use Rattle.plan_areas.proofs.start.Goals as goal

@@ -1,5 +1,6 @@
 -- `plan_lay::fixed_nodes` meets its contract: the flags of the rows passed. Assumes nothing.
-use Rattle.whole.specs.Plain.{◌-◌, ◌≤◌, ◌<◌, ◌≡◌, length, arith}
+use Rattle.std.specs.Prelude.{◌-◌, ◌≤◌, ◌<◌, ◌≡◌}
+use Rattle.whole.specs.Plain.{length, arith}
 use Rattle.laws_facts.specs.Nets.{net_in}
 use Rattle.plan_lay.specs.Flags.{FlaggedTo, flagged_none, flagged_more, flagged_all}
 use Rattle.plan_lay.proofs.fixed_nodes.Statement.{statement}

@@ -1,5 +1,6 @@
 -- `plan_lay::flag_row` meets its contract. Assumes nothing.
-use Rattle.whole.specs.Plain.{◌≡◌, sym, ap, ◌∙◌, true, arith}
+use Rattle.std.specs.Prelude.{◌≡◌}
+use Rattle.whole.specs.Plain.{sym, ap, ◌∙◌, true, arith}
 use borrow.Author.Rules.{rules}
 use Rattle.paper.specs.Rows.{Row, fixing_kind, is_fixing}
 use Rattle.paper.specs.Classes.{fixing_source}

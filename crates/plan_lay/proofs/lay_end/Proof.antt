@@ -1,5 +1,6 @@
 -- `plan_lay::lay_end` meets its contract. Assumes nothing.
-use Rattle.whole.specs.Plain.{ℕ, ◌≤◌, ◌<◌, ◌≡◌, sym, ◌∙◌, true, eqb, pos, length, eq-eqb, ne_eqb, arith}
+use Rattle.std.specs.Prelude.{◌≤◌, ◌<◌, ◌≡◌}
+use Rattle.whole.specs.Plain.{ℕ, sym, ◌∙◌, true, eqb, pos, length, eq-eqb, ne_eqb, arith}
 use borrow.Author.Rules.{rules}
 use mir.Syntax.{w64}
 use mir.Val.{to_z}

@@ -1,5 +1,6 @@
 -- `plan_lay::lay_legs` meets its contract: the ends of the rows passed are laid. Assumes nothing.
-use Rattle.whole.specs.Plain.{◌+◌, ◌-◌, ◌*◌, ◌≤◌, ◌<◌, ◌≡◌, ◌∙◌, arith}
+use Rattle.std.specs.Prelude.{◌+◌, ◌-◌, ◌*◌, ◌≤◌, ◌<◌, ◌≡◌}
+use Rattle.whole.specs.Plain.{◌∙◌, arith}
 use Rattle.plan_rows.specs.Planned.{Noded}
 use Rattle.plan_lay.specs.Grown.{Grown}
 use Rattle.plan_lay.specs.Listed.{listed, gathered_none, gathered_room, gathered_more}

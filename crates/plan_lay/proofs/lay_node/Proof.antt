@@ -1,5 +1,6 @@
 -- `plan_lay::lay_node` meets its contract. Assumes nothing.
-use Rattle.whole.specs.Plain.{◌<◌, ◌≡◌, sym, ◌∙◌, true, false, length, get_or, eq-eqb, ne_eqb, not-true, not-false, arith}
+use Rattle.std.specs.Prelude.{◌<◌, ◌≡◌}
+use Rattle.whole.specs.Plain.{sym, ◌∙◌, true, false, length, get_or, eq-eqb, ne_eqb, not-true, not-false, arith}
 use borrow.Author.Rules.{rules}
 use Rattle.whole.specs.Truths.{and-false}
 use Rattle.plan_lay.specs.Grown.{put_yes, put_no}

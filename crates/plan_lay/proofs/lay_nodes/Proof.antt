@@ -1,5 +1,6 @@
 -- `plan_lay::lay_nodes` meets its contract: the nodes passed are laid. Assumes nothing.
-use Rattle.whole.specs.Plain.{◌+◌, ◌-◌, ◌≤◌, ◌≡◌, arith}
+use Rattle.std.specs.Prelude.{◌+◌, ◌-◌, ◌≤◌, ◌≡◌}
+use Rattle.whole.specs.Plain.{arith}
 use Rattle.plan_lay.specs.Grown.{Grown}
 use Rattle.plan_lay.specs.Listed.{gathered_none, gathered_room, gathered_more}
 use Rattle.plan_lay.specs.Nodes.{nodes_by}

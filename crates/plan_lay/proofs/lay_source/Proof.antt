@@ -1,5 +1,6 @@
 -- `plan_lay::lay_source` meets its contract. Assumes nothing.
-use Rattle.whole.specs.Plain.{◌≤◌, ◌<◌, ◌≡◌, sym, ap, ◌∙◌, true, false, length, get_or, eq-eqb, ne_eqb, not-true}
+use Rattle.std.specs.Prelude.{◌≤◌, ◌<◌, ◌≡◌}
+use Rattle.whole.specs.Plain.{sym, ap, ◌∙◌, true, false, length, get_or, eq-eqb, ne_eqb, not-true}
 use Rattle.whole.specs.Plain.{not-false, arith}
 use borrow.Author.Rules.{rules}
 use Rattle.whole.specs.Int.{read64}

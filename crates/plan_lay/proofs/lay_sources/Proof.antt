@@ -1,5 +1,6 @@
 -- `plan_lay::lay_sources` meets its contract: the sources among the rows passed are laid. Assumes nothing.
-use Rattle.whole.specs.Plain.{◌-◌, ◌≤◌, ◌<◌, ◌≡◌, length, arith}
+use Rattle.std.specs.Prelude.{◌-◌, ◌≤◌, ◌<◌, ◌≡◌}
+use Rattle.whole.specs.Plain.{length, arith}
 use Rattle.laws_facts.specs.Nets.{net_in}
 use Rattle.plan_lay.specs.Grown.{Grown}
 use Rattle.plan_lay.specs.Listed.{gathered_none, gathered_room, gathered_more}

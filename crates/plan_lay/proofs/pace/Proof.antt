@@ -1,5 +1,6 @@
 -- `plan_lay::pace` meets its contract: the product of a step length and a frequency fits, and so does its negative. Assumes nothing.
-use Rattle.whole.specs.Plain.{ℕ, ◌*◌, ◌≤◌, ◌≡◌, sym, ◌∙◌, pos, neg_ℤ, ◌*ℤ◌, +ℤ_idl, eq-eqb, ne_eqb, le_trans, mul-le-mul_left}
+use Rattle.std.specs.Prelude.{◌*◌, ◌≤◌, ◌≡◌, ◌*ℤ◌}
+use Rattle.whole.specs.Plain.{ℕ, sym, ◌∙◌, pos, neg_ℤ, +ℤ_idl, eq-eqb, ne_eqb, le_trans, mul-le-mul_left}
 use Rattle.whole.specs.Plain.{mul-le-mul_right, arith, word}
 use borrow.Author.Rules.{rules}
 use mir.Syntax.{w64}

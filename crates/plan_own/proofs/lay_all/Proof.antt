@@ -1,5 +1,6 @@
 -- `plan_own::lay_all` meets its contract: the areas passed are laid, with room for the rest. Assumes nothing.
-use Rattle.whole.specs.Plain.{suc, ◌+◌, ◌-◌, ◌≤◌, ◌≡◌, sym, ap, ◌∙◌, arith}
+use Rattle.std.specs.Prelude.{◌+◌, ◌-◌, ◌≤◌, ◌≡◌}
+use Rattle.whole.specs.Plain.{suc, sym, ap, ◌∙◌, arith}
 use Rattle.paper.specs.Areas.{area_count}
 use Rattle.laws_facts.specs.Nets.{net_in, net_sound, area_count_most}
 use Rattle.plan_rows.specs.declared.Totals.{Totals}

@@ -1,5 +1,6 @@
 -- `plan_own::lay_area` meets its contract: each part is laid by its own function. Assumes nothing.
-use Rattle.whole.specs.Plain.{◌<◌, ◌≡◌, ap, ◌∙◌, true, false, map, length, length-map, arith}
+use Rattle.std.specs.Prelude.{◌<◌, ◌≡◌}
+use Rattle.whole.specs.Plain.{ap, ◌∙◌, true, false, map, length, length-map, arith}
 use borrow.Author.Rules.{rules}
 use Rattle.paper.specs.Areas.{Net, free_of}
 use Rattle.laws_facts.specs.Nets.{NetSound, net_in, net_sound}

@@ -1,5 +1,6 @@
 -- `plan_rows::conductance_at` meets its contract. Assumes nothing.
-use Rattle.whole.specs.Plain.{◌≡◌, sym, ap, ◌∙◌, true, arith}
+use Rattle.std.specs.Prelude.{◌≡◌}
+use Rattle.whole.specs.Plain.{sym, ap, ◌∙◌, true, arith}
 use Rattle.paper.specs.Rows.{is_branch}
 use Rattle.paper.specs.Areas.{step}
 use Rattle.laws_facts.specs.Nets.{net_in, row_at, net_sound}

@@ -1,5 +1,6 @@
 -- `plan_rows::fill` meets its contract: the rows passed are planned, their slots and branches counted. Assumes nothing.
-use Rattle.whole.specs.Plain.{◌+◌, ◌<◌, ◌≡◌, refl, sym, ap, ◌∙◌, length, arith, count}
+use Rattle.std.specs.Prelude.{◌+◌, ◌<◌, ◌≡◌}
+use Rattle.whole.specs.Plain.{refl, sym, ap, ◌∙◌, length, arith, count}
 use native.Mathlib.Numerals.{add-one}
 use Rattle.paper.specs.Areas.{branch_number}
 use Rattle.paper.specs.Records.{offset}

@@ -1,5 +1,5 @@
 -- `plan_rows::fill` meets its contract: the rows passed are planned, their slots and branches counted. Assumes nothing.
-use Rattle.whole.specs.Plain.{◌-◌, ◌≤◌, ◌≡◌}
+use Rattle.std.specs.Prelude.{◌-◌, ◌≤◌, ◌≡◌}
 use Rattle.paper.specs.Areas.{branch_number}
 use Rattle.paper.specs.Records.{offset}
 use Rattle.laws_facts.specs.Nets.{net_in}

@@ -1,5 +1,6 @@
 -- `plan_rows::node_count` meets its contract: the rows that are left lead to the node count. Assumes nothing.
-use Rattle.whole.specs.Plain.{max, ◌≡◌, [], arith}
+use Rattle.std.specs.Prelude.{◌≡◌}
+use Rattle.whole.specs.Plain.{max, [], arith}
 use Rattle.whole.specs.Folds.{fold_next, fold_end}
 use Rattle.paper.specs.Areas.{named}
 use Rattle.laws_facts.specs.Nets.{net_in, row_at}

@@ -1,5 +1,6 @@
 -- `plan_rows::planned` meets its contract: each word is what its own function gives. Assumes nothing.
-use Rattle.whole.specs.Plain.{◌/◌, ◌%◌, ◌≤◌, ◌≡◌, sym, ◌∙◌, arith}
+use Rattle.std.specs.Prelude.{◌/◌, ◌%◌, ◌≤◌, ◌≡◌}
+use Rattle.whole.specs.Plain.{sym, ◌∙◌, arith}
 use Rattle.paper.specs.Limits as Limits
 use Rattle.paper.specs.Faults as Faults
 use Rattle.laws_facts.specs.Nets.{net_in, row_at, net_sound, travel_word, branch_number_most}

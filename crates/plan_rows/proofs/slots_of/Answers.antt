@@ -1,5 +1,6 @@
 -- `plan_rows::slots_of` meets its contract. Assumes nothing.
-use Rattle.whole.specs.Plain.{◌+◌, ◌*◌, ◌≡◌, cond, eqb, eq-eqb, ne_eqb, arith}
+use Rattle.std.specs.Prelude.{◌+◌, ◌*◌, ◌≡◌}
+use Rattle.whole.specs.Plain.{cond, eqb, eq-eqb, ne_eqb, arith}
 use Rattle.plan_rows.specs.ByKind.{slots_by}
 use Rattle.plan_rows.proofs.slots_of.Goals as goal
 use Rattle.plan_rows.proofs.slots_of.Goals.{Else-kind-ne-LINE}

@@ -1,5 +1,6 @@
 -- `plan_rows::to_at` meets its contract. Assumes nothing.
-use Rattle.whole.specs.Plain.{◌≡◌, sym, ap, ◌∙◌, true, arith}
+use Rattle.std.specs.Prelude.{◌≡◌}
+use Rattle.whole.specs.Plain.{sym, ap, ◌∙◌, true, arith}
 use Rattle.paper.specs.Rows.{is_branch}
 use Rattle.laws_facts.specs.Nets.{net_in, row_at, net_sound}
 use Rattle.paper.specs.Rows.{branch_kind}

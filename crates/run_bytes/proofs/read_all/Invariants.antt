@@ -1,5 +1,6 @@
 -- The invariant: no more is read than there is room for. Assumes nothing.
-use Rattle.whole.specs.Plain.{◌-◌, ◌≤◌, length}
+use Rattle.std.specs.Prelude.{◌-◌, ◌≤◌}
+use Rattle.whole.specs.Plain.{length}
 use Rattle.run_bytes.proofs.read_all.Given as goal
 
 abbrev pub invariant-loop-done : goal.invariant-loop-done

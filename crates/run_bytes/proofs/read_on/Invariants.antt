@@ -1,5 +1,6 @@
 -- The invariant: what stands before the place has not changed, nor how long the room is. Assumes nothing.
-use Rattle.whole.specs.Plain.{◌-◌, ◌≡◌, length, take}
+use Rattle.std.specs.Prelude.{◌-◌, ◌≡◌}
+use Rattle.whole.specs.Plain.{length, take}
 use Rattle.run_bytes.proofs.read_on.Given as goal
 
 abbrev pub invariant-loop-tries : goal.invariant-loop-tries

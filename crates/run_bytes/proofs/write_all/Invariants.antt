@@ -1,5 +1,6 @@
 -- The invariant: no more is written than there is. Assumes nothing.
-use Rattle.whole.specs.Plain.{◌-◌, ◌≤◌, length}
+use Rattle.std.specs.Prelude.{◌-◌, ◌≤◌}
+use Rattle.whole.specs.Plain.{length}
 use Rattle.run_bytes.proofs.write_all.Given as goal
 
 abbrev pub invariant-loop-done : goal.invariant-loop-done

@@ -1,5 +1,5 @@
 -- No more calls are made than are left. Assumes nothing.
-use Rattle.whole.specs.Plain.{◌-◌}
+use Rattle.std.specs.Prelude.{◌-◌}
 use Rattle.run_bytes.proofs.write_on.Given as goal
 
 abbrev pub decreases-loop-tries : goal.decreases-loop-tries

@@ -1,5 +1,6 @@
 -- `run_pieces::ending` meets its contract: a refusal is told, with its area. Assumes nothing.
-use Rattle.whole.specs.Plain.{ℕ, ◌≡◌, ◌≢◌, refl, sym, ap, ◌∙◌, ◌⊎◌, ⊎_elim, not, arith}
+use Rattle.std.specs.Prelude.{◌≡◌, ◌≢◌, ◌⊎◌}
+use Rattle.whole.specs.Plain.{ℕ, refl, sym, ap, ◌∙◌, ⊎_elim, not, arith}
 use borrow.Author.Rules.{rules}
 use denote.Enum.Declared.{tag_of}
 use Rattle.paper.specs.contracts.Listing as Listing

@@ -1,5 +1,6 @@
 -- `run_pieces::list_all` meets its contract: piece after piece, each from what the one before it left. Assumes nothing.
-use Rattle.whole.specs.Plain.{◌-◌, ◌≤◌, ◌≡◌, refl, ap, ◌∙◌, length, arith}
+use Rattle.std.specs.Prelude.{◌-◌, ◌≤◌, ◌≡◌}
+use Rattle.whole.specs.Plain.{refl, ap, ◌∙◌, length, arith}
 use borrow.Author.Rules.{rules}
 use denote.Enum.Declared.{tag_of}
 use Rattle.paper.specs.Advance.{memory}

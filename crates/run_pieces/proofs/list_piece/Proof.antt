@@ -1,5 +1,6 @@
 -- `run_pieces::list_piece` meets its contract: what is listed fits the buffer, and it goes on where there is more and nowhere else. Assumes nothing.
-use Rattle.whole.specs.Plain.{◌≤◌, sym, ap, ◌∙◌, length, length-take-le}
+use Rattle.std.specs.Prelude.{◌≤◌}
+use Rattle.whole.specs.Plain.{sym, ap, ◌∙◌, length, length-take-le}
 use borrow.Author.Rules.{rules}
 use denote.Enum.Declared.{tag_of}
 use Rattle.paper.specs.contracts.Listing.{the_type}

@@ -1,5 +1,6 @@
 -- `run_study::list_study` meets its contract: a network is reset, whatever stood in the room, and then listed. Assumes nothing.
-use Rattle.whole.specs.Plain.{ℕ, ◌≡◌, sym, subst, ap}
+use Rattle.std.specs.Prelude.{◌≡◌}
+use Rattle.whole.specs.Plain.{ℕ, sym, subst, ap}
 use borrow.Author.Rules.{rules}
 use denote.Enum.Declared.{tag_of}
 use Rattle.paper.specs.contracts.Resetting.{the_type}

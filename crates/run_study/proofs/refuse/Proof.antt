@@ -1,5 +1,6 @@
 -- `run_study::refuse` meets its contract: the line fits. Assumes nothing.
-use Rattle.whole.specs.Plain.{◌≤◌, sym, length, length-take-le, arith}
+use Rattle.std.specs.Prelude.{◌≤◌}
+use Rattle.whole.specs.Plain.{sym, length, length-take-le, arith}
 use borrow.Author.Rules.{rules}
 use Rattle.paper.specs.Answers.{reading_number, reading_line}
 use Rattle.list_digits.specs.Puts.{puts_length}

@@ -1,5 +1,6 @@
 -- `step_area::ready` meets its contract: 14, or the step from what is kept for it. Assumes nothing.
-use Rattle.whole.specs.Plain.{◌≡◌, refl, ◌∙◌, length, not-true, arith}
+use Rattle.std.specs.Prelude.{◌≡◌}
+use Rattle.whole.specs.Plain.{refl, ◌∙◌, length, not-true, arith}
 use Rattle.step_keep.specs.Tabled.{area_few}
 use Rattle.step_area.specs.Going.{floating_step}
 use Rattle.step_area.proofs.ready.Statement.{statement}

@@ -1,6 +1,7 @@
 -- `step_commit::put_legs` meets its contract: the legs that are left lead to the answer, in the records and in both stores, and no latch has changed where
 -- none parted. Assumes nothing.
-use Rattle.whole.specs.Plain.{ℕ, ◌+◌, ◌≤◌, ◌<◌, ◌≡◌, refl, sym, ap, ◌∙◌, List, [], length, get_or, arith, Words, word, fold}
+use Rattle.std.specs.Prelude.{◌+◌, ◌≤◌, ◌<◌, ◌≡◌}
+use Rattle.whole.specs.Plain.{ℕ, refl, sym, ap, ◌∙◌, List, [], length, get_or, arith, Words, word, fold}
 use Rattle.whole.specs.Folds.{fold_next, fold_end, or_left, or_right}
 use Rattle.whole.specs.Int.{read64}
 use Rattle.paper.specs.Records.{latch_at}

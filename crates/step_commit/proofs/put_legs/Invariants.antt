@@ -1,6 +1,7 @@
 -- `step_commit::put_legs` meets its contract: the legs that are left lead to the answer, in the records and in both stores, and no latch has changed where
 -- none parted. Assumes nothing.
-use Rattle.whole.specs.Plain.{ℕ, ◌-◌, ◌≤◌, ◌≡◌, List, length, drop, Words, fold}
+use Rattle.std.specs.Prelude.{◌-◌, ◌≤◌, ◌≡◌}
+use Rattle.whole.specs.Plain.{ℕ, List, length, drop, Words, fold}
 use Rattle.step_records.specs.Records.{line_put, Unparted}
 use Rattle.step_send.specs.Stores.{is_from_end, is_to_end, line_sent}
 use Rattle.step_commit.proofs.put_legs.Given as goal

@@ -1,5 +1,6 @@
 -- `step_conduct::conduct` meets its contract: the first j lines. Assumes nothing.
-use Rattle.whole.specs.Plain.{◌<◌, ◌≡◌, refl, length, arith}
+use Rattle.std.specs.Prelude.{◌<◌, ◌≡◌}
+use Rattle.whole.specs.Plain.{refl, length, arith}
 use Rattle.step_conduct.specs.Conducted.{conducted_more}
 use Rattle.step_conduct.proofs.conduct.Goals as goal
 

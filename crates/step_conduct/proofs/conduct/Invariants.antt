@@ -1,4 +1,5 @@
-use Rattle.whole.specs.Plain.{◌-◌, ◌≤◌, length}
+use Rattle.std.specs.Prelude.{◌-◌, ◌≤◌}
+use Rattle.whole.specs.Plain.{length}
 use Rattle.step_conduct.specs.Conducted.{Conducted}
 use Rattle.step_conduct.proofs.conduct.Given as goal
 

@@ -1,5 +1,6 @@
 -- `step_conduct::conduct_leg` meets its contract. Assumes nothing.
-use Rattle.whole.specs.Plain.{◌≤◌, ◌<◌, ◌≡◌, ap, ◌∙◌, List, [], ℤ, pos, get_or, set, arith, word, nat}
+use Rattle.std.specs.Prelude.{◌≤◌, ◌<◌, ◌≡◌}
+use Rattle.whole.specs.Plain.{ap, ◌∙◌, List, [], ℤ, pos, get_or, set, arith, word, nat}
 use mir.Facts.{to_z_pos}
 use mir.Syntax.{w64}
 use mir.Val.{to_z, of_z}

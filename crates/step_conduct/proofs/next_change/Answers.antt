@@ -1,5 +1,6 @@
 -- `step_conduct::next_change` meets its contract. Assumes nothing.
-use Rattle.whole.specs.Plain.{◌≡◌, sym, ◌∙◌, false, true≢false, not-true, arith}
+use Rattle.std.specs.Prelude.{◌≡◌}
+use Rattle.whole.specs.Plain.{sym, ◌∙◌, false, true≢false, not-true, arith}
 use Rattle.step_conduct.specs.Conducted.{switches}
 use Rattle.step_conduct.proofs.next_change.Goals as goal
 

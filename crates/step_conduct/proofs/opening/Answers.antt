@@ -1,5 +1,6 @@
 -- `step_conduct::opening` meets its contract. Assumes nothing.
-use Rattle.whole.specs.Plain.{◌<◌, ◌^◌, ◌≡◌, refl, sym, true, true≢false, ℤ, pos, negsuc, mag, lt_z, eq-eqb, ne_eqb, arith, nat}
+use Rattle.std.specs.Prelude.{◌<◌, ◌^◌, ◌≡◌}
+use Rattle.whole.specs.Plain.{refl, sym, true, true≢false, ℤ, pos, negsuc, mag, lt_z, eq-eqb, ne_eqb, arith, nat}
 use mir.Facts.{to_z-of_z}
 use Rattle.whole.specs.Index.{index}
 use Rattle.step_conduct.specs.Conducted.{opening_of}

@@ -1,5 +1,6 @@
 -- The invariant: the turns that are left lead to the answer; line p is as it was. Assumes nothing.
-use Rattle.whole.specs.Plain.{◌+◌, ◌≡◌, refl, get_or-set_other, arith}
+use Rattle.std.specs.Prelude.{◌+◌, ◌≡◌}
+use Rattle.whole.specs.Plain.{refl, get_or-set_other, arith}
 use Rattle.whole.specs.Turns.{turns_next, turns_end}
 use Rattle.step_factors.specs.Factored.{row_factored, all_factored}
 use Rattle.step_factors.proofs.factor_all.Goals as goal

@@ -1,5 +1,5 @@
 -- The invariant: the turns that are left lead to the answer; line p is as it was. Assumes nothing.
-use Rattle.whole.specs.Plain.{◌+◌, ◌-◌, ◌<◌, ◌≡◌}
+use Rattle.std.specs.Prelude.{◌+◌, ◌-◌, ◌<◌, ◌≡◌}
 use Rattle.whole.specs.Turns.{turns}
 use Rattle.paper.specs.Elimination.{line}
 use Rattle.step_factors.specs.Factored.{row_factored, all_factored}

@@ -1,5 +1,5 @@
 -- The invariant: the turns that are left lead to the line, the multiplier not yet in its place. Assumes nothing.
-use Rattle.whole.specs.Plain.{◌-◌, ◌≡◌}
+use Rattle.std.specs.Prelude.{◌-◌, ◌≡◌}
 use Rattle.whole.specs.Turns.{turns}
 use Rattle.paper.specs.Elimination.{line_less, cell_less}
 use Rattle.step_factors.proofs.factor_line.Given as goal

@@ -1,5 +1,5 @@
 -- The invariant: the turns that are left lead to the answer. Assumes nothing.
-use Rattle.whole.specs.Plain.{◌-◌, ◌≡◌}
+use Rattle.std.specs.Prelude.{◌-◌, ◌≡◌}
 use Rattle.whole.specs.Turns.{turns}
 use Rattle.step_factors.specs.Factored.{row_forward, forward}
 use Rattle.step_factors.proofs.forward.Given as goal

@@ -1,5 +1,5 @@
 -- The invariant: the turns that are left lead to the answer. Assumes nothing.
-use Rattle.whole.specs.Plain.{◌-◌, ◌≡◌}
+use Rattle.std.specs.Prelude.{◌-◌, ◌≡◌}
 use Rattle.whole.specs.Turns.{turns}
 use Rattle.paper.specs.Elimination.{term_less}
 use Rattle.step_factors.specs.Factored.{left}

@@ -1,5 +1,6 @@
 -- `step_floating::first_marks` meets its contract: what is left to number leads to the answer. Assumes nothing.
-use Rattle.whole.specs.Plain.{◌≤◌, refl, get_or, arith}
+use Rattle.std.specs.Prelude.{◌≤◌}
+use Rattle.whole.specs.Plain.{refl, get_or, arith}
 use Rattle.whole.specs.Folds.{fold_next, fold_end}
 use Rattle.step_floating.specs.Marks.{put, marks_free}
 use Rattle.step_floating.proofs.first_marks.Goals as goal

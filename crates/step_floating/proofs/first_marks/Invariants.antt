@@ -1,5 +1,6 @@
 -- `step_floating::first_marks` meets its contract: what is left to number leads to the answer. Assumes nothing.
-use Rattle.whole.specs.Plain.{◌-◌, ◌≤◌, ◌≡◌, length, drop, fold}
+use Rattle.std.specs.Prelude.{◌-◌, ◌≤◌, ◌≡◌}
+use Rattle.whole.specs.Plain.{length, drop, fold}
 use Rattle.step_floating.specs.Marks.{put}
 use Rattle.step_floating.specs.Answer.{start}
 use Rattle.step_floating.proofs.first_marks.Given as goal

@@ -1,6 +1,7 @@
 -- `step_floating::floating` meets its contract: the nodes before those left are reached, so the answer is the first of these that floats. Assumes
 -- nothing.
-use Rattle.whole.specs.Plain.{◌+◌, ◌-◌, ◌<◌, ◌≡◌, sym, ◌∙◌, length, arith}
+use Rattle.std.specs.Prelude.{◌+◌, ◌-◌, ◌<◌, ◌≡◌}
+use Rattle.whole.specs.Plain.{sym, ◌∙◌, length, arith}
 use Rattle.paper.specs.Floating as Paper
 use Rattle.step_legs.specs.Free.{first_done}
 use Rattle.step_floating.specs.Answer.{state_start, state_next, state_visit, left_next, left_visit, floats, search_on, search_found}

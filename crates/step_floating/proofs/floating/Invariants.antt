@@ -1,5 +1,6 @@
 -- The nodes before those left are reached.
-use Rattle.whole.specs.Plain.{◌-◌, ◌≤◌, ◌≡◌, length, drop, first}
+use Rattle.std.specs.Prelude.{◌-◌, ◌≤◌, ◌≡◌}
+use Rattle.whole.specs.Plain.{length, drop, first}
 use Rattle.paper.specs.Limits as Limits
 use Rattle.paper.specs.Floating as Paper
 use Rattle.step_legs.specs.Wires.{legs_in}

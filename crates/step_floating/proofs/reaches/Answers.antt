@@ -1,5 +1,6 @@
 -- `step_floating::reaches` meets its contract: `l.g == 0` is a test of bits. Assumes nothing.
-use Rattle.whole.specs.Plain.{suc, ◌≡◌, ap, false, eqb, ℤ, pos, negsuc, eq-eqb, ne_eqb, arith, nat}
+use Rattle.std.specs.Prelude.{◌≡◌}
+use Rattle.whole.specs.Plain.{suc, ap, false, eqb, ℤ, pos, negsuc, eq-eqb, ne_eqb, arith, nat}
 use mir.Syntax.{w64}
 use mir.Val.{of_z}
 use Rattle.whole.specs.Int.{is_lit}

@@ -1,5 +1,6 @@
 -- `step_flow::balance` meets its contract: the search from the i-th free node on. Assumes nothing.
-use Rattle.whole.specs.Plain.{ℕ, ◌+◌, ◌-◌, ◌≤◌, ◌<◌, ◌≡◌, refl, sym, ap, ◌∙◌, true, false, not, get_or, length, length-drop, drop, get_or-drop, arith, nat, word, z}
+use Rattle.std.specs.Prelude.{◌+◌, ◌-◌, ◌≤◌, ◌<◌, ◌≡◌}
+use Rattle.whole.specs.Plain.{ℕ, refl, sym, ap, ◌∙◌, true, false, not, get_or, length, length-drop, drop, get_or-drop, arith, nat, word, z}
 use Rattle.whole.specs.Plain.{first}
 use mir.Syntax.{w64}
 use mir.Val.{to_z}

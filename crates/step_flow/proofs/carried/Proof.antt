@@ -1,5 +1,6 @@
 -- `step_flow::carried` meets its contract: current and echo share one product. Assumes nothing.
-use Rattle.whole.specs.Plain.{◌+ℤ◌, arith, Words}
+use Rattle.std.specs.Prelude.{◌+ℤ◌}
+use Rattle.whole.specs.Plain.{arith, Words}
 use borrow.Author.Rules.{rules}
 use mir.Syntax.{w64}
 use mir.Val.{SFits}

@@ -1,5 +1,6 @@
 -- `step_flow::first_beyond` meets its contract. The invariant: the legs that are left lead to the answer. Assumes nothing.
-use Rattle.whole.specs.Plain.{◌-◌, ◌≤◌, ◌≡◌, refl, sym, ap, ◌∙◌, true, false, cond, [], get_or, length, drop, arith, pos, neg_ℤ, Words, word, between}
+use Rattle.std.specs.Prelude.{◌-◌, ◌≤◌, ◌≡◌}
+use Rattle.whole.specs.Plain.{refl, sym, ap, ◌∙◌, true, false, cond, [], get_or, length, drop, arith, pos, neg_ℤ, Words, word, between}
 use borrow.Author.Rules.{rules}
 use Rattle.whole.specs.Int.{read64}
 use Rattle.whole.specs.Index.{index}

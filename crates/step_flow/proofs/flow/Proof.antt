@@ -1,5 +1,6 @@
 -- `step_flow::flow` meets its contract: the first j lines with what is found, and the sums of what the first j legs carry. Assumes nothing.
-use Rattle.whole.specs.Plain.{ℕ, ◌+◌, ◌-◌, ◌≤◌, ◌<◌, ◌≡◌, refl, ap, ◌∙◌, List, [], ◌+ℤ◌, set, take, length, get_or}
+use Rattle.std.specs.Prelude.{◌+◌, ◌-◌, ◌≤◌, ◌<◌, ◌≡◌, ◌+ℤ◌}
+use Rattle.whole.specs.Plain.{ℕ, refl, ap, ◌∙◌, List, [], set, take, length, get_or}
 use Rattle.whole.specs.Plain.{take_all, arith, Words, word}
 use native.Mathlib.Numerals.{add-one}
 use borrow.Author.Rules.{rules}

@@ -1,5 +1,6 @@
 -- `step_flow::keep` meets its contract: two words of one line, one after the other. Assumes nothing.
-use Rattle.whole.specs.Plain.{ℕ, ◌<◌, ◌≡◌, ◌∙◌, List, [], ℤ, set, length, get_or, get_or-set_same, set-set, Words}
+use Rattle.std.specs.Prelude.{◌<◌, ◌≡◌}
+use Rattle.whole.specs.Plain.{ℕ, ◌∙◌, List, [], ℤ, set, length, get_or, get_or-set_same, set-set, Words}
 use borrow.Author.Rules.{rules}
 use Rattle.whole.specs.Int.{read64}
 use Rattle.step_flow.specs.Flown.{keeping}

@@ -1,5 +1,6 @@
 -- `step_flow::passed_on` meets its contract. Assumes nothing.
-use Rattle.whole.specs.Plain.{◌≡◌, ◌∙◌, ⊎_elim, true, ◌||◌, eqb, ℤ, pos, neg_ℤ, ◌-ℤ◌, +ℤ_idl, eq-eqb, ne_eqb, arith}
+use Rattle.std.specs.Prelude.{◌≡◌, ◌||◌, ◌-ℤ◌}
+use Rattle.whole.specs.Plain.{◌∙◌, ⊎_elim, true, eqb, ℤ, pos, neg_ℤ, +ℤ_idl, eq-eqb, ne_eqb, arith}
 use mir.Syntax.{w64}
 use mir.Val.{SFits, to_z, of_z}
 use mir.Facts.{to_z-of_z}

@@ -1,5 +1,6 @@
 -- `step_histories::hear` meets its contract: before leg j the first j lines have their histories. Assumes nothing.
-use Rattle.whole.specs.Plain.{ℕ, ◌<◌, ◌≡◌, refl, ap, ◌∙◌, List, [], length, get_or, arith, Words}
+use Rattle.std.specs.Prelude.{◌<◌, ◌≡◌}
+use Rattle.whole.specs.Plain.{ℕ, refl, ap, ◌∙◌, List, [], length, get_or, arith, Words}
 use Rattle.std.proofs.Common.{add-one}
 use Rattle.whole.specs.Int.{read64}
 use Rattle.step_legs.specs.Wires.{wire_in}

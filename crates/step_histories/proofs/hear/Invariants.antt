@@ -1,5 +1,6 @@
 -- `step_histories::hear` meets its contract: before leg j the first j lines have their histories. Assumes nothing.
-use Rattle.whole.specs.Plain.{◌-◌, ◌≤◌, ◌≡◌, length}
+use Rattle.std.specs.Prelude.{◌-◌, ◌≤◌, ◌≡◌}
+use Rattle.whole.specs.Plain.{length}
 use Rattle.step_legs.specs.Written.{written_to}
 use Rattle.step_histories.specs.Heard.{heard_line}
 use Rattle.step_histories.proofs.hear.Given as goal

@@ -1,5 +1,6 @@
 -- `step_histories::held` meets its contract. Assumes nothing.
-use Rattle.whole.specs.Plain.{◌≤◌, ◌≡◌, ℤ, nat_abs, neg_ℤ, ◌-ℤ◌, +ℤ_idl, eq-eqb, ne_eqb, arith, z, word}
+use Rattle.std.specs.Prelude.{◌≤◌, ◌≡◌, ◌-ℤ◌}
+use Rattle.whole.specs.Plain.{ℤ, nat_abs, neg_ℤ, +ℤ_idl, eq-eqb, ne_eqb, arith, z, word}
 use mir.Syntax.{w64}
 use mir.Val.{SFits}
 use mir.Facts.{to_z-of_z}

@@ -1,5 +1,6 @@
 -- `step_latch::part` meets its contract: the current that it compares with is that of the records as they stand. Assumes nothing.
-use Rattle.whole.specs.Plain.{◌≡◌, sym, ◌∙◌, pos, eq-eqb, ne_eqb, arith, word}
+use Rattle.std.specs.Prelude.{◌≡◌}
+use Rattle.whole.specs.Plain.{sym, ◌∙◌, pos, eq-eqb, ne_eqb, arith, word}
 use mir.Syntax.{w64}
 use mir.Val.{to_z}
 use mir.Facts.{to_z-of_z, to_z_pos}

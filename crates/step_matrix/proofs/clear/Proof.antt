@@ -1,5 +1,6 @@
 -- `step_matrix::clear` meets its contract: the first p lines of the block are zeros. Assumes nothing.
-use Rattle.whole.specs.Plain.{◌-◌, ◌≤◌, ◌≡◌, arith}
+use Rattle.std.specs.Prelude.{◌-◌, ◌≤◌, ◌≡◌}
+use Rattle.whole.specs.Plain.{arith}
 use lib.Ieee.{of_bits}
 use Rattle.step_matrix.specs.Cleared.{Cleared, cleared_none, cleared_more}
 use Rattle.step_matrix.proofs.clear.Statement.{statement}

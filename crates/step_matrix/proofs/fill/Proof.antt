@@ -1,5 +1,6 @@
 -- `step_matrix::fill` meets its contract: the block of the first j legs. Assumes nothing.
-use Rattle.whole.specs.Plain.{◌-◌, ◌≤◌, length, take, arith}
+use Rattle.std.specs.Prelude.{◌-◌, ◌≤◌}
+use Rattle.whole.specs.Plain.{length, take, arith}
 use borrow.Author.Rules.{rules}
 use mir.Syntax.{w64}
 use mir.Val.{SFits}

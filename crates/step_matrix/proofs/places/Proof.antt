@@ -1,5 +1,6 @@
 -- `step_matrix::places` meets its contract: the first i free nodes have their places. Assumes nothing.
-use Rattle.whole.specs.Plain.{◌-◌, ◌≤◌, ◌<◌, ◌≡◌, length, get_or, arith}
+use Rattle.std.specs.Prelude.{◌-◌, ◌≤◌, ◌<◌, ◌≡◌}
+use Rattle.whole.specs.Plain.{length, get_or, arith}
 use borrow.Author.Rules.{rules}
 use Rattle.step_matrix.specs.Placed.{Placed, placed_none, placed_more}
 use Rattle.step_matrix.proofs.places.Statement.{statement}

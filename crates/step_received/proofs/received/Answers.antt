@@ -1,5 +1,6 @@
 -- `step_received::received` meets its contract: the part is read as the store is. Assumes nothing.
-use Rattle.whole.specs.Plain.{◌≡◌, ◌∙◌, ap, length, arith}
+use Rattle.std.specs.Prelude.{◌≡◌}
+use Rattle.whole.specs.Plain.{◌∙◌, ap, length, arith}
 use Rattle.whole.specs.Int.{read64}
 use Rattle.step_received.specs.Received.{part_length, part_heard}
 use Rattle.step_received.proofs.received.Goals as goal

@@ -1,5 +1,6 @@
 -- `step_received::sent` meets its contract. Assumes nothing.
-use Rattle.whole.specs.Plain.{◌+◌, ◌-◌, ◌%◌, ◌<◌, ◌≡◌, ◌∙◌, ap, length, mod-lt, arith, word}
+use Rattle.std.specs.Prelude.{◌+◌, ◌-◌, ◌%◌, ◌<◌, ◌≡◌}
+use Rattle.whole.specs.Plain.{◌∙◌, ap, length, mod-lt, arith, word}
 use Rattle.whole.specs.Int.{read64}
 use Rattle.step_received.specs.Received.{heard_before, heard_after}
 use Rattle.step_received.proofs.sent.Goals as goal

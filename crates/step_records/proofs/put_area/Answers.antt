@@ -1,5 +1,6 @@
 -- `step_records::put_area` meets its contract. Assumes nothing.
-use Rattle.whole.specs.Plain.{◌≡◌, pos, arith}
+use Rattle.std.specs.Prelude.{◌≡◌}
+use Rattle.whole.specs.Plain.{pos, arith}
 use mir.Syntax.{w64}
 use mir.Val.{to_z}
 use mir.Facts.{to_z_pos}

@@ -1,5 +1,6 @@
 -- `step_records::put_node` meets its contract: the peak that it compares with is that of the records as they stand. Assumes nothing.
-use Rattle.whole.specs.Plain.{◌+◌, ◌-◌, ◌≡◌, ap, ◌∙◌, ℤ, pos, nat_abs, length-set, set, arith, word}
+use Rattle.std.specs.Prelude.{◌+◌, ◌-◌, ◌≡◌}
+use Rattle.whole.specs.Plain.{ap, ◌∙◌, ℤ, pos, nat_abs, length-set, set, arith, word}
 use mir.Syntax.{w64}
 use mir.Val.{SFits, to_z, of_z}
 use mir.Facts.{to_z-of_z, to_z_pos}

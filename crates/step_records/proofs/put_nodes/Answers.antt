@@ -1,5 +1,6 @@
 -- `step_records::put_nodes` meets its contract: the nodes that are left lead to the answer. Assumes nothing.
-use Rattle.whole.specs.Plain.{ℕ, ◌≡◌, refl, get_or, arith, Words, word}
+use Rattle.std.specs.Prelude.{◌≡◌}
+use Rattle.whole.specs.Plain.{ℕ, refl, get_or, arith, Words, word}
 use mir.Syntax.{w64}
 use mir.Val.{to_z, of_z}
 use mir.Facts.{to_z-of_z}

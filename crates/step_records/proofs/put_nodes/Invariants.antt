@@ -1,5 +1,6 @@
 -- `step_records::put_nodes` meets its contract: the nodes that are left lead to the answer. Assumes nothing.
-use Rattle.whole.specs.Plain.{ℕ, ◌-◌, ◌≤◌, ◌≡◌, length, drop, Words, word, fold}
+use Rattle.std.specs.Prelude.{◌-◌, ◌≤◌, ◌≡◌}
+use Rattle.whole.specs.Plain.{ℕ, length, drop, Words, word, fold}
 use Rattle.step_records.specs.Records.{node_put, nodes_put}
 use Rattle.step_records.proofs.put_nodes.Given as goal
 

@@ -1,5 +1,6 @@
 -- `step_send::put_sent` meets its contract: of the whole store only the one slot changes. Assumes nothing.
-use Rattle.whole.specs.Plain.{◌+◌, ◌-◌, ◌%◌, ◌≡◌, ◌∙◌, ap, set, length, length-take, length-drop, mod-lt, arith}
+use Rattle.std.specs.Prelude.{◌+◌, ◌-◌, ◌%◌, ◌≡◌}
+use Rattle.whole.specs.Plain.{◌∙◌, ap, set, length, length-take, length-drop, mod-lt, arith}
 use borrow.Rule.Slice.PartMut.{put_mid, mid_of, set_mid_at}
 use mir.Facts.{to_z-of_z}
 use Rattle.step_send.proofs.put_sent.Goals as goal

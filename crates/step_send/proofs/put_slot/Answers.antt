@@ -1,5 +1,6 @@
 -- `step_send::put_slot` meets its contract. Assumes nothing.
-use Rattle.whole.specs.Plain.{◌%◌, ◌<◌, length, mod-lt, arith}
+use Rattle.std.specs.Prelude.{◌%◌, ◌<◌}
+use Rattle.whole.specs.Plain.{length, mod-lt, arith}
 use Rattle.step_send.proofs.put_slot.Goals as goal
 
 inside : (c : goal.Start) → c.args.k % length c.args.ring.now < length c.args.ring.now

@@ -1,5 +1,6 @@
 -- `step_solve::draws` meets its contract: the sums over the first j legs. Assumes nothing.
-use Rattle.whole.specs.Plain.{ℕ, ◌+◌, ◌-◌, ◌≤◌, ◌<◌, ◌≡◌, refl, ◌∙◌, List, ◌+ℤ◌, set, length, take, take-length, arith, Words}
+use Rattle.std.specs.Prelude.{◌+◌, ◌-◌, ◌≤◌, ◌<◌, ◌≡◌, ◌+ℤ◌}
+use Rattle.whole.specs.Plain.{ℕ, refl, ◌∙◌, List, set, length, take, take-length, arith, Words}
 use Rattle.whole.specs.Plain.{word}
 use mir.Facts.{to_z-of_z}
 use mir.Syntax.{w64}

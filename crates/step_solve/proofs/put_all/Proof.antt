@@ -1,5 +1,6 @@
 -- `step_solve::put_all` meets its contract: the first i are within the range. Assumes nothing.
-use Rattle.whole.specs.Plain.{◌-◌, ◌≤◌, ◌≡◌, sym, ◌∙◌, length, not-true, not-false, arith}
+use Rattle.std.specs.Prelude.{◌-◌, ◌≤◌, ◌≡◌}
+use Rattle.whole.specs.Plain.{sym, ◌∙◌, length, not-true, not-false, arith}
 use Rattle.step_solve.specs.Settling.{SettledTo, settled_none, settled_more, settled_out, settled_all}
 use Rattle.step_solve.proofs.put_all.Statement.{statement}
 use Rattle.step_solve.proofs.put_all.Tie as tie

@@ -1,5 +1,6 @@
 -- `step_solve::right_sides` meets its contract: the first i. Assumes nothing.
-use Rattle.whole.specs.Plain.{◌-◌, ◌≤◌, ◌<◌, ◌≡◌, refl, get_or, length, arith}
+use Rattle.std.specs.Prelude.{◌-◌, ◌≤◌, ◌<◌, ◌≡◌}
+use Rattle.whole.specs.Plain.{refl, get_or, length, arith}
 use mir.Facts.{to_z-of_z}
 use Rattle.step_solve.specs.Rights.{Rights, rights_more}
 use Rattle.step_solve.proofs.right_sides.Statement.{statement}

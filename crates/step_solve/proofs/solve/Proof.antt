@@ -1,5 +1,6 @@
 -- `step_solve::solve` meets its contract: the factors serve these right sides. Assumes nothing.
-use Rattle.whole.specs.Plain.{◌≤◌, refl, ap, ◌∙◌, length, arith, word}
+use Rattle.std.specs.Prelude.{◌≤◌}
+use Rattle.whole.specs.Plain.{refl, ap, ◌∙◌, length, arith, word}
 use borrow.Author.Rules.{rules}
 use Rattle.step_legs.specs.Wires.{legs_in}
 use Rattle.step_factors.specs.Proposed.{kept_proposed}

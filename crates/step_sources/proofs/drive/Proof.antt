@@ -1,5 +1,6 @@
 -- `step_sources::drive` meets its contract: the sources that are left lead to the answer, and those passed have left room. Assumes nothing.
-use Rattle.whole.specs.Plain.{ℕ, ◌+◌, ◌-◌, ◌≤◌, ◌<◌, ◌≡◌, ap, ◌∙◌, Bool, List, [], length, get_or, drop, le_trans, arith, Words}
+use Rattle.std.specs.Prelude.{◌+◌, ◌-◌, ◌≤◌, ◌<◌, ◌≡◌}
+use Rattle.whole.specs.Plain.{ℕ, ap, ◌∙◌, Bool, List, [], length, get_or, drop, le_trans, arith, Words}
 use Rattle.whole.specs.Plain.{fold}
 use Rattle.whole.specs.Folds.{fold_next, fold_end}
 use Rattle.paper.specs.Rows.{Row, is_fixing, is_iS}

@@ -1,5 +1,6 @@
 -- `step_sources::drive_one` meets its contract: one answer for each kind of source. Assumes nothing.
-use Rattle.whole.specs.Plain.{ℕ, ◌*◌, ◌≤◌, ◌<◌, ◌≡◌, refl, sym, ap, ◌∙◌, Bool, true, false, ◌||◌, [], eqb, ℤ, pos, neg_ℤ, nat_abs, le_z, ◌+ℤ◌, ◌-ℤ◌, +ℤ_idl, neg_ℤ-neg_ℤ, get_or, set}
+use Rattle.std.specs.Prelude.{◌*◌, ◌≤◌, ◌<◌, ◌≡◌, ◌||◌, ◌+ℤ◌, ◌-ℤ◌}
+use Rattle.whole.specs.Plain.{ℕ, refl, sym, ap, ◌∙◌, Bool, true, false, [], eqb, ℤ, pos, neg_ℤ, nat_abs, le_z, +ℤ_idl, neg_ℤ-neg_ℤ, get_or, set}
 use Rattle.whole.specs.Plain.{eq-eqb, ne_eqb, eqb-true, le-leb, le_trans, arith, Words, word, nat}
 use borrow.Author.Rules.{rules}
 use mir.Syntax.{w64}

@@ -1,5 +1,6 @@
 -- `step_sources::ramp` meets its contract: one answer for each of its three cases. Assumes nothing.
-use Rattle.whole.specs.Plain.{◌≡◌, ◌∙◌, true, false, ◌*ℤ◌, quot_z, lt_z, z}
+use Rattle.std.specs.Prelude.{◌≡◌, ◌*ℤ◌}
+use Rattle.whole.specs.Plain.{◌∙◌, true, false, quot_z, lt_z, z}
 use mir.Syntax.{w64}
 use mir.Val.{SFits}
 use mir.Facts.{to_z-of_z}

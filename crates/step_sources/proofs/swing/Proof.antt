@@ -1,5 +1,6 @@
 -- `step_sources::swing` meets its contract: the products fit, and the index is one of the table's. Assumes nothing.
-use Rattle.whole.specs.Plain.{ℕ, ◌*◌, ◌/◌, ◌%◌, ◌^◌, ◌≡◌, ◌∙◌, false, pos, ◌*ℤ◌, quot_z, lt_z, arith, z, nat}
+use Rattle.std.specs.Prelude.{◌*◌, ◌/◌, ◌%◌, ◌^◌, ◌≡◌, ◌*ℤ◌}
+use Rattle.whole.specs.Plain.{ℕ, ◌∙◌, false, pos, quot_z, lt_z, arith, z, nat}
 use borrow.Author.Rules.{rules}
 use mir.Syntax.{w64}
 use mir.Val.{SFits, to_z, of_z}

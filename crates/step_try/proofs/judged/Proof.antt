@@ -1,5 +1,6 @@
 -- `step_try::judged` meets its contract. Assumes nothing.
-use Rattle.whole.specs.Plain.{◌≡◌, sym, drop, arith, nat}
+use Rattle.std.specs.Prelude.{◌≡◌}
+use Rattle.whole.specs.Plain.{sym, drop, arith, nat}
 use borrow.Author.Rules.{rules}
 use mir.Facts.{to_z-of_z}
 use Rattle.whole.specs.Size.{fits}

@@ -1,5 +1,6 @@
 -- `step_try::try_step` meets its contract: each part gives what the next asks, and the whole is the paper's step. Assumes nothing.
-use Rattle.whole.specs.Plain.{ℕ, ◌≡◌, refl, ap, ◌∙◌, List, arith, Words}
+use Rattle.std.specs.Prelude.{◌≡◌}
+use Rattle.whole.specs.Plain.{ℕ, refl, ap, ◌∙◌, List, arith, Words}
 use borrow.Author.Rules.{rules}
 use Rattle.paper.specs.declared.Advance.TheVariants.{Took, Range}
 use Rattle.paper.specs.Areas.{Net}

@@ -1,5 +1,6 @@
 -- what the test tells of the row
-use Rattle.whole.specs.Plain.{ℕ, Bool, Words, ◌≡◌, sym, ap, ◌∙◌, true, set_out, arith}
+use Rattle.std.specs.Prelude.{◌≡◌}
+use Rattle.whole.specs.Plain.{ℕ, Bool, Words, sym, ap, ◌∙◌, true, set_out, arith}
 use Rattle.paper.specs.Rows.{kind, fixing_kind, is_fixing}
 use Rattle.text_faults.specs.Seen.{fixed_after}
 use Rattle.text_faults.proofs.fixed_after.Goals as goal

@@ -1,5 +1,6 @@
 -- of a line
-use Rattle.whole.specs.Plain.{ℕ, length, false, nat, word, Words, ◌%◌, ◌≤◌, ◌≡◌, sym, ◌∙◌, eqb, eq-eqb, ne_eqb, div-le_self, arith}
+use Rattle.std.specs.Prelude.{◌%◌, ◌≤◌, ◌≡◌}
+use Rattle.whole.specs.Plain.{ℕ, length, false, nat, word, Words, sym, ◌∙◌, eqb, eq-eqb, ne_eqb, div-le_self, arith}
 use Rattle.paper.specs.Rows.{kind}
 use Rattle.paper.specs.Faults.{value_fault, depth, slots}
 use Rattle.text_faults.specs.Seen.{head_of}

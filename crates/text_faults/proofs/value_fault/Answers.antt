@@ -1,5 +1,6 @@
 -- the fields that name no node
-use Rattle.whole.specs.Plain.{ℕ, ◌<◌, ◌≤◌, Words, length, ◌≡◌, ◌∙◌, sym, false, tail}
+use Rattle.std.specs.Prelude.{◌<◌, ◌≤◌, ◌≡◌}
+use Rattle.whole.specs.Plain.{ℕ, Words, length, ◌∙◌, sym, false, tail}
 use Rattle.whole.specs.Plain.{lt-ltb, le-ltb, arith}
 use Rattle.paper.specs.Rows.{kind, fields_of}
 use Rattle.paper.specs.Faults.{node_fault, outside}

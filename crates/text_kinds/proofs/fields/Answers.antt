@@ -1,4 +1,5 @@
-use Rattle.whole.specs.Plain.{ℕ, ◌≡◌, refl, arith, length}
+use Rattle.std.specs.Prelude.{◌≡◌}
+use Rattle.whole.specs.Plain.{ℕ, refl, arith, length}
 use Rattle.paper.specs.Rows.{bytes, kinds, fields_of}
 use Rattle.text_kinds.specs.Fields.{each}
 use Rattle.text_kinds.proofs.fields.Goals as goal

@@ -1,4 +1,5 @@
-use Rattle.whole.specs.Plain.{ℕ, ◌≡◌, refl, arith, List, [], ◌∷◌, ℤ, pos}
+use Rattle.std.specs.Prelude.{◌≡◌, ◌∷◌}
+use Rattle.whole.specs.Plain.{ℕ, refl, arith, List, [], ℤ, pos}
 use Rattle.whole.specs.Tables.{table, entries}
 use Rattle.paper.specs.Rows.{bytes, kinds, fields_of}
 use Rattle.text_kinds.specs.Table.{highs_of, high}

@@ -1,5 +1,6 @@
 -- `text_kinds::in_range` meets its contract: from the i-th field on. Assumes nothing.
-use Rattle.whole.specs.Plain.{ℕ, ◌<◌, ◌+◌, ◌≡◌, ◌∙◌, sym, Bool, List, ℤ, pos, get_or, arith, between}
+use Rattle.std.specs.Prelude.{◌<◌, ◌+◌, ◌≡◌}
+use Rattle.whole.specs.Plain.{ℕ, ◌∙◌, sym, Bool, List, ℤ, pos, get_or, arith, between}
 use Rattle.std.specs.Int.{w64}
 use Rattle.std.proofs.Common.{SFits, to_z, of_z, to_z-of_z, rules}
 use Rattle.std.proofs.Math.Nat.{sub-zero}

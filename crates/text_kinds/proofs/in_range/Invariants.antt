@@ -1,5 +1,5 @@
 -- `text_kinds::in_range` meets its contract: from the i-th field on. Assumes nothing.
-use Rattle.whole.specs.Plain.{◌≤◌, ◌-◌, ◌≡◌}
+use Rattle.std.specs.Prelude.{◌≤◌, ◌-◌, ◌≡◌}
 use Rattle.text_kinds.specs.Table.{first_outside, in_range}
 use Rattle.text_kinds.proofs.in_range.Given as goal
 

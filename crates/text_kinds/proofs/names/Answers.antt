@@ -1,4 +1,5 @@
-use Rattle.whole.specs.Plain.{ℕ, ◌≡◌, refl, arith, count}
+use Rattle.std.specs.Prelude.{◌≡◌}
+use Rattle.whole.specs.Plain.{ℕ, refl, arith, count}
 use Rattle.paper.specs.Rows.{bytes, kinds, fields_of}
 use Rattle.text_kinds.specs.Table.{names_of}
 use Rattle.text_kinds.specs.Fields.{each}

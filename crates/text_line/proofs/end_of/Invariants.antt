@@ -1,4 +1,5 @@
-use Rattle.whole.specs.Plain.{◌≤◌, ◌-◌, ◌+◌, ◌≡◌, length, drop}
+use Rattle.std.specs.Prelude.{◌≤◌, ◌-◌, ◌+◌, ◌≡◌}
+use Rattle.whole.specs.Plain.{length, drop}
 use Rattle.text_line.specs.Parts.{field_of}
 use Rattle.text_line.proofs.end_of.Given as goal
 

@@ -1,4 +1,5 @@
-use Rattle.whole.specs.Plain.{ℕ, ◌+◌, ◌≡◌, ◌∙◌, ap, Bool, not, List, ℤ, pos, get_or, set, arith}
+use Rattle.std.specs.Prelude.{◌+◌, ◌≡◌}
+use Rattle.whole.specs.Plain.{ℕ, ◌∙◌, ap, Bool, not, List, ℤ, pos, get_or, set, arith}
 use Rattle.std.specs.Int.{w64}
 use Rattle.std.proofs.Common.{to_z-of_z}
 use Rattle.whole.specs.Int.{read64}

@@ -1,4 +1,5 @@
-use Rattle.whole.specs.Plain.{◌≤◌, ◌-◌, ◌≡◌, length}
+use Rattle.std.specs.Prelude.{◌≤◌, ◌-◌, ◌≡◌}
+use Rattle.whole.specs.Plain.{length}
 use Rattle.whole.specs.Turns.{turns}
 use Rattle.paper.specs.Rows.{fields_of}
 use Rattle.text_line.specs.Walks.{field_at}

@@ -1,4 +1,5 @@
-use Rattle.whole.specs.Plain.{◌+◌, ◌≡◌, refl, sym, ◌∙◌, ap, Bool, true, false, ◌&&◌, drop, get_or}
+use Rattle.std.specs.Prelude.{◌+◌, ◌≡◌, ◌&&◌}
+use Rattle.whole.specs.Plain.{refl, sym, ◌∙◌, ap, Bool, true, false, drop, get_or}
 use Rattle.whole.specs.Plain.{arith, every, fold}
 use Rattle.whole.specs.Folds.{every_more, every_done, fold_next, fold_end}
 use Rattle.paper.specs.Text.{digit}

@@ -1,4 +1,5 @@
-use Rattle.whole.specs.Plain.{◌≤◌, ◌-◌, ◌≡◌, length, drop}
+use Rattle.std.specs.Prelude.{◌≤◌, ◌-◌, ◌≡◌}
+use Rattle.whole.specs.Plain.{length, drop}
 use Rattle.whole.specs.Plain.{every, fold}
 use Rattle.paper.specs.Text.{digit}
 use Rattle.text_words.specs.Numbers.{held_end, held}

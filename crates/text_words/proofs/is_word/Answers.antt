@@ -1,5 +1,6 @@
 -- the letter is the word's
-use Rattle.whole.specs.Plain.{ℕ, ◌<◌, ◌≡◌, refl, sym, ◌∙◌, List, get_or, arith}
+use Rattle.std.specs.Prelude.{◌<◌, ◌≡◌}
+use Rattle.whole.specs.Plain.{ℕ, refl, sym, ◌∙◌, List, get_or, arith}
 use Rattle.paper.specs.Rows.{word_of}
 use Rattle.text_words.specs.Words.{letters_of, word_short, letter_at, same_other, same_here, same_next, same_done}
 use Rattle.text_words.proofs.is_word.Goals as goal

@@ -1,5 +1,6 @@
 -- the letter is the word's
-use Rattle.whole.specs.Plain.{◌-◌, ◌≡◌, length, drop, same_bytes}
+use Rattle.std.specs.Prelude.{◌-◌, ◌≡◌}
+use Rattle.whole.specs.Plain.{length, drop, same_bytes}
 use Rattle.paper.specs.Rows.{word_of}
 use Rattle.text_words.proofs.is_word.Given as goal
 

@@ -1,4 +1,5 @@
-use Rattle.whole.specs.Plain.{ℕ, ◌≡◌, refl, arith, List, [], ◌∷◌}
+use Rattle.std.specs.Prelude.{◌≡◌, ◌∷◌}
+use Rattle.whole.specs.Plain.{ℕ, refl, arith, List, []}
 use Rattle.whole.specs.Tables.{table, entries}
 use Rattle.paper.specs.Rows.{bytes, kinds, word_of}
 use Rattle.text_kinds.specs.Fields.{the_last}

@@ -1,5 +1,6 @@
 -- the field begins with a minus, and may; or not
-use Rattle.whole.specs.Plain.{ℕ, List, true, false, ◌≤◌, ◌≡◌, sym, ◌∙◌, ap, Bool, ◌&&◌, eqb, ℤ, get_or}
+use Rattle.std.specs.Prelude.{◌≤◌, ◌≡◌, ◌&&◌}
+use Rattle.whole.specs.Plain.{ℕ, List, true, false, sym, ◌∙◌, ap, Bool, eqb, ℤ, get_or}
 use Rattle.whole.specs.Folds.{and_right}
 use Rattle.text_words.specs.declared.Digits.{Digits}
 use Rattle.text_words.specs.declared.Number.{Number}

@@ -1,5 +1,6 @@
 -- `text_write::put_fields` meets its contract. The invariant: what is put so far, and the fields that are left. Assumes nothing.
-use Rattle.whole.specs.Plain.{◌≤◌, ◌-◌, sym, arith, length, drop}
+use Rattle.std.specs.Prelude.{◌≤◌, ◌-◌}
+use Rattle.whole.specs.Plain.{sym, arith, length, drop}
 use Rattle.whole.specs.Int.{read64}
 use Rattle.paper.specs.Listing.{shown_all}
 use Rattle.list_digits.specs.Puts.{Going, going_start, going_room, going_on, going_last, room_first, puts_as, puts_length}

@@ -1,5 +1,6 @@
 -- `text_write::put_kind` meets its contract: the letters that the table has, as many as the word has. Assumes nothing.
-use Rattle.whole.specs.Plain.{ℕ, ◌≤◌, ◌≡◌, sym, ap, ◌∙◌, arith, length, take, length-take-le}
+use Rattle.std.specs.Prelude.{◌≤◌, ◌≡◌}
+use Rattle.whole.specs.Plain.{ℕ, sym, ap, ◌∙◌, arith, length, take, length-take-le}
 use borrow.Author.Rules.{rules}
 use Rattle.paper.specs.Rows.{word_of}
 use Rattle.text_words.specs.Words.{word_short}

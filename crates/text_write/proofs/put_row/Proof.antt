@@ -1,5 +1,6 @@
 -- `text_write::put_row` meets its contract: the row's fields are the record's own words behind its kind. Assumes nothing.
-use Rattle.whole.specs.Plain.{◌+◌, ◌*◌, ◌-◌, ◌<◌, ◌≤◌, ◌≡◌, le_of_eq, le_trans, arith, take, drop}
+use Rattle.std.specs.Prelude.{◌+◌, ◌*◌, ◌-◌, ◌<◌, ◌≤◌, ◌≡◌}
+use Rattle.whole.specs.Plain.{le_of_eq, le_trans, arith, take, drop}
 use borrow.Author.Rules.{rules}
 use Rattle.paper.specs.Rows.{word_of}
 use Rattle.paper.specs.Listing.{line_of}

@@ -1,5 +1,6 @@
 -- `text_write::put_rows` meets its contract. The invariant: what is put so far, and the lines that are left. Assumes nothing.
-use Rattle.whole.specs.Plain.{◌≤◌, ◌<◌, ◌-◌, sym, arith, length, drop}
+use Rattle.std.specs.Prelude.{◌≤◌, ◌<◌, ◌-◌}
+use Rattle.whole.specs.Plain.{sym, arith, length, drop}
 use Rattle.paper.specs.Writing.{text_of}
 use Rattle.laws_facts.specs.Nets.{net_in}
 use Rattle.list_digits.specs.Puts.{Going, going_start, going_room, going_on, going_last, room_first, puts_none, puts_as, puts_length}

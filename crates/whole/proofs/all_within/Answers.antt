@@ -1,4 +1,5 @@
-use Rattle.whole.specs.Plain.{ℕ, ◌<◌, ◌^◌, ◌+◌, ◌≡◌, refl, sym, ap, ◌∙◌, Bool, ◌&&◌, and_assoc, and-true}
+use Rattle.std.specs.Prelude.{◌<◌, ◌^◌, ◌+◌, ◌≡◌, ◌&&◌}
+use Rattle.whole.specs.Plain.{ℕ, refl, sym, ap, ◌∙◌, Bool, and_assoc, and-true}
 use Rattle.whole.specs.Plain.{mag, ltb, ℤ, pos, nat_abs, le_z, get_or, drop, arith, every, up_to}
 use Rattle.std.specs.Int.Bits.{bit_or}
 use mir.Syntax.{w64}

@@ -1,5 +1,6 @@
 -- The invariant: the sign gathered so far, and the words that are left, say together what all words say.
-use Rattle.whole.specs.Plain.{◌≤◌, ◌-◌, ◌≡◌, ◌&&◌, pos, nat_abs, le_z, length, drop, every, up_to}
+use Rattle.std.specs.Prelude.{◌≤◌, ◌-◌, ◌≡◌, ◌&&◌}
+use Rattle.whole.specs.Plain.{pos, nat_abs, le_z, length, drop, every, up_to}
 use Rattle.whole.proofs.all_within.Given as goal
 
 abbrev pub invariant-loop-i : goal.invariant-loop-i

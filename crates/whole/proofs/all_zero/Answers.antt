@@ -1,5 +1,6 @@
 -- The invariant: the bits gathered so far, and the words that are left, say together what all words say.
-use Rattle.whole.specs.Plain.{ℕ, ℤ, ◌<◌, ◌^◌, mag, ◌+◌, ◌≡◌, sym, ap, ◌∙◌, Bool, ◌&&◌, and_assoc, and-true, eqb, pos}
+use Rattle.std.specs.Prelude.{◌<◌, ◌^◌, ◌+◌, ◌≡◌, ◌&&◌}
+use Rattle.whole.specs.Plain.{ℕ, ℤ, mag, sym, ap, ◌∙◌, Bool, and_assoc, and-true, eqb, pos}
 use Rattle.whole.specs.Plain.{get_or, drop, arith, every, up_to}
 use mir.Syntax.{w64}
 use mir.Val.{of_z, to_z, Fits}

@@ -1,5 +1,6 @@
 -- The invariant: the bits gathered so far, and the words that are left, say together what all words say.
-use Rattle.whole.specs.Plain.{◌≤◌, ◌-◌, ◌≡◌, ◌&&◌, eqb}
+use Rattle.std.specs.Prelude.{◌≤◌, ◌-◌, ◌≡◌, ◌&&◌}
+use Rattle.whole.specs.Plain.{eqb}
 use Rattle.whole.specs.Plain.{length, drop, every, up_to}
 use mir.Syntax.{w64}
 use mir.Val.{of_z}

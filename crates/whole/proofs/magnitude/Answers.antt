@@ -1,5 +1,6 @@
 -- `whole::magnitude` meets its contract. Assumes nothing.
-use Rattle.whole.specs.Plain.{◌≡◌, subst, true, false, ℤ, pos, lt_z, arith}
+use Rattle.std.specs.Prelude.{◌≡◌}
+use Rattle.whole.specs.Plain.{subst, true, false, ℤ, pos, lt_z, arith}
 use native.Mathlib.Numerals.{add-one}
 use mir.Facts.{to_z-of_z}
 use Rattle.whole.proofs.Negated.{plus_fits, minus_fits, read, from_zero, below_zero}

@@ -1,4 +1,5 @@
-use Rattle.whole.specs.Plain.{◌≡◌, sym, subst, ◌+ℤ◌, ◌-ℤ◌}
+use Rattle.std.specs.Prelude.{◌≡◌, ◌+ℤ◌, ◌-ℤ◌}
+use Rattle.whole.specs.Plain.{sym, subst}
 use mir.Syntax.{w64}
 use mir.Val.{SFits}
 use mir.Facts.{to_z-of_z}
