@@ -1,5 +1,5 @@
 -- A record's rows, replayed one by one. Assumes nothing.
-use Rattle.std.specs.Prelude.{◌+◌, ◌*◌, ◌-◌, ◌≤◌, ◌<◌, ◌≡◌, ◌&&◌, ◌||◌, ◌∷◌, ◌++◌}
+use Rattle.std.specs.Prelude.{◌+◌, ◌*◌, ◌≤◌, ◌<◌, ◌≡◌, ◌&&◌, ◌||◌, ◌∷◌, ◌++◌}
 use Rattle.whole.specs.Plain.{ℕ, zero, suc, refl, sym, ap, ◌∙◌, true, false}
 use Rattle.whole.specs.Plain.{bool_beq, [], append_assoc, append-nil, ltb, lit≤, ℤ, pos, negsuc, le_z, length}
 use Rattle.whole.specs.Plain.{get_or, take, drop, length-take, length-drop, get_or-eq_default, take-suc, drop-drop}

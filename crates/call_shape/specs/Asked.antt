@@ -1,7 +1,7 @@
 -- How a network is laid out, asked of its record alone: how many areas there are, a node's area, a branch's row. 9 for its length, 8, then 2 where there is no such
 -- node or branch. Assumes nothing.
 use Rattle.std.specs.Prelude.{◌+◌, ◌-◌, ◌<◌, ◌≡◌, ◌&&◌}
-use Rattle.whole.specs.Plain.{ℕ, zero, suc, refl, sym, ◌∙◌, true, false, cond, not, leb, eqb, length, arith, Words}
+use Rattle.whole.specs.Plain.{ℕ, zero, suc, refl, cond, not, leb, eqb, length, arith, Words}
 use Rattle.paper.specs.Limits as Limits
 use Rattle.paper.specs.Network.{is_network, table_of}
 use Rattle.paper.specs.Areas.{Net, net_of, area_of, area_count, branch_number}

@@ -1,6 +1,6 @@
 -- What a well-formed state gives its callers: counts that are numbers of steps, none past the study's. Assumes nothing.
 use Rattle.std.specs.Prelude.{◌+◌, ◌-◌, ◌≤◌, ◌≡◌}
-use Rattle.whole.specs.Plain.{ℕ, refl, sym, ap, ◌∙◌, true, true≢false, List, ℤ, pos, negsuc, non_neg}
+use Rattle.whole.specs.Plain.{ℕ, refl, sym, ap, true, true≢false, List, ℤ, pos, negsuc, non_neg}
 use Rattle.whole.specs.Plain.{length, take, leb-true, eq-eqb, ne_eqb, le_trans, ℕ_discrete, arith, Words, word, nat}
 use Rattle.whole.specs.Plain.{up_to, every}
 use Rattle.whole.specs.Folds.{and_left, and_right}

@@ -58,7 +58,9 @@ pub extern "C" fn emt_advance_in_tables(
     ensures { AdvancesIn room network.now area (memory records.old froms.old tos.old) result place.new
         (memory records.new froms.new tos.new) }
 {
-    emt::emt_advance_in_tables(network, records, froms, tos, area, place, plan, legs, factors, room)
+    emt::emt_advance_in_tables(
+        network, records, froms, tos, area, place, plan, legs, factors, room,
+    )
 }
 
 #[unsafe(no_mangle)]
@@ -111,7 +113,9 @@ pub extern "C" fn emt_list(
     ensures { ListsBy network.now (memory records.old froms.old tos.old) out.old result written.new area.new number.new
         place.new out.new (memory records.new froms.new tos.new) }
 {
-    emt::emt_list(network, records, froms, tos, out, written, area, number, place)
+    emt::emt_list(
+        network, records, froms, tos, out, written, area, number, place,
+    )
 }
 
 #[unsafe(no_mangle)]

@@ -7,4 +7,3 @@ pub mod Layout
 pub mod Joins
 pub mod Areas
 pub mod Nets
-pub mod Places

@@ -1,8 +1,8 @@
 -- The facts of a network, in one record: all that a step, a check or a promise may take as known of a record that passes refusal 8, or of a table
 -- that passes. Assumes nothing.
-use Rattle.std.specs.Prelude.{◌+◌, ◌*◌, ◌≤◌, ◌<◌, ◌≡◌, ◌↔◌, ◌∷◌}
-use Rattle.whole.specs.Plain.{ℕ, zero, suc, max, refl, sym, ap, ◌∙◌, Bool, true, false}
-use Rattle.whole.specs.Plain.{List, [], lit≤, ℤ, pos, length, get_or, take, get_or-eq_default, ne_eqb, dec_lt}
+use Rattle.std.specs.Prelude.{◌+◌, ◌*◌, ◌≤◌, ◌<◌, ◌≡◌, ◌↔◌}
+use Rattle.whole.specs.Plain.{ℕ, suc, max, refl, sym, Bool, true, false}
+use Rattle.whole.specs.Plain.{[], pos, length, get_or, take, get_or-eq_default, ne_eqb, dec_lt}
 use Rattle.whole.specs.Plain.{arith, Words, z, word, nat, count}
 use Rattle.std.proofs.Common.{add-one}
 use Rattle.whole.specs.Folds.{count_next}
@@ -10,9 +10,9 @@ use Rattle.whole.specs.Most.{most_at, most_least}
 use Rattle.whole.specs.Prefix.{sum_below, sum_within, total_alone}
 use Rattle.whole.specs.Written.{count_take}
 use Rattle.paper.specs.Limits as Limits
-use Rattle.paper.specs.Rows.{Row, kinds, fields_of, source_kind, kind, is_branch, is_source, is_line, is_breaker, from, to, travel}
+use Rattle.paper.specs.Rows.{Row, is_branch, is_source, is_line, is_breaker, from, to}
 use Rattle.paper.specs.Faults.{fixes, slots}
-use Rattle.paper.specs.Network.{table_of, passes, is_network}
+use Rattle.paper.specs.Network.{table_of, is_network}
 use Rattle.paper.specs.Areas.{Net, net_of, net_on, area_of, area_count, row_area, joins, branch_number}
 use Rattle.paper.specs.Records.{latch_at, offset, slot_count}
 use Rattle.paper.specs.Latch.{holds}
@@ -21,8 +21,6 @@ use Rattle.paper.specs.Legs.{is_open, conducts}
 use Rattle.laws_paths.specs.Paths.{Linked}
 use Rattle.laws_paths.specs.Meaning.{area_joins}
 use Rattle.laws_facts.specs.Sound.{StudySound, RowSound}
-use Rattle.laws_facts.specs.Table as Tables
-use Rattle.laws_facts.specs.Areas as Areas
 use Rattle.laws_facts.specs.Layout as Layout
 
 abbrev pub row_at : Net → ℕ → Row
@@ -44,50 +42,6 @@ pub record NetSound (N : Net) : Type 0 where
   pub area_one : (i : ℕ) → i < length N.rows → joins (row_at N i) ≡ true → area_of N (from (row_at N i)) ≡ area_of N (to (row_at N i))
   pub area_some : (a : ℕ) → 1 ≤ a → a ≤ area_count N → (n : ℕ) × ((1 ≤ n) × ((n ≤ N.nodes) × (area_of N n ≡ a)))
   pub area_linked : (n p : ℕ) → 1 ≤ n → n ≤ N.nodes → 1 ≤ p → p ≤ N.nodes → Linked (area_joins N.rows) n p ↔ (area_of N n ≡ area_of N p)
-
--- of a table: the study's row and the others
-pub table_sound : (h : Row) (rows : List Row) → passes (h ∷ rows) ≡ true → NetSound (net_of (h ∷ rows))
-unfolding net_of net_on slot_count area_count
-table_sound h rows e =
-    record {
-      study = Tables.study_sound h rows e;
-      row = Tables.row_sound h rows e;
-      node_most = Tables.node_most_lem h rows e;
-      row_most = Tables.row_most_lem h rows e;
-      branch_most = Tables.branch_most_lem h rows e;
-      source_most = Tables.source_most_lem h rows e;
-      slot_most = Tables.slot_most_lem h rows e;
-      once = Tables.once h rows e;
-      area_length = Areas.length_areas h rows e;
-      area_ground = Areas.area_ground_lem h rows e;
-      area_least = Areas.area_least_lem h rows e;
-      area_most = Areas.area_most_lem h rows e;
-      area_one = Areas.one_area h rows e;
-      area_some = λ a l k. Areas.area_some_lem h rows e _ a (omega arith) l (omega (arith, Areas.area_count_lem h rows e, k));
-      area_linked = Areas.area_linked_lem h rows e;
-    }
-
--- ---- the fourth field, of whatever kind
-
-fourth : (r : Row) {head : Row} {nodes : ℕ} → RowSound head nodes r → (Layout.room_of r ≤ 4 → word r 4 ≡ z) → word r 4 ≡ pos (travel r)
-unfolding fields_of source_kind kinds
-fourth r s rest = go (kind r) refl s.kind_least s.kind_most
-  where
-    short : (k : ℕ) → kind r ≡ k → suc (length (fields_of k)) ≤ 4 → word r 4 ≡ pos (travel r)
-    short k e h = let q : word r 4 ≡ z = rest (rw e h) in q ∙ ap (λ (x : ℤ). pos (nat x)) (sym q)
-
-    go : (k : ℕ) → kind r ≡ k → 1 ≤ k → k ≤ 9 → word r 4 ≡ pos (travel r)
-    go zero e l h = absurd (omega arith)
-    go (suc zero) e l h = short 1 e (lit≤ tt)
-    go (suc (suc zero)) e l h = short 2 e (lit≤ tt)
-    go (suc (suc (suc zero))) e l h = short 3 e (lit≤ tt)
-    go (suc (suc (suc (suc zero)))) e l h = (s.line (rw e)).travel_in.is_nat
-    go (suc (suc (suc (suc (suc zero))))) e l h = (s.switch (rw e)).closes_in.is_nat
-    go (suc (suc (suc (suc (suc (suc zero)))))) e l h = (s.source (rw e)).last_in.is_nat
-    go (suc (suc (suc (suc (suc (suc (suc zero))))))) e l h = (s.source (rw e)).last_in.is_nat
-    go (suc (suc (suc (suc (suc (suc (suc (suc zero)))))))) e l h = (s.source (rw e)).last_in.is_nat
-    go (suc (suc (suc (suc (suc (suc (suc (suc (suc zero))))))))) e l h = (s.switch (rw e)).closes_in.is_nat
-    go (suc (suc (suc (suc (suc (suc (suc (suc (suc (suc k)))))))))) e l h = absurd (omega arith)
 
 -- ---- slots: "slots stand in table order"
 
@@ -176,10 +130,6 @@ abbrev pub net_in : Words → Net
 net_in net = net_of (table_of net)
 
 module _ (net : Words) (e : is_network net ≡ true) where
-  pub net_sound : NetSound (net_in net)
-  unfolding table_of
-  net_sound = table_sound _ _ (Layout.recorded net e).pass
-
   pub network_length : length net ≡ Limits.network_words
   network_length = Layout.network_length net e
 
@@ -208,10 +158,6 @@ module _ (net : Words) (e : is_network net ≡ true) where
 
   pub row_beyond : (i j : ℕ) → i < length (net_in net).rows → Layout.room_of (row_at (net_in net) i) ≤ j → word (row_at (net_in net) i) j ≡ z
   row_beyond i j h k = get_or-eq_default (row_at (net_in net) i) z (omega (arith, row_room i h))
-
-  -- a line's travel, a switch's close, a source's rise or frequency, or 0
-  pub travel_word : (i : ℕ) → i < length (net_in net).rows → word (row_at (net_in net) i) 4 ≡ pos (travel (row_at (net_in net) i))
-  travel_word i h = fourth (row_at (net_in net) i) (net_sound.row i h) (row_beyond i 4 h)
 
   pub head_zero : (k : ℕ) → 4 ≤ k → k < 8 → word net k ≡ z
   head_zero = Layout.head_zero net e

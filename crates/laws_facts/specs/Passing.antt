@@ -1,5 +1,5 @@
 -- A table that passes, row by row: each row is sound after those before it. Assumes nothing.
-use Rattle.std.specs.Prelude.{◌+◌, ◌<◌, ◌≡◌, ◌&&◌, ◌∷◌, ◌++◌}
+use Rattle.std.specs.Prelude.{◌<◌, ◌≡◌, ◌&&◌, ◌∷◌, ◌++◌}
 use Rattle.whole.specs.Plain.{ℕ, zero, suc, refl, sym, Bool, true, false, cond, bool_beq, List, []}
 use Rattle.whole.specs.Plain.{tail, append_assoc, append-nil, leb, eqb, length, get_or, take, leb-true}
 use Rattle.whole.specs.Plain.{eqb-true, arith, empty, fold}

@@ -1,8 +1,8 @@
 -- What a line's end receives, by what it reads: one value of the far end where the travel time is a whole number of steps, two where it lies between
 -- steps, and never more than these. Assumes nothing.
-use Rattle.std.specs.Prelude.{◌+◌, ◌-◌, ◌*◌, ◌≤◌, ◌<◌, ◌≡◌, ◌≢◌}
-use Rattle.whole.specs.Plain.{ℕ, refl, sym, ◌∙◌, Bool, true, false, cond, eqb, ltb, ℤ, nat_abs}
-use Rattle.whole.specs.Plain.{eqb-true, eqb-false, ltb-true, eq-eqb, ne_eqb, mod-lt, le_of_lt, arith, z}
+use Rattle.std.specs.Prelude.{◌+◌, ◌-◌, ◌*◌, ◌≤◌, ◌≡◌, ◌≢◌}
+use Rattle.whole.specs.Plain.{ℕ, refl, true, false, cond, eqb, ltb, ℤ, nat_abs}
+use Rattle.whole.specs.Plain.{eqb-true, eqb-false, eq-eqb, ne_eqb, mod-lt, le_of_lt, arith, z}
 use Rattle.whole.specs.Mixing.{mixed_none, mixed_size}
 use Rattle.paper.specs.Rows.{Row, is_line, step_length}
 use Rattle.paper.specs.Faults.{delay, rest, depth, slots}
@@ -39,25 +39,6 @@ module _ (head r : Row) where
   pub slots_whole : rest (step_length head) r ≡ 0 → slots head r ≡ cond (is_line r) (2 * q) 0
   unfolding slots
   slots_whole e = let f : 2 * q + depth head r ≡ 2 * q = omega (arith, depth_none e) in rw f
-
-  -- ---- nothing but what it reads
-
-  at_same : (s : ℕ) (f g : ℕ → ℤ) → (1 ≤ s → f s ≡ g s) → sent_at f s ≡ sent_at g s
-  unfolding sent_at
-  at_same s f g h = elim (ltb 0 s) as (λ b. ltb 0 s ≡ b → cond b (f s) z ≡ cond b (g s) z) [ true ↦ λ e. h (ltb-true 0 s e) | false ↦ λ e. refl ] refl
-
-  pub received_same : (k : ℕ) (f g : ℕ → ℤ) → ((x : ℕ) → Reads head r k x → f x ≡ g x) → received head r k f ≡ received head r k g
-  unfolding received
-  received_same k f g h = by (eqb (rest (step_length head) r) 0) refl
-    where
-      newest : sent_at f (k - q) ≡ sent_at g (k - q)
-      newest = at_same (k - q) f g (λ l. h (k - q) (record { one = l; newest = omega arith; oldest = omega arith }))
-
-      by : (b : Bool) → eqb (rest (step_length head) r) 0 ≡ b → received head r k f ≡ received head r k g
-      by true e = let w = eqb-true (rest (step_length head) r) 0 e in received_whole w k f ∙ newest ∙ sym (received_whole w k g)
-      by false e =
-          let one = depth_one (eqb-false (rest (step_length head) r) 0 e) in
-          rw (newest, at_same (k - q - 1) f g (λ l. h (k - q - 1) (record { one = l; newest = omega arith; oldest = omega arith })))
 
   -- ---- in the range of what was sent
 

@@ -9,4 +9,3 @@ pub mod Outcome
 pub mod Owners
 pub mod Touch
 pub mod Depends
-pub mod Quiet

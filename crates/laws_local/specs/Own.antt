@@ -10,7 +10,7 @@ use Rattle.paper.specs.Areas.{Net, area_of, row_area, area_count}
 use Rattle.paper.specs.Records.{count_at, history_at, latch_at, owner_of}
 use Rattle.paper.specs.Legs.{leg, own_end, other_end, Branch, branch, Heard, here, conducts, line_end, line_legs, plain_legs, legs_by, legs_of, branch_in}
 use Rattle.laws_facts.specs.Nets.{row_at, conducts_same}
-use Rattle.paper.specs.Apart.{counts_in, owner_is}
+use Rattle.paper.proofs.Apart.{counts_in, owner_is}
 
 -- ---- counts
 

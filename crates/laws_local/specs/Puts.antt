@@ -1,5 +1,5 @@
 -- Turns that each write some words: what they leave, and what the last one to write a word puts there. Assumes nothing.
-use Rattle.std.specs.Prelude.{◌+◌, ◌-◌, ◌<◌, ◌≡◌, ◌≢◌, ◌∷◌}
+use Rattle.std.specs.Prelude.{◌+◌, ◌<◌, ◌≡◌, ◌≢◌, ◌∷◌}
 use Rattle.whole.specs.Plain.{ℕ, zero, suc, refl, sym, ap, ◌∙◌, Bool, true, false, true≢false}
 use Rattle.whole.specs.Plain.{[], ℤ, length, set, length-set, get_or-set_same, get_or-set_other, ℕ_discrete, arith}
 use Rattle.whole.specs.Plain.{Words, z, word}

@@ -8,7 +8,7 @@ use Rattle.whole.specs.Turns.{run, turns}
 use Rattle.paper.specs.Limits as Limits
 use Rattle.paper.specs.Areas.{Net, area_of}
 use Rattle.paper.specs.Records.{current_at, peak_at, peak_step_at, latch_at, Section, peaks, peak_steps, latches, sections, owner_of, next_of}
-use Rattle.paper.specs.Apart.{currents_in, peaks_in, peak_steps_in, latches_in, owner_is, next_of_lem, owned}
+use Rattle.paper.proofs.Apart.{currents_in, peaks_in, peak_steps_in, latches_in, owner_is, next_of_lem, owned}
 use Rattle.paper.specs.Classes.{breaker_branch, breaker_line}
 use Rattle.paper.specs.Legs.{End, Branch}
 use Rattle.paper.specs.Advance.{put_if, found, new_records, put_sent, new_store}

@@ -1,9 +1,9 @@
 -- 13 WAIT: "a far area's count is below k - d". Assumes nothing.
 use Rattle.std.specs.Prelude.{◌+◌, ◌≤◌, ◌<◌, ◌≡◌, ◌⊎◌, ◌&&◌, ◌||◌, ◌∷◌}
 use Rattle.whole.specs.Plain.{ℕ, suc, refl, sym, ◌∙◌, inl, inr, Bool, true, false}
-use Rattle.whole.specs.Plain.{or-true, true≢false, List, [], length, ltb-true, ltb-false, lt-ltb, eqb-true, eq-eqb}
+use Rattle.whole.specs.Plain.{or-true, true≢false, List, [], length, ltb-true, lt-ltb, eqb-true, eq-eqb}
 use Rattle.whole.specs.Plain.{arith, Words}
-use Rattle.whole.specs.Places.{place, place_none, none_place}
+use Rattle.whole.specs.Places.{place, none_place}
 use Rattle.paper.specs.Rows.{Row, is_line, from, to}
 use Rattle.paper.specs.Areas.{Net, area_of}
 use Rattle.paper.specs.Records.{count_of}
@@ -65,26 +65,6 @@ module _ (N : Net) (a k : ℕ) (recs : Words) where
       rw (l, eq-eqb (area_of N (to (row_at N i))) a p.0, lt-ltb (count_at_node N recs (from (row_at N i)) + delay_at N i) k p.1)
       (or-true (here N a (from (row_at N i)) && late N recs k (row_at N i) (to (row_at N i))))
 
-  pub free_allowed : (i : ℕ) → is_line (row_at N i) ≡ true → waits_for N a k recs (row_at N i) ≡ false → Allowed N a k recs i
-  unfolding waits_for
-  free_allowed i l e = record { at_from = λ q. side_from (eq-eqb _ a q); at_to = λ q. side_to (eq-eqb _ a q) }
-    where
-      go : (x y u v : Bool) → (x && y) || (u && v) ≡ false → (x ≡ true → y ≡ false) × (u ≡ true → v ≡ false)
-      go true true u v e = absurd (true≢false e)
-      go true false true v e = ((λ _. refl), λ _. e)
-      go true false false v e = ((λ _. refl), λ p. absurd (true≢false (sym p)))
-      go false y true v e = ((λ p. absurd (true≢false (sym p))), λ _. e)
-      go false y false v e = ((λ p. absurd (true≢false (sym p))), λ p. absurd (true≢false (sym p)))
-
-      both : (here N a (from (row_at N i)) ≡ true → late N recs k (row_at N i) (to (row_at N i)) ≡ false) × (here N a (to (row_at N i)) ≡ true → late N recs k (row_at N i) (from (row_at N i)) ≡ false)
-      both = go _ _ _ _ (rw l at e)
-
-      side_from : here N a (from (row_at N i)) ≡ true → k ≤ count_at_node N recs (to (row_at N i)) + delay_at N i
-      side_from q = ltb-false _ k (both.0 q)
-
-      side_to : here N a (to (row_at N i)) ≡ true → k ≤ count_at_node N recs (from (row_at N i)) + delay_at N i
-      side_to q = ltb-false _ k (both.1 q)
-
   pub allowed_free : (i : ℕ) → (is_line (row_at N i) ≡ true → Allowed N a k recs i) → waits_for N a k recs (row_at N i) ≡ false
   allowed_free i h = go (waits_for N a k recs (row_at N i)) refl
     where
@@ -99,9 +79,6 @@ module _ (N : Net) (a k : ℕ) (recs : Words) where
   -- no answer 13
   abbrev pub Free : Type 0
   Free = (i : ℕ) → i < length N.rows → is_line (row_at N i) ≡ true → Allowed N a k recs i
-
-  pub not_late : first_late N a k recs 0 N.rows ≡ 0 → Free
-  not_late e i h l = free_allowed i l (place_none (waits_for N a k recs) [] 0 N.rows (sym (late_place N a k recs 0 N.rows) ∙ e) i h)
 
   pub late_not : Free → first_late N a k recs 0 N.rows ≡ 0
   late_not h = late_place N a k recs 0 N.rows ∙ none_place (waits_for N a k recs) [] 0 N.rows (λ i l. allowed_free i (h i l))

@@ -11,7 +11,7 @@ use Rattle.paper.specs.Areas.{Net, area_of, area_count, row_area}
 use Rattle.paper.specs.Records.{count_at, volt_at, current_at, to_current_at, history_at, peak_at, peak_step_at, latch_at, Found, Section, new_peak, new_peak_step, sections}
 use Rattle.paper.specs.Records.{spot, owner_in, owner_of, next_of}
 use Rattle.paper.specs.Latch.{new_latch}
-use Rattle.paper.specs.Apart.{counts_in, voltages_in, currents_in, to_currents_in, histories_in, peaks_in, peak_steps_in, latches_in, owner_is, next_of_lem}
+use Rattle.paper.proofs.Apart.{counts_in, voltages_in, currents_in, to_currents_in, histories_in, peaks_in, peak_steps_in, latches_in, owner_is, next_of_lem}
 use Rattle.paper.specs.Legs.{Branch, Heard, legs_by, legs_of, current, passed_on}
 use Rattle.paper.specs.Advance.{renewed, found, new_records}
 use Rattle.laws_facts.specs.Nets.{row_at}

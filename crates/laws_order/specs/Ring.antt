@@ -38,8 +38,3 @@ holds_sent st su off m c Sent Sent' m0 h more new old = record {
     | no e ↦ rw (old (x % m) (mod-lt x m0) (ring_apart x (suc c) m (omega arith) (omega arith))) (more x _ (h.holds x p (omega arith) (omega arith)))
   ];
 }
-
--- its reader, at its step k and not waiting, the counts within d: what was sent at step k - d, and at the `deep` steps before it, is in its slot
-pub holds_read : (st : List ℤ) (off d deep far own : ℕ) (Sent : ℕ → ℤ → Type 0) → 0 < d → Holds st off (places d deep) far Sent
-    → own < far + d → far ≤ own + d → (x : ℕ) → 0 < x → x + d ≤ suc own → suc own ≤ x + deep + d → Sent x (slot st off (places d deep) x)
-holds_read st off d deep far own Sent d0 h free near x p q r = h.holds x p (omega arith) (omega arith)

@@ -1,9 +1,7 @@
 -- "The cosine comes from a quarter table of 257 entries scaled to 2^30, the other quarters by symmetry". Assumes nothing.
-use Rattle.std.specs.Prelude.{◌-◌, ◌^◌, ◌≤◌, ◌<◌, ◌≡◌}
-use Rattle.whole.specs.Plain.{ℕ, Bool, true, false, cond, leb, ℤ, pos, neg_ℤ, nat_abs, le-leb, lt-leb}
-use Rattle.whole.specs.Int.{abs_neg}
-use Rattle.whole.specs.Size.{∣◌∣≤◌}
-use Rattle.num_cosine.specs.Quarter.{entry, entry_most}
+use Rattle.std.specs.Prelude.{◌-◌, ◌≤◌, ◌<◌, ◌≡◌}
+use Rattle.whole.specs.Plain.{ℕ, cond, leb, ℤ, pos, neg_ℤ, le-leb, lt-leb}
+use Rattle.num_cosine.specs.Quarter.{entry}
 
 -- up to half a turn: past the quarter it is minus that of the rest
 unfoldable pub half : ℕ → ℤ
@@ -12,22 +10,6 @@ half j = cond (leb j 256) (pos (entry j)) (neg_ℤ (pos (entry (512 - j))))
 -- of 1,024 parts of a turn: past the half it is that of the rest
 unfoldable pub cosine : ℕ → ℤ
 cosine i = cond (leb i 512) (half i) (half (1024 - i))
-
-half_most : (j : ℕ) → nat_abs (half j) ≤ 2 ^ 30
-unfolding half
-half_most j = by (leb j 256)
-  where
-    by : (b : Bool) → nat_abs (cond b (pos (entry j)) (neg_ℤ (pos (entry (512 - j))))) ≤ 2 ^ 30
-    by true = entry_most j
-    by false = rw (abs_neg (pos (entry (512 - j)))) (entry_most (512 - j))
-
-pub cosine_most : (i : ℕ) → ∣ cosine i ∣≤ (2 ^ 30)
-unfolding cosine
-cosine_most i = by (leb i 512)
-  where
-    by : (b : Bool) → ∣ cond b (half i) (half (1024 - i)) ∣≤ (2 ^ 30)
-    by true = record { size = half_most i }
-    by false = record { size = half_most (1024 - i) }
 
 -- ---- as code asks
 

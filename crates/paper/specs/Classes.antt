@@ -1,6 +1,6 @@
 -- Which kinds are of which class, computed over the table. Assumes nothing.
 use Rattle.std.specs.Prelude.{◌+◌, ◌≤◌, ◌≡◌, ◌||◌}
-use Rattle.whole.specs.Plain.{ℕ, zero, suc, refl, sym, ◌∙◌, Bool, true, false, cond, true≢false, eqb}
+use Rattle.whole.specs.Plain.{ℕ, zero, suc, refl, sym, Bool, true, false, cond, true≢false, eqb}
 use Rattle.whole.specs.Plain.{eqb-true, ne_eqb, arith}
 use Rattle.paper.specs.Rows.{Row, kinds, kind, no_kind, branch_kind, source_kind, fixing_kind, is_branch, is_source, is_fixing, is_line, is_iS, is_breaker, is_switch}
 

@@ -14,7 +14,6 @@ pub mod Where
 pub mod Latch
 pub mod Legs
 pub mod Records
-pub mod Apart
 pub mod Floating
 pub mod Elimination
 pub mod Doubles
@@ -26,9 +25,4 @@ pub mod Listing
 pub mod Pieces
 pub mod Writing
 pub mod Computing
-pub mod Examples
-pub mod Cases
-pub mod Kept
-pub mod Total
-pub mod Places
 pub mod One

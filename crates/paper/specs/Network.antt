@@ -1,6 +1,6 @@
 -- The network record: word 0 the step length, 1 the steps, 2 the limit, 3 the number of rows, 4 to 7 zero, and from word 8 on eight words for
 -- each row, sources among the branches, in table order; the rest zero. Nothing derived is kept. Assumes nothing.
-use Rattle.std.specs.Prelude.{◌+◌, ◌&&◌, ◌∷◌, ◌++◌}
+use Rattle.std.specs.Prelude.{◌&&◌, ◌∷◌, ◌++◌}
 use Rattle.whole.specs.Plain.{ℕ, zero, suc, Bool, true, bool_beq, List, [], tail, leb, eqb, ℤ}
 use Rattle.whole.specs.Plain.{pos, get_or, length, take, drop, Words, z, word, nat, between, filled, empty, fold}
 use Rattle.whole.specs.Plain.{same_words}

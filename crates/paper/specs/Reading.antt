@@ -1,5 +1,5 @@
 -- Reading a study text into a lent network record. "Reading: 9, 7, then the first faulty line, in it 1 to 6 in turn". Assumes nothing.
-use Rattle.std.specs.Prelude.{◌+◌, ◌||◌, ◌∷◌, ◌++◌}
+use Rattle.std.specs.Prelude.{◌||◌, ◌∷◌, ◌++◌}
 use Rattle.whole.specs.Plain.{ℕ, zero, suc, cond, not, List, [], ltb, eqb, length, Words, empty}
 use Rattle.whole.specs.Plain.{lead, final, fold}
 use Rattle.paper.specs.declared.Reading.{Reading}

@@ -4,7 +4,6 @@ use Rattle.std.specs.Prelude.{◌||◌, ◌∷◌}
 use Rattle.whole.specs.Plain.{ℕ, Bool, true, false, List, [], eqb, ℤ, pos, negsuc, neg_ℤ, lt_z, get_or, length, Words}
 use Rattle.whole.specs.Plain.{z, word, nat}
 use Prim.Native.Char.{code}
-use Prim.Native.String as String
 use Prim.Native.String.{String}
 use Rattle.paper.specs.Limits as Limits
 

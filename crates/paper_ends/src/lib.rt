@@ -7,6 +7,7 @@ ghost use Rattle.whole.specs.Plain.{pos, neg_ℤ};
 ghost use Rattle.paper.specs.Limits as Limits;
 ghost use Rattle.paper.specs.Records.{counts, voltages, currents, to_currents, histories, peaks, peak_steps, latches};
 ghost use Rattle.paper.specs.Records.{sections_end};
+ghost use Rattle.paper.specs.declared.sections.TheConstants as sections;
 
 use paper::{
     Balance, Conductance, Current, Farads, Frequency, Henries, History, Injection, Node, Ohms,

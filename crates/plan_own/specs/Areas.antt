@@ -1,7 +1,7 @@
 -- One area laid behind those before it: there is room, what was laid stands, and the tables hold the areas' own apart from each other. Assumes nothing.
 use Rattle.std.specs.Prelude.{◌+◌, ◌*◌, ◌≤◌, ◌≡◌}
 use Rattle.whole.specs.Plain.{ℕ, refl, sym, ap, ◌∙◌, Bool, true, false, cond, not, List, map}
-use Rattle.whole.specs.Plain.{length, get_or, length-map, length-append, arith, Words, numbers, count}
+use Rattle.whole.specs.Plain.{length, get_or, length-map, length-append, arith, Words, numbers}
 use borrow.Rule.Slice.PartMut.{mid_len}
 use Rattle.whole.specs.Folds.{length_keep, count_le, length_numbers}
 use Rattle.whole.specs.Prefix.{count_parts}

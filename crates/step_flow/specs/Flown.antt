@@ -3,7 +3,6 @@
 use Rattle.std.specs.Prelude.{◌<◌, ◌^◌, ◌≡◌, ◌||◌}
 use Rattle.whole.specs.Plain.{ℕ, refl, ◌∙◌, cond, List, [], map, eqb, ℤ, neg_ℤ, nat_abs, length}
 use Rattle.whole.specs.Plain.{get_or, length-map, set, length-set, get_or-set_same, get_or-set_other, arith, Words, word, z}
-use Rattle.paper.specs.Rows.{kind}
 use Rattle.paper.specs.Legs.{current, echo}
 use Rattle.step_legs.specs.Wires.{wire_in, wire_at, Wires, Sized, leg_of, leg_from, current_in, passed_in}
 use Rattle.step_legs.specs.Written.{SameBut, wires_same, written_to, stays, to_all, to_length, to_same}

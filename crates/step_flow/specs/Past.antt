@@ -1,7 +1,7 @@
 -- What is out of balance: by node, the currents that leave less what is injected. The lowest of some nodes at which it is past a limit is the paper's.
 -- Assumes nothing.
-use Rattle.std.specs.Prelude.{◌+◌, ◌-◌, ◌≤◌, ◌<◌, ◌≡◌, ◌-ℤ◌}
-use Rattle.whole.specs.Plain.{ℕ, suc, ap, ◌∙◌, Bool, not, List, length, length-drop, take-length, drop}
+use Rattle.std.specs.Prelude.{◌+◌, ◌-◌, ◌≡◌, ◌-ℤ◌}
+use Rattle.whole.specs.Plain.{ℕ, suc, Bool, not, List, length, length-drop, take-length, drop}
 use Rattle.whole.specs.Plain.{get_or, get_or-drop, arith, Words, z, word, up_to, first}
 use Rattle.whole.specs.Size.{∣◌∣≤◌, sub, fits}
 use Rattle.paper.specs.Limits as Limits

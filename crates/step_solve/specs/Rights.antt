@@ -1,7 +1,7 @@
 -- The right sides of the free nodes' equations, as doubles. Assumes nothing.
 use Rattle.whole.specs.Plain.{ℕ, suc, refl, ◌∙◌, List, get_or, set, length, length-set}
 use Rattle.whole.specs.Plain.{get_or-set_same, get_or-set_other, take-length, ℕ_discrete, arith, Words, word}
-use Rattle.std.specs.Prelude.{Float, ◌+◌, ◌≤◌, ◌<◌, ◌≡◌, ◌-ℤ◌}
+use Rattle.std.specs.Prelude.{Float, ◌+◌, ◌<◌, ◌≡◌, ◌-ℤ◌}
 use Rattle.std.specs.Float.{nan}
 use Rattle.whole.specs.Size.{∣◌∣≤◌, sub, fits}
 use Rattle.whole.specs.TurnLaws.{turns_keeps, downs_keeps}

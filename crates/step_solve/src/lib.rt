@@ -46,7 +46,7 @@ fn right_sides(
     b: &mut ByFree,
 )
     requires free { Free free.now × Near (suc Limits.node_end) inject.now drawn.now }
-    requires b_len { length b.old ≡ Limits.node_end }
+    requires b_long { length b.old ≡ Limits.node_end }
     ensures { Rights (length free.now) free.now inject.now drawn.now b.new }
 {
     let mut i = 0;

@@ -107,8 +107,8 @@ pub fn drive(
     inject: &mut [i64; Node::PLACES],
 )
     requires sources { Sources sources.now × (k ≤ Limits.steps_end) }
-    requires v_value { (v.old ≡ none) × (inject.old ≡ none) }
-    ensures v_value_2 { v.new ≡ given is_fixing k sources.now }
+    requires none_yet { (v.old ≡ none) × (inject.old ≡ none) }
+    ensures v_value { v.new ≡ given is_fixing k sources.now }
     ensures inject_value { inject.new ≡ given is_iS k sources.now }
     ensures injects_within { InjectsWithin inject.new }
 {

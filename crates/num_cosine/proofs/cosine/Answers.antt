@@ -5,7 +5,8 @@ use mir.Syntax.{w64}
 use mir.Val.{SFits, to_z, of_z}
 use mir.Facts.{to_z-of_z, to_z_pos}
 use Rattle.whole.specs.Int.{fits64, abs_sub_le}
-use Rattle.num_cosine.specs.Quarter.{entry, entry_most}
+use Rattle.num_cosine.specs.Quarter.{entry}
+use Rattle.num_cosine.proofs.Entries.{entry_most}
 use Rattle.num_cosine.specs.Cosine.{in_quarter, past_quarter}
 use Rattle.num_cosine.proofs.cosine.Goals as goal
 
