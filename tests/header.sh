@@ -17,7 +17,7 @@ limit() { worked "$(sed -n "s/^$1 = //p" $specs/Limits.antt)"; }
 # an expression of the definitions, with limits by their names
 worked() {
     local text=${1//Limits./} name
-    while [[ $text =~ [A-Za-z]+ ]]; do
+    while [[ $text =~ [A-Za-z_]+ ]]; do
         name=${BASH_REMATCH[0]}
         text=${text//$name/($(sed -n "s/^$name = //p" $specs/Limits.antt))}
     done
@@ -27,10 +27,10 @@ worked() {
 # expect NAME NUMBER: an expression of the header, and what the definitions say it is
 expect() { printf '%s\t%s\n' "$1" "$2" >>"$work/expected"; }
 
-limits="VOLTAGE_MOST voltageEnd CONDUCTANCE_MOST conductanceEnd HISTORY_MOST historyEnd CURRENT_MOST currentEnd INJECTION_MOST injectionEnd NODES nodeEnd
-    BRANCHES branchEnd SOURCES sourceEnd ROWS rowEnd STEP_LENGTH_MOST stepLengthEnd STEPS_MOST stepsEnd LIMIT_MOST limitEnd TEXT_BYTES textEnd MILLIOHM_LEAST ohmsLow
-    MILLIOHM_MOST ohmsEnd NANOHENRY_MOST henryEnd PICOFARAD_MOST faradEnd TRAVEL_MOST travelEnd OPEN_MOST openEnd RISE_MOST riseEnd FREQUENCY_MOST frequencyEnd NETWORK_WORDS networkWords
-    RECORD_WORDS recordWords STORE_WORDS storeWords LIST_BYTES stepBytes WRITE_BYTES studyBytes"
+limits="VOLTAGE_MOST voltage_end CONDUCTANCE_MOST conductance_end HISTORY_MOST history_end CURRENT_MOST current_end INJECTION_MOST injection_end NODES node_end
+    BRANCHES branch_end SOURCES source_end ROWS row_end STEP_LENGTH_MOST step_length_end STEPS_MOST steps_end LIMIT_MOST limit_end TEXT_BYTES text_end MILLIOHM_LEAST ohms_low
+    MILLIOHM_MOST ohms_end NANOHENRY_MOST henry_end PICOFARAD_MOST farad_end TRAVEL_MOST travel_end OPEN_MOST open_end RISE_MOST rise_end FREQUENCY_MOST frequency_end NETWORK_WORDS network_words
+    RECORD_WORDS record_words STORE_WORDS store_words LIST_BYTES step_bytes WRITE_BYTES study_bytes"
 set -- $limits
 while [ $# -gt 1 ]; do
     expect "EMT_$1" "$(limit "$2")"
@@ -42,11 +42,11 @@ number=0
 while read -r name class; do
     number=$((number + 1))
     expect "EMT_$name" $number
-    expect "EMT_IS_SOURCE($number)" $([ "$class" = aBranch ] && echo 0 || echo 1)
-done < <(sed -nE 's/^ *∷ kindOf "([A-Z]+)" (a[A-Za-z]+) .*/\1 \2/p' $specs/Rows.antt)
+    expect "EMT_IS_SOURCE($number)" $([ "$class" = a_branch ] && echo 0 || echo 1)
+done < <(sed -nE 's/^ *∷ kind_of "([A-Z]+)" (an?_[a-z]+) .*/\1 \2/p' $specs/Rows.antt)
 
 # a word's place, asked for area, node and row 7
-set -- COUNT countAt VOLTAGE voltAt CURRENT currentAt TO_CURRENT toCurrentAt HISTORY_OF historyAt PEAK peakAt PEAK_STEP peakStepAt LATCH latchAt
+set -- COUNT count_at VOLTAGE volt_at CURRENT current_at TO_CURRENT to_current_at HISTORY_OF history_at PEAK peak_at PEAK_STEP peak_step_at LATCH latch_at
 while [ $# -gt 1 ]; do
     place=$(sed -nE "s/^$2 (N )?[anr] = //p" $specs/Where.antt)
     expect "EMT_$1(7)" "$((${place//[anr]/7}))"
@@ -54,7 +54,7 @@ while [ $# -gt 1 ]; do
 done
 
 # the lent room, as it is stated and as C lays it out
-room=$(worked "$(sed -n 's/^roomBytes = //p' crates/emt/specs/Numbered.antt)")
+room=$(worked "$(sed -n 's/^room_bytes = //p' crates/emt/specs/Numbered.antt)")
 expect EMT_ROOM_BYTES "$room"
 expect 'sizeof(struct emt_room)' "$room"
 # and as the comparison lends it: words of plan, legs and factors
@@ -64,7 +64,7 @@ expect 'sizeof(struct emt_room)' "$((8 * (${lent//,/ +})))"
 # refusals by name; what is accepted is 0
 while read -r name number; do
     expect "EMT_${name^^}" "$number"
-done < <(sed -nE 's/^(reading|resetting|advance|looking|listing|writing)Number \(?([A-Z]\.)?([A-Za-z]+)(( [a-z])+\))? = ([1-9][0-9]*)$/\3 \6/p' $specs/Answers.antt $specs/Looking.antt $specs/Pieces.antt | sort -u)
+done < <(sed -nE 's/^(reading|resetting|advance|looking|listing|writing)_number \(?([A-Z]\.)?([A-Za-z]+)(( [a-z])+\))? = ([1-9][0-9]*)$/\3 \6/p' $specs/Answers.antt $specs/Looking.antt $specs/Pieces.antt | sort -u)
 
 expect 'version_agrees()' 1
 

@@ -7,7 +7,7 @@ cd "$(dirname "$0")/.." || exit 1
 
 awk '
     BEGIN {
-        mark = "Rattle·"
+        mark = "Rattle."
         split("numbers meaning promises", words); for (i in words) pure[words[i]] = 1
         # Code is any crate with a function. These four have small ones beside their definitions, which rest on no other: whole tests and divides
         # single numbers, num_quantity makes a quantity of a number, num_cosine looks one up, and paper tells a kind its class.
@@ -31,6 +31,8 @@ awk '
         if (!sub(/:/, "")) next
         crates[++count] = $1
         stands[$1] = section
+        if ($2 == "staticlib") $2 = ""
+        $0 = $0
         for (i = 2; i <= NF; i++) {
             lists[$1, $i] = 1
             listed[$1] = listed[$1] " " $i
@@ -46,7 +48,7 @@ awk '
         if (FILENAME ~ /\.antt$/) sub(/(^|[ \t])--.*/, "", line)
         else sub(/\/\/.*/, "", line)
         rest = line
-        while (match(rest, mark "[a-z0-9_]+")) {
+        while (match(rest, "Rattle[.][a-z0-9_]+")) {
             name(crate, substr(rest, RSTART + length(mark), RLENGTH - length(mark)))
             rest = substr(rest, RSTART + RLENGTH)
         }
@@ -110,4 +112,4 @@ awk '
         printf "%d passed, %d failed\n", passed, failed
         exit (failed > 0)
     }
-' crates.txt $(find crates -name '*.rt' -o -name '*.antt')
+' crates.txt $(find crates -name out -prune -o \( -name '*.rt' -o -name '*.antt' \) -print)

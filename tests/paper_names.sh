@@ -1,8 +1,8 @@
 #!/usr/bin/env bash
 # Every name on docs/PAPER.md, docs/REQUESTS.md and docs/EDITS.md stands where the page says, and docs/EDITS.md has a row for each must-fail edit, once. The forms:
-#   File: `name`, `name`     declared, or brought in, by crates/paper/specs/File.antt
+#   File: `name`, `name`     declared, or brought in, by crates/paper/specs/File.antt, or a theorem of crates/paper/proofs/File.antt
 #   `crate::name`            a function, type or constant of crates/crate/src
-#   `crate::File::name`      declared by crates/crate/specs/File.antt
+#   `crate::File::name`      declared by crates/crate/specs/File.antt, or a theorem of crates/crate/proofs/File.antt
 #   `crates/..`, `tests/..`  a file
 # Braces hold several names, `crate::{name, name}`. The columns code and theorem hold names of their form alone, or a dash; the second
 # column of the table of slips holds edits of its must-fail folder. A row of docs/EDITS.md begins with `crate/edit`.
@@ -43,7 +43,10 @@ FNR == 1 { split(FILENAME, path, /[\/.]/) }
 
 FILENAME ~ /\.rt$/ {
     sub(/\/\/.*/, "")
-    if (/^pub use /) stands[path[2] "::" substr($3, match($3, /[A-Za-z0-9_]+;$/), RLENGTH - 1)]
+    if (/^pub use /) {
+        n = match($0, /\{.*\}/) ? split(substr($0, RSTART + 1, RLENGTH - 2), names, ", ") : split(substr($3, match($3, /[A-Za-z0-9_]+;$/), RLENGTH - 1), names, " ")
+        for (i = 1; i <= n; i++) stands[path[2] "::" names[i]]
+    }
     for (i = 1; i < NF; i++) if ($i ~ /^(fn|struct|enum|const|type)$/) {
         name = $(i + 1)
         sub(/[^A-Za-z0-9_].*/, "", name)
@@ -100,4 +103,4 @@ END {
     for (edit in rows) hold(rows[edit] == 1, "row, or more than one, for " edit)
     print passed + 0 " passed, " failed + 0 " failed"
     exit failed > 0
-}' crates/*/src/*.rt crates/*/specs/*.antt docs/PAPER.md docs/REQUESTS.md docs/EDITS.md
+}' crates/*/src/*.rt crates/*/specs/*.antt crates/*/proofs/*.antt docs/PAPER.md docs/REQUESTS.md docs/EDITS.md

@@ -4,10 +4,10 @@ import re
 
 HEAD = """-- Everything that a worked example computes with: a theorem that says `unfolding computing` sees through all of it.
 -- Written by tools/computing.py. Assumes nothing.
-use Prim.Native.Nat.{ℕ}
-use lib.Ieee as Ieee
+use Rattle.std.specs.Prelude.{ℕ}
+use Rattle.std.specs.Float.Ieee as Ieee
 """
-FLOATS = ("add", "sub", "mul", "div", "ofInt")
+FLOATS = ("add", "sub", "mul", "div", "of_int")
 MEANING = "crates/paper/specs/"
 FOLDS = "crates/whole/specs/"
 COSINE = "crates/num_cosine/specs/"
@@ -20,12 +20,12 @@ def opened(path):
 
 
 def main():
-    modules = [(name, FOLDS, "Rattle·whole.specs.") for name in ("Turns", "Lists", "Rounding", "Mixing")]
-    modules += [(name, COSINE, "Rattle·num_cosine.specs.") for name in ("Quarter", "Cosine")]
+    modules = [(name, FOLDS, "Rattle.whole.specs.") for name in ("Turns", "Lists", "Rounding", "Mixing")]
+    modules += [(name, COSINE, "Rattle.num_cosine.specs.") for name in ("Quarter", "Cosine")]
     for line in open(MEANING + "Lib.antt"):
         name = line.split()[2]
         if name not in LAWS:
-            modules.append((name, MEANING, "Rattle·paper·specs.specs."))
+            modules.append((name, MEANING, "Rattle.paper.specs."))
     uses, names = [], []
     for name, folder, crate in modules:
         found = opened(folder + name + ".antt")

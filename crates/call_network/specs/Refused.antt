@@ -12,6 +12,7 @@ use Rattle.paper.specs.Network.{Table, sound, row_of_words, table_of, is_network
 use Rattle.laws_facts.specs.Passing.{passes_at}
 use Rattle.laws_facts.specs.Layout.{recorded, arity_most}
 use Rattle.laws_facts.specs.Nets as Nets
+use Rattle.laws_facts.proofs.Nets.{net_sound}
 use Rattle.text_faults.specs.declared.Seen.{Seen}
 use Rattle.text_faults.specs.Seen.{seen_fault, nothing_seen}
 use Rattle.text_faults.specs.Stands.{Stands, stands_none}
@@ -85,7 +86,7 @@ module _ (net : Words) (rows : ℕ) (z₀ : Sized net rows) where
       kinds : (1 ≤ kind w) × (kind w ≤ 9)
       unfolding row
       kinds =
-          let s = (Nets.net_sound net e).row i at_row in
+          let s = (net_sound net e).row i at_row in
           (omega (arith, same_kind, s.kind_least), omega (arith, same_kind, s.kind_most))
 
       known_passes : known_row w ≡ true

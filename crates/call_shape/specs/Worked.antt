@@ -4,7 +4,7 @@ use Rattle.whole.specs.Plain.{refl, [], pos, replicate, set, Words, z}
 use Rattle.paper.specs.Limits as Limits
 use Rattle.paper.specs.Reading.{read_of}
 use Rattle.paper.specs.Computing.{computing}
-use Rattle.paper.specs.Examples.{lines, tabbed}
+use Rattle.paper.proofs.Examples.{lines, tabbed}
 use Rattle.call_shape.specs.declared.Asked.TheVariants.{Told, Nothing, Network, Store}
 use Rattle.call_shape.specs.Asked.{place_from, branch_row, areas_in, area_in, row_in, of_network, areas_asked, area_asked, row_asked}
 

@@ -10,7 +10,7 @@ use Rattle.paper.specs.Areas.{Net, area_of, area_count}
 use Rattle.paper.specs.Records.{count_of, well_formed}
 use Rattle.laws_facts.specs.Nets.{area_of_lem}
 use Rattle.plan_rows.specs.declared.Totals.{Totals}
-use Rattle.paper.specs.Apart.{state_records}
+use Rattle.paper.proofs.Apart.{state_records}
 use Rattle.plan_net.specs.Of.{Of}
 use Rattle.call_counts.specs.Counts.{CountsIn, Counted}
 use Rattle.call_counts.specs.Lines.{counted}

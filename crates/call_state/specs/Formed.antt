@@ -10,7 +10,7 @@ use Rattle.paper.specs.Rows as Rows
 use Rattle.paper.specs.Rows.{is_branch, is_line, is_breaker, is_l, is_c, steps}
 use Rattle.paper.specs.Areas.{Net, area_count}
 use Rattle.paper.specs.Records.{slot_count, Section, sections, sections_end, end_of, ends, near, peaked, latched, records_formed, store_formed, well_formed}
-use Rattle.paper.specs.Apart.{counts_in, voltages_in, currents_in, to_currents_in, histories_in, peaks_in, peak_steps_in, latches_in, end_of_lem, end_past, ends_at}
+use Rattle.paper.proofs.Apart.{counts_in, voltages_in, currents_in, to_currents_in, histories_in, peaks_in, peak_steps_in, latches_in, end_of_lem, end_past, ends_at}
 use Rattle.laws_facts.specs.Nets.{NetSound, row_at, area_count_most}
 use Rattle.plan_rows.specs.declared.Totals.{Totals}
 use Rattle.plan_rows.specs.Planned.{Planned, row_in}

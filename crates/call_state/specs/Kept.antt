@@ -6,7 +6,7 @@ use Rattle.whole.specs.Within.{within_at}
 use Rattle.paper.specs.Limits as Limits
 use Rattle.paper.specs.Areas.{Net}
 use Rattle.paper.specs.Records.{history_at, slot_count, records_formed, store_formed, well_formed}
-use Rattle.paper.specs.Apart.{histories_in, end_most, record_end}
+use Rattle.paper.proofs.Apart.{histories_in, end_most, record_end}
 use Rattle.step_own.specs.Ends.{Kept}
 use Rattle.call_state.specs.Judged.{Long}
 

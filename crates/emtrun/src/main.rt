@@ -34,6 +34,14 @@ fn fail(rt: &HostRuntime, what: &str, code: i32) {
     }
 }
 
+fn fail_at_input(rt: &HostRuntime, code: i32) {
+    fail(rt, "standard input", code);
+}
+
+fn fail_at_output(rt: &HostRuntime, code: i32) {
+    fail(rt, "standard output", code);
+}
+
 // All that is read is answered; nothing is, where a read fails.
 fn serve<R: Read, W: Write>(
     rt: &HostRuntime,
@@ -45,11 +53,11 @@ fn serve<R: Read, W: Write>(
 {
     let input = run_bytes::read_all(reader, text);
     let Input::Whole(count) = input else {
-        fail(rt, "standard input", reader.code);
+        fail_at_input(rt, reader.code);
         return;
     };
     if !run_study::is_written(run_study::run(writer, &text[..count])) {
-        fail(rt, "standard output", writer.code);
+        fail_at_output(rt, writer.code);
     }
 }
 

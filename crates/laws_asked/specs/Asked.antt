@@ -10,7 +10,7 @@ use Rattle.paper.specs.Answers.{writing_bytes}
 use Rattle.paper.specs.Reading.{read_of}
 use Rattle.paper.specs.Writing.{Written-out, write_of}
 use Rattle.paper.specs.Computing.{computing}
-use Rattle.paper.specs.Examples.{Example, runs, call, volts, lines, place_of, looked, goes, played, replay, tabbed}
+use Rattle.paper.proofs.Examples.{Example, runs, call, volts, lines, place_of, looked, goes, played, replay, tabbed}
 
 -- ---- K4: "The answer, and the node it names, stay as they are."
 

@@ -11,7 +11,7 @@ use Rattle.paper.specs.Areas.{Net, step}
 use Rattle.paper.specs.Records.{offset}
 use Rattle.paper.specs.Legs.{sent_at, sent_to}
 use Rattle.paper.specs.Computing.{computing}
-use Rattle.paper.specs.Examples.{Example, runs, lists, call, lines, place_of, looked, goes, played, replay, tabbed}
+use Rattle.paper.proofs.Examples.{Example, runs, lists, call, lines, place_of, looked, goes, played, replay, tabbed}
 use Rattle.laws_facts.specs.Travels.{received_whole, slots_whole}
 
 -- ---- the table

@@ -16,7 +16,8 @@ use Rattle.paper.specs.Legs.{is_open}
 use Rattle.paper.specs.Advance.{Memory, advance_of}
 use Rattle.paper.specs.Resetting.{fresh}
 use Rattle.laws_facts.specs.Sound.{BranchSound}
-use Rattle.laws_facts.specs.Nets.{NetSound, net_in, net_sound, row_at, area_of_lem}
+use Rattle.laws_facts.specs.Nets.{NetSound, net_in, row_at, area_of_lem}
+use Rattle.laws_facts.proofs.Nets.{net_sound}
 use Rattle.laws_local.specs.Sound.{Sound, sound}
 use Rattle.laws_local.specs.Written.{latch_own, breaker_own}
 use Rattle.laws_stays.specs.Stays.{zero_word}

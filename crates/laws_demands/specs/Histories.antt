@@ -1,5 +1,5 @@
 -- 17 HISTORY: "a next history or sent value beyond 10^17": the row that the step's search finds. Assumes nothing.
-use Rattle.std.specs.Prelude.{◌+◌, ◌<◌, ◌≡◌, ◌≢◌, ◌⊎◌, ◌&&◌, ◌||◌, ◌+ℤ◌, ◌-ℤ◌, ◌*ℤ◌}
+use Rattle.std.specs.Prelude.{◌<◌, ◌≡◌, ◌⊎◌, ◌&&◌, ◌||◌, ◌+ℤ◌, ◌-ℤ◌, ◌*ℤ◌}
 use Rattle.whole.specs.Plain.{ℕ, suc, refl, sym, ap, ◌∙◌, inl, inr, Bool, true, false, cond}
 use Rattle.whole.specs.Plain.{not, and-false, true≢false, [], eqb, leb, ℤ, pos, neg_ℤ, nat_abs}
 use Rattle.whole.specs.Plain.{zero-*ℤ, length, get_or, ne_eqb, leb-false, lt-leb, ℕ_discrete, arith, Words, z, word}

@@ -8,7 +8,8 @@ use Rattle.paper.specs.Network.{is_network}
 use Rattle.paper.specs.Areas.{Net}
 use Rattle.paper.specs.Records.{well_formed}
 use Rattle.paper.specs.Advance.{Memory, advanced, on_net, fits, advance_of}
-use Rattle.laws_facts.specs.Nets.{NetSound, net_in, net_sound}
+use Rattle.laws_facts.specs.Nets.{NetSound, net_in}
+use Rattle.laws_facts.proofs.Nets.{net_sound}
 use Rattle.laws_stays.specs.Stays.{Long}
 use Rattle.laws_demands.specs.Said.{IsArea}
 

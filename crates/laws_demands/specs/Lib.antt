@@ -6,6 +6,4 @@ pub mod Balance
 pub mod Passing
 pub mod Histories
 pub mod Says
-pub mod Exact
-pub mod Step
 pub mod States

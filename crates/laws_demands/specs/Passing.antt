@@ -2,7 +2,7 @@
 -- Assumes nothing.
 use Rattle.std.specs.Prelude.{◌≤◌, ◌<◌, ◌≡◌, ◌≢◌, ◌∷◌}
 use Rattle.whole.specs.Plain.{ℕ, zero, suc, refl, sym, ap, ◌∙◌, Bool, true, false, not, List, []}
-use Rattle.whole.specs.Plain.{leb, ℤ, nat_abs, length, get_or, eqb-true, eq-eqb, leb-true, leb-false, le-leb, lt-leb}
+use Rattle.whole.specs.Plain.{leb, nat_abs, length, get_or, eqb-true, eq-eqb, leb-true, leb-false, le-leb, lt-leb}
 use Rattle.whole.specs.Plain.{not-true, not-false, arith, up_to}
 use Rattle.std.specs.Float.{nan}
 use Rattle.whole.specs.Rising.{Rising, lowest_first, first_lowest}

@@ -2,7 +2,7 @@
 -- beside the paper. Assumes nothing.
 use Rattle.whole.specs.Plain.{ℕ, zero, suc, true, false, cond, List, eqb, ℤ, pos, neg_ℤ}
 use Rattle.whole.specs.Plain.{nat_abs, length, get_or, z, word, numbers, total}
-use Rattle.std.specs.Prelude.{Float, ◌+◌, ◌≤◌, ◌<◌, ◌≡◌, ◌≢◌, ◌+ℤ◌, ◌-ℤ◌, ◌*ℤ◌}
+use Rattle.std.specs.Prelude.{Float, ◌≤◌, ◌<◌, ◌≡◌, ◌≢◌, ◌+ℤ◌, ◌-ℤ◌, ◌*ℤ◌}
 use Rattle.std.specs.Float.{nan}
 use Rattle.paper.specs.Rows.{is_branch, is_r, is_l, is_c, is_line, is_breaker, is_switch, is_fixing, from, to, at, limit}
 use Rattle.paper.specs.Conductance.{conductance}

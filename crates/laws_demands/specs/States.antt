@@ -7,11 +7,13 @@ use Rattle.paper.specs.Limits as Limits
 use Rattle.paper.specs.Network.{is_network}
 use Rattle.paper.specs.Advance.{Memory, fits, advance_of}
 use Rattle.paper.specs.Resetting.{fresh, reset_out, reset_of}
-use Rattle.laws_facts.specs.Nets.{net_in, net_sound, network_length}
+use Rattle.laws_facts.specs.Nets.{net_in, network_length}
+use Rattle.laws_facts.proofs.Nets.{net_sound}
 use Rattle.laws_local.specs.Sound.{sound}
 use Rattle.laws_local.specs.Owners.{OnlyOwn, writes_own}
 use Rattle.laws_local.specs.Outcome.{step_of}
-use Rattle.laws_local.specs.Depends.{SameFor, SameOut, depends_on}
+use Rattle.laws_local.specs.Depends.{SameFor, SameOut}
+use Rattle.laws_local.proofs.Depends.{depends_on}
 use Rattle.laws_stays.specs.Stays.{Long, fresh_well, stays}
 use Rattle.laws_demands.specs.Judged.{Judged, fits_long, call_of}
 

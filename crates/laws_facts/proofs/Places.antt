@@ -6,8 +6,8 @@ use Rattle.paper.specs.declared.Advance.TheVariants.{Took, Network, Store, State
 use Rattle.paper.specs.Limits as Limits
 use Rattle.paper.specs.Network.{is_network}
 use Rattle.paper.specs.Advance.{Memory, Advanced, fits, advance_of}
-use Rattle.paper.specs.Kept.{either}
-use Rattle.paper.specs.Places.{PlaceIn, advance_place}
+use Rattle.paper.proofs.Kept.{either}
+use Rattle.paper.proofs.Places.{PlaceIn, advance_place}
 use Rattle.laws_facts.specs.Nets.{net_in, NetSound}
 use Rattle.laws_facts.proofs.Nets.{net_sound}
 

@@ -8,7 +8,8 @@ use Rattle.paper.specs.Advance.{Memory, advance_of}
 use Rattle.laws_local.specs.Outcome.{StepRefusal}
 use Rattle.laws_demands.specs.Said.{IsArea}
 use Rattle.laws_runs.specs.Runs.{Lent, from_reset, accepts}
-use Rattle.laws_runs.specs.Ends.{Quits, Tied, Ended, ends_agree, takes_all}
+use Rattle.laws_runs.specs.Ends.{Quits, Tied, Ended}
+use Rattle.laws_runs.proofs.Ends.{ends_agree, takes_all}
 use Rattle.laws_mixed.specs.Mixed.{Call, at, run, is_run}
 
 module _ (net : Words) (lent : Memory) (ok : Lent net lent) where

@@ -11,10 +11,12 @@ use Rattle.laws_demands.specs.Said.{IsArea}
 use Rattle.laws_demands.specs.Judged.{Judged}
 use Rattle.laws_demands.specs.States.{long_fits}
 use Rattle.laws_runs.specs.Runs.{Lent, from_reset, after, accepts, taken}
-use Rattle.laws_runs.specs.Orders.{run_inv, orders_agree}
+use Rattle.laws_runs.specs.Orders.{run_inv}
+use Rattle.laws_runs.proofs.Orders.{orders_agree}
 use Rattle.laws_runs.specs.Refused.{counts_are}
 use Rattle.laws_runs.specs.Received.{Side, area_at, StepIn}
-use Rattle.laws_runs.specs.Heard.{Receives, received, once}
+use Rattle.laws_runs.specs.Heard.{Receives}
+use Rattle.laws_runs.proofs.Heard.{received, once}
 use Rattle.laws_peaks.specs.Peaks.{Peak, peaks}
 use Rattle.laws_breakers.specs.Breakers.{Breaker, breakers}
 use Rattle.laws_mixed.specs.Made.{after_append, list_is_calls}

@@ -6,7 +6,7 @@ use Rattle.paper.specs.declared.Advance.TheVariants.{Done, Wait, Floating}
 use Rattle.paper.specs.Limits as Limits
 use Rattle.paper.specs.Reading.{read_of}
 use Rattle.paper.specs.Resetting.{fresh}
-use Rattle.paper.specs.Examples.{lines, tabbed}
+use Rattle.paper.proofs.Examples.{lines, tabbed}
 use Rattle.paper.specs.Computing.{computing}
 use Rattle.paper.specs.Records.{count_of}
 use Rattle.paper.specs.Advance.{advance_of}

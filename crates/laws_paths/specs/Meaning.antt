@@ -5,7 +5,7 @@ use Rattle.whole.specs.Plain.{List, map, length, get_or, length-map, get_or-eq_d
 use Rattle.whole.specs.Plain.{first}
 use Rattle.whole.specs.Folds.{length_numbers, get_d_numbers, get_d_map}
 use Rattle.paper.specs.Limits as Limits
-use Rattle.paper.specs.Kept.{either}
+use Rattle.paper.proofs.Kept.{either}
 use Rattle.paper.specs.Rows.{Row}
 use Rattle.paper.specs.Spread.{Join, mark, spread}
 use Rattle.paper.specs.Areas.{joins, join_of, lowest}

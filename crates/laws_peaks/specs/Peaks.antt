@@ -10,7 +10,8 @@ use Rattle.paper.specs.Areas.{area_of}
 use Rattle.paper.specs.Records.{count_at, peak_at, peak_step_at, count_of, outdone, new_peak, new_peak_step}
 use Rattle.paper.specs.Advance.{Memory, advance_of}
 use Rattle.paper.specs.Resetting.{fresh}
-use Rattle.laws_facts.specs.Nets.{NetSound, net_in, net_sound, area_of_lem}
+use Rattle.laws_facts.specs.Nets.{NetSound, net_in, area_of_lem}
+use Rattle.laws_facts.proofs.Nets.{net_sound}
 use Rattle.laws_local.specs.Sound.{Sound, sound}
 use Rattle.laws_local.specs.Nodes.{NodeOf}
 use Rattle.laws_local.specs.Written.{peak_own, peak_step_own}

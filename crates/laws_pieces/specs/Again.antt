@@ -15,7 +15,7 @@ use Rattle.paper.specs.Records.{well_formed}
 use Rattle.paper.specs.Answers.{accepted}
 use Rattle.paper.specs.Advance.{Memory, fits, advance_of}
 use Rattle.paper.specs.Listing.{stop_line}
-use Rattle.paper.specs.Kept.{advance_refused}
+use Rattle.paper.proofs.Kept.{advance_refused}
 use Rattle.paper.specs.Pieces.{Listed, listed, writing, ended, area_piece, full_step, step_piece, turn_piece, closing, steps_taken, level, piece_of, on_level, list_of}
 use Rattle.laws_facts.specs.Nets.{net_in}
 use Rattle.laws_local.specs.Outcome.{StepRefusal}

@@ -8,7 +8,7 @@ use Rattle.paper.specs.Reading.{read_of}
 use Rattle.paper.specs.Resetting.{fresh}
 use Rattle.paper.specs.Pieces.{list_of, stop_area, stop_number, stop_place}
 use Rattle.paper.specs.Computing.{computing}
-use Rattle.paper.specs.Examples.{lines, tabbed}
+use Rattle.paper.proofs.Examples.{lines, tabbed}
 
 unfoldable pub coil : Words
 coil = (read_of (lines ("study 1000 2 0" ∷ "VS 1 1000 1 0" ∷ "L 1 0 1000000" ∷ [])) (replicate Limits.network_words z)).network

@@ -12,7 +12,7 @@ use Rattle.paper.specs.Records.{well_formed}
 use Rattle.paper.specs.Rows.{steps}
 use Rattle.paper.specs.Answers.{accepted}
 use Rattle.paper.specs.Advance.{Memory, Advanced, fits, advance_of}
-use Rattle.paper.specs.Kept.{either}
+use Rattle.paper.proofs.Kept.{either}
 use Rattle.paper.specs.Pieces.{Listed, Piece, writing, ended, went_on, area_piece, full_step, step_piece, if_room, turn_piece, closing, level, steps_taken, piece_of, on_level, list_of}
 
 -- an answer of a call that ran

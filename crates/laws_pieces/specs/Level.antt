@@ -10,7 +10,8 @@ use Rattle.paper.specs.Records.{count_of}
 use Rattle.paper.specs.Answers.{accepted}
 use Rattle.paper.specs.Advance.{Memory, Advanced, ready, on_next, on_net, advance_of}
 use Rattle.paper.specs.Pieces.{steps_taken, level}
-use Rattle.laws_facts.specs.Nets.{net_in, row_at, net_sound, area_of_lem}
+use Rattle.laws_facts.specs.Nets.{net_in, row_at, area_of_lem}
+use Rattle.laws_facts.proofs.Nets.{net_sound}
 use Rattle.laws_local.specs.Sound.{Sound, sound}
 use Rattle.laws_local.specs.Slots.{delay_at}
 use Rattle.laws_local.specs.Waits.{Free, late_not}

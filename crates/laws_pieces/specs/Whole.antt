@@ -19,7 +19,8 @@ use Rattle.paper.specs.Advance.{Memory}
 use Rattle.paper.specs.Resetting.{fresh}
 use Rattle.paper.specs.Listing.{line_of, run_of, listing, listing_from}
 use Rattle.paper.specs.Pieces.{listed, steps_taken, level, piece_of, on_level, list_of}
-use Rattle.laws_facts.specs.Nets.{net_in, net_sound}
+use Rattle.laws_facts.specs.Nets.{net_in}
+use Rattle.laws_facts.proofs.Nets.{net_sound}
 use Rattle.laws_stays.specs.Stays.{fresh_well, zero_word}
 use Rattle.laws_demands.specs.States.{long_fits, fresh_long}
 use Rattle.laws_spelling.specs.Networks.{network_exactly}

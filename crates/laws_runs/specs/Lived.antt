@@ -13,7 +13,7 @@ use Rattle.laws_local.specs.Sound.{sound}
 use Rattle.laws_local.specs.Own.{own_count}
 use Rattle.laws_local.specs.Outcome.{step_of}
 use Rattle.laws_demands.specs.Said.{IsArea, Stepped}
-use Rattle.laws_demands.specs.Step.{step}
+use Rattle.laws_demands.proofs.Step.{step}
 use Rattle.laws_runs.specs.Runs.{Lent, from_reset, after}
 use Rattle.laws_runs.specs.Moves.{Cell, record_word, owner_in, writes, call_is}
 use Rattle.laws_runs.specs.Moves as Moves

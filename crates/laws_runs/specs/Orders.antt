@@ -1,7 +1,7 @@
 -- Demand 3: any two orders of calls, refused ones among them, with equal counts of accepted advances in every area, agree in everything. Assumes
 -- nothing.
 use Rattle.std.specs.Prelude.{◌≡◌, ◌&&◌, ◌∷◌}
-use Rattle.whole.specs.Plain.{ℕ, refl, sym, ap, ◌∙◌, true, false, List, [], eqb, length, eqb-true}
+use Rattle.whole.specs.Plain.{ℕ, refl, ap, true, false, List, [], eqb, length, eqb-true}
 use Rattle.whole.specs.Plain.{dec_le, Words}
 use Rattle.whole.specs.Folds.{and_left, and_right}
 use Rattle.paper.specs.Answers.{accepted}
@@ -12,7 +12,6 @@ use Rattle.laws_order.specs.Same.{same}
 use Rattle.laws_order.specs.Calls as C
 use Rattle.laws_order.specs.Calls.{put}
 use Rattle.laws_order.specs.Diamond.{Laws}
-use Rattle.laws_order.specs.Orders as O
 use Rattle.laws_order.specs.Local.{laws}
 use Rattle.laws_local.specs.Outcome.{Outcome}
 use Rattle.laws_local.specs.Outcome as Outcome
@@ -48,7 +47,7 @@ module _ (net : Words) (lent : Memory) (ok : Lent net lent) where
   run_is [] m = refl
   run_is (a ∷ w) m = run_is w (advance_of net a m).after
 
-  told_is : (a : ℕ) (w : List ℕ) (m : Memory) → C.told (moves net ok.network) a w m ≡ accepts net a w m
+  pub told_is : (a : ℕ) (w : List ℕ) (m : Memory) → C.told (moves net ok.network) a w m ≡ accepts net a w m
   unfolding C.told accepts same
   told_is a [] m = refl
   told_is a (c ∷ w) m = rw (told_is a w (advance_of net c m).after)
@@ -83,10 +82,3 @@ module _ (net : Words) (lent : Memory) (ok : Lent net lent) where
         | yes l ↦ elim (dec_le a (area_count N)) [ yes u ↦ h a (record { one = l; most = u }) | no u ↦ none (λ p. u p.most) ]
         | no l ↦ none (λ p. l p.one)
       ]
-
-  -- T-order
-  pub orders_agree : (w v : List ℕ) → ((a : ℕ) → IsArea N a → taken net a w start ≡ taken net a v start)
-      → (at w ≡ at v) × ((a : ℕ) → accepts net a w start ≡ accepts net a v start)
-  orders_agree w v h =
-      let r = O.orders_agree (moves net ok.network) (Inv net ok.network) diamond w v start start_inv (λ a. count_is a w ∙ same_counts w v h a ∙ sym (count_is a v)) in
-      (sym (run_is w start) ∙ r.0 ∙ run_is v start, λ a. sym (told_is a w start) ∙ r.1 a ∙ told_is a v start)

@@ -1,6 +1,6 @@
 -- What a line end sent in a run: of the steps that its area has taken, the last are in their slots, each as it stood right after that accepted step.
 -- Assumes nothing.
-use Rattle.std.specs.Prelude.{◌+◌, ◌-◌, ◌%◌, ◌≤◌, ◌<◌, ◌≡◌, ◌≢◌, ◌∷◌, ◌++◌}
+use Rattle.std.specs.Prelude.{◌+◌, ◌%◌, ◌≤◌, ◌<◌, ◌≡◌, ◌≢◌, ◌∷◌, ◌++◌}
 use Rattle.whole.specs.Plain.{ℕ, suc, refl, sym, ap, ◌∙◌, subst, Bool, true, false}
 use Rattle.whole.specs.Plain.{List, [], append_assoc, append-nil, ℤ, length, append_snoc, mod-lt, ℕ_discrete}
 use Rattle.whole.specs.Plain.{arith, Words, word}

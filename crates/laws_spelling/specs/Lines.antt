@@ -7,7 +7,7 @@ use Rattle.whole.specs.Folds.{length_numbers, and_left, and_right, both, every_w
 use Rattle.paper.specs.Rows.{Row, Kind, bytes, kinds, unknown, no_kind, word_of, fields_of, kind, is_study}
 use Rattle.paper.specs.Text.{TAB, LF, split, all_spelt, place_of, line_kind, formed, row_of}
 use Rattle.laws_spelling.specs.Numbers.{spell, all_speakable, all_spoken, all_spelt_lem, numbers_spelt, plain, spell_plain}
-use Rattle.paper.specs.Kept.{either}
+use Rattle.paper.proofs.Kept.{either}
 use Rattle.laws_spelling.specs.Pieces.{join, free, split_some, join_split, split_join, join_free}
 
 -- ---- the word of a kind

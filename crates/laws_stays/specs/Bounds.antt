@@ -12,8 +12,8 @@ use Rattle.paper.specs.Areas.{Net, area_count}
 use Rattle.paper.specs.Records.{current_at, peak_at, peak_step_at, latch_at, slot_count, Found, Section, currents, to_currents, histories, outdone, new_peak, new_peak_step, peaks, peak_steps, latches, sections}
 use Rattle.paper.specs.Records.{end_of, owner_of}
 use Rattle.paper.specs.Latch.{parts, new_latch}
-use Rattle.paper.specs.Apart.{peaks_in, peak_steps_in, latches_in, end_of_lem, end_most, next_of_lem, owned}
-use Rattle.paper.specs.Kept.{either}
+use Rattle.paper.proofs.Apart.{peaks_in, peak_steps_in, latches_in, end_of_lem, end_most, next_of_lem, owned}
+use Rattle.paper.proofs.Kept.{either}
 use Rattle.paper.specs.Legs.{End, Branch, Heard, heard, legs_by, legs_of, branch_in, current, passed_on}
 use Rattle.paper.specs.Advance.{Memory, put_if, found, new_records, put_sent, new_store}
 use Rattle.laws_facts.specs.Nets.{NetSound, row_at}

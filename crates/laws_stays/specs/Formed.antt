@@ -10,7 +10,7 @@ use Rattle.paper.specs.Rows.{is_line, is_breaker, from, to}
 use Rattle.paper.specs.Areas.{Net, area_of, row_area}
 use Rattle.paper.specs.Records.{volt_at, peak_at, peak_step_at, latch_at, count_of, slot_count, end_of, ends, near, peak_formed, peaked, latched, records_formed, store_formed, well_formed}
 use Rattle.paper.specs.Latch.{latch_formed}
-use Rattle.paper.specs.Apart.{words_within, within_words}
+use Rattle.paper.proofs.Apart.{words_within, within_words}
 use Rattle.paper.specs.Advance.{Memory}
 use Rattle.laws_facts.specs.Nets.{row_at}
 use Rattle.laws_local.specs.Slots.{delay_at}

@@ -13,7 +13,7 @@ use Rattle.paper.specs.Conductance.{conductance}
 use Rattle.paper.specs.Areas.{Net, row_area, step}
 use Rattle.paper.specs.Records.{history_at, slot_count}
 use Rattle.paper.specs.Legs.{Leg, idle, other_end, Branch, branch, Heard, here, sent_to, heard_by, heard, is_open, conducts, line_end, line_legs, plain_legs, legs_by, legs_of, through, current, passed_on}
-use Rattle.paper.specs.Apart.{histories_in, end_most}
+use Rattle.paper.proofs.Apart.{histories_in, end_most}
 use Rattle.paper.specs.Solve.{beyond, first_beyond}
 use Rattle.paper.specs.Advance.{Memory}
 use Rattle.laws_facts.specs.Nets.{NetSound, row_at}

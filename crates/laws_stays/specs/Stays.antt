@@ -21,7 +21,8 @@ use Rattle.laws_local.specs.Own.{other_count}
 use Rattle.laws_local.specs.Nodes.{NodeOf}
 use Rattle.laws_local.specs.Written.{new, records_length, records_keep, count_put, volt_put, volt_keep, peak_put, peak_keep, peak_step_put, peak_step_keep, latch_put, latch_keep}
 use Rattle.laws_local.specs.Slots.{delay_at, sent_length}
-use Rattle.laws_local.specs.Waits.{Free, not_late}
+use Rattle.laws_local.specs.Waits.{Free}
+use Rattle.laws_local.proofs.Waits.{not_late}
 use Rattle.laws_local.specs.Outcome.{step_of, legs_now, volts_of, large, Taken, taken, refused, Solving, floats, leaves, tips, exceeds, solves, solving}
 use Rattle.laws_stays.specs.Formed.{Peaked, latch_in, Latched, Formed, formed, well_formed_lem}
 use Rattle.laws_stays.specs.Latches.{latch_later, latch_next}

@@ -6,14 +6,15 @@ use Rattle.paper.specs.declared.Advance.{Advance}
 use Rattle.paper.specs.declared.Advance.TheVariants.{Took, Store, Network, State, Area, Done, Wait, Floating, Range, Unbalanced, History}
 use Rattle.paper.specs.Answers.{accepted}
 use Rattle.paper.specs.Advance.{Memory, Advanced, advanced, advance_of}
-use Rattle.paper.specs.Kept.{advance_refused}
-use Rattle.laws_facts.specs.Nets.{net_in, net_sound}
+use Rattle.paper.proofs.Kept.{advance_refused}
+use Rattle.laws_facts.specs.Nets.{net_in}
+use Rattle.laws_facts.proofs.Nets.{net_sound}
 use Rattle.laws_stays.specs.Stays.{Long, stays}
 use Rattle.laws_demands.specs.Said.{Stepped}
 use Rattle.laws_demands.specs.Judged.{fits_long, call_of}
 use Rattle.laws_demands.specs.Says.{Says}
-use Rattle.laws_demands.specs.Exact.{exactly}
-use Rattle.laws_demands.specs.Step.{step}
+use Rattle.laws_demands.proofs.Exact.{exactly}
+use Rattle.laws_demands.proofs.Step.{step}
 use Rattle.laws_versions.specs.Result.{result_one}
 
 -- a version of `advance`: from the network, an area's number and the lent memory to the answer and that memory afterwards

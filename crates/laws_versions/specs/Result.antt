@@ -9,7 +9,7 @@ use Rattle.whole.specs.Places.{place, Least, place_none, place_least}
 use Rattle.paper.specs.Rows.{Row, is_line, from, to}
 use Rattle.paper.specs.Areas.{Net, area_of, row_area}
 use Rattle.paper.specs.Records.{count_at, current_at, Section, counts, voltages, currents, to_currents, histories, new_peak, new_peak_step, peaks, peak_steps, latches, sections, owner_of}
-use Rattle.paper.specs.Apart.{owned}
+use Rattle.paper.proofs.Apart.{owned}
 use Rattle.paper.specs.Advance.{Memory, memory}
 use Rattle.laws_facts.specs.Nets.{NetSound, row_at, net_in}
 use Rattle.paper.specs.Classes.{line_branch, breaker_branch, breaker_line}
@@ -23,7 +23,7 @@ use Rattle.laws_demands.specs.Said.{IsArea, peak_in, peak_step_in, from_current,
 use Rattle.laws_demands.specs.Judged.{asked}
 use Rattle.laws_demands.specs.Passing.{AllInRange}
 use Rattle.laws_demands.specs.Says.{Ready}
-use Rattle.laws_demands.specs.Step.{offered}
+use Rattle.laws_demands.proofs.Step.{offered}
 use Rattle.laws_versions.specs.Volts.{volt_one, plain_one, history_one, latch_one, current_one, sends_one}
 
 module _ (N : Net) (s : NetSound N) (a k : ℕ) (h : IsArea N a) (m n n' : Memory) (S : Offered N a k m n) (S' : Offered N a k m n') where

@@ -12,7 +12,7 @@ use Rattle.paper.specs.Rows.{Row}
 use Rattle.paper.specs.Network.{network_of}
 use Rattle.paper.specs.Records.{volt_at, count_of}
 use Rattle.paper.specs.Advance.{Memory, Advanced, advance_of}
-use Rattle.paper.specs.Kept.{advance_refused}
+use Rattle.paper.proofs.Kept.{advance_refused}
 use Rattle.paper.specs.Resetting.{fresh}
 use Rattle.paper.specs.Computing.{computing}
 use Rattle.laws_facts.specs.Nets.{net_in}

@@ -4,11 +4,12 @@ use Rattle.whole.specs.Plain.{ℕ, refl, ap, ◌∙◌, Bool, true, false, cond,
 use Rattle.whole.specs.Plain.{quot_z, ltb-true, div-le_of_le-mul, mul-le-mul_left, arith, z}
 use Rattle.whole.specs.Int.{abs_mul}
 use Rattle.whole.specs.Rounding.{part_size, quot_abs}
-use Rattle.num_cosine.specs.Cosine.{cosine, cosine_most}
+use Rattle.num_cosine.specs.Cosine.{cosine}
+use Rattle.num_cosine.proofs.Most.{cosine_most}
 use Rattle.paper.specs.Rows.{Row, is_vC, peak, start, rise}
 use Rattle.paper.specs.Areas.{Net}
 use Rattle.paper.specs.Sources.{risen, index, swung, source}
-use Rattle.paper.specs.Kept.{either}
+use Rattle.paper.proofs.Kept.{either}
 
 -- neither on its way up nor as it swings is a source larger than its peak
 pub risen_size : (r : Row) (n : ℕ) → nat_abs (risen r n) ≤ nat_abs (peak r)

@@ -12,7 +12,7 @@ use Rattle.paper.specs.Classes.{fixing_source}
 use Rattle.paper.specs.Faults.{fixes}
 use Rattle.paper.specs.Areas.{Net, area_of, fixed, nodes_of}
 use Rattle.paper.specs.Sources.{source, held}
-use Rattle.paper.specs.Kept.{either}
+use Rattle.paper.proofs.Kept.{either}
 use Rattle.paper.specs.Solve.{still_of}
 use Rattle.laws_facts.specs.Nets.{NetSound, row_at, held_is}
 use Rattle.laws_volts.specs.Range.{set_end}

@@ -10,8 +10,8 @@ use Rattle.paper.specs.Areas.{Net}
 use Rattle.paper.specs.Latch.{crosses, holds}
 use Rattle.paper.specs.Legs.{is_open}
 use Rattle.paper.specs.Computing.{computing}
-use Rattle.paper.specs.Examples.{Example, Call, runs, call, volts, amps, parted, lines, place_of, looked, goes, played, replay, tabbed}
-use Rattle.paper.specs.Cases.{Lending, lends, in_records, put_on, lent_again}
+use Rattle.paper.proofs.Examples.{Example, Call, runs, call, volts, amps, parted, lines, place_of, looked, goes, played, replay, tabbed}
+use Rattle.paper.proofs.Cases.{Lending, lends, in_records, put_on, lent_again}
 use Rattle.laws_asked.specs.Asked.{Saving, saves, put_over, saved_again}
 
 -- ---- "zero or of opposite sign": zero has no opposite sign

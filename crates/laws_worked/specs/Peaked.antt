@@ -10,8 +10,8 @@ use Rattle.paper.specs.Reading.{read_of}
 use Rattle.paper.specs.Resetting.{fresh}
 use Rattle.paper.specs.Looking.{look_of, looking_number}
 use Rattle.paper.specs.Computing.{computing}
-use Rattle.paper.specs.Examples.{Example, Call, runs, call, volts, peaks, lines, place_of, looked, goes, played, replay, tabbed}
-use Rattle.paper.specs.Cases.{Lending, lends, in_records, put_on, lent_again, plain, wired}
+use Rattle.paper.proofs.Examples.{Example, Call, runs, call, volts, peaks, lines, place_of, looked, goes, played, replay, tabbed}
+use Rattle.paper.proofs.Cases.{Lending, lends, in_records, put_on, lent_again, plain, wired}
 
 -- ---- peaks: "They equal the maximum over all accepted steps of that node's area and its first place"
 

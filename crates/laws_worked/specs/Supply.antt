@@ -4,7 +4,7 @@ use Rattle.whole.specs.Plain.{ℕ, suc, refl, List, [], map, ℤ, pos, negsuc, r
 use Rattle.paper.specs.declared.Reading.TheVariants.{Read, Form, Node, Value, Double, Full}
 use Rattle.paper.specs.declared.Advance.TheVariants.{Took}
 use Rattle.paper.specs.Computing.{computing}
-use Rattle.paper.specs.Examples.{Example, Call, runs, call, volts, lines, place_of, looked, goes, played, replay, tabbed}
+use Rattle.paper.proofs.Examples.{Example, Call, runs, call, volts, lines, place_of, looked, goes, played, replay, tabbed}
 
 -- step by step from step k on, node 1's voltage
 unfoldable pub swings : ℕ → List ℤ → List Call

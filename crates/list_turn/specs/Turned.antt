@@ -7,11 +7,12 @@ use Rattle.paper.specs.Limits as Limits
 use Rattle.paper.specs.Rows.{steps}
 use Rattle.paper.specs.Areas.{Net}
 use Rattle.paper.specs.Records.{current_at, to_current_at}
-use Rattle.paper.specs.Apart.{voltages_in, currents_in, to_currents_in, end_most, record_end}
+use Rattle.paper.proofs.Apart.{voltages_in, currents_in, to_currents_in, end_most, record_end}
 use Rattle.paper.specs.Advance.{Memory}
 use Rattle.paper.specs.Listing.{step_lines, stop_line}
 use Rattle.paper.specs.Pieces.{Piece, writing, ended, listed, full_step, step_piece}
-use Rattle.laws_facts.specs.Nets.{NetSound, net_in, net_sound}
+use Rattle.laws_facts.specs.Nets.{NetSound, net_in}
+use Rattle.laws_facts.proofs.Nets.{net_sound}
 use Rattle.list_digits.specs.Puts.{Puts}
 use Rattle.plan_rows.specs.declared.Totals.{Totals}
 use Rattle.plan_net.specs.Of.{Of}

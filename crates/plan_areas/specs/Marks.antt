@@ -9,7 +9,7 @@ use Rattle.whole.specs.Folds.{or_left, or_right, fold_next, fold_keeps, fold_map
 use Rattle.whole.specs.Filled.{length_filled, get_d_filled, get_d_filled_in, set_filled}
 use Rattle.whole.specs.Upto.{Upto, any_default}
 use Rattle.paper.specs.Limits as Limits
-use Rattle.paper.specs.Kept.{either}
+use Rattle.paper.proofs.Kept.{either}
 use Rattle.paper.specs.Rows.{Row}
 use Rattle.paper.specs.Network.{passes}
 use Rattle.paper.specs.Spread.{Join, mark, lower, joined, round, spread}

@@ -4,7 +4,8 @@ use Rattle.std.specs.Prelude.{◌≡◌}
 use Rattle.whole.specs.Plain.{ℕ, true, List, Words}
 use Rattle.paper.specs.Network.{is_network}
 use Rattle.paper.specs.Areas.{Net}
-use Rattle.laws_facts.specs.Nets.{NetSound, net_in, net_sound}
+use Rattle.laws_facts.specs.Nets.{NetSound, net_in}
+use Rattle.laws_facts.proofs.Nets.{net_sound}
 use Rattle.plan_rows.specs.declared.Totals.{Totals}
 use Rattle.plan_rows.specs.Planned.{Planned, totals_of}
 

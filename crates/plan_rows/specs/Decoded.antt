@@ -13,7 +13,8 @@ use Rattle.paper.specs.Areas.{Net, step, named, area_of}
 use Rattle.paper.specs.Records.{offset}
 use Rattle.laws_facts.specs.Fields.{Within}
 use Rattle.laws_facts.specs.Sound.{RowSound, named_branch, named_source}
-use Rattle.laws_facts.specs.Nets.{NetSound, net_in, row_at, net_sound, slots_within, row_beyond}
+use Rattle.laws_facts.specs.Nets.{NetSound, net_in, row_at, slots_within, row_beyond}
+use Rattle.laws_facts.proofs.Nets.{net_sound}
 use Rattle.plan_record.specs.Mapped.{Mapped}
 use Rattle.plan_ends.specs.Own.{owner_of}
 use Rattle.text_faults.specs.Seen.{Sized, conductance_of}

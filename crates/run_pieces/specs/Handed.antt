@@ -12,7 +12,7 @@ use Rattle.paper.specs.Advance.{Memory}
 use Rattle.paper.specs.Resetting.{fresh}
 use Rattle.paper.specs.Listing.{run_of}
 use Rattle.paper.specs.Pieces.{Listed, list_of}
-use Rattle.laws_facts.specs.Nets.{net_sound}
+use Rattle.laws_facts.proofs.Nets.{net_sound}
 use Rattle.laws_pieces.specs.Calls.{onward}
 use Rattle.laws_pieces.specs.Whole.{pieced, Roomy, pieces_run}
 

@@ -10,7 +10,7 @@ use Rattle.paper.specs.Rows.{is_branch, is_line, from, to}
 use Rattle.paper.specs.Areas.{Net, area_of, area_count, row_area}
 use Rattle.paper.specs.Records as Records
 use Rattle.paper.specs.Records.{current_at, to_current_at, history_at, Section, counts, voltages, currents, to_currents, histories, peaks, peak_steps, latches, sections}
-use Rattle.paper.specs.Apart.{owned}
+use Rattle.paper.proofs.Apart.{owned}
 use Rattle.paper.specs.Legs.{Branch, legs_of, heard}
 use Rattle.paper.specs.Advance.{memory, new_records, written}
 use Rattle.laws_facts.specs.Nets.{NetSound, row_at}

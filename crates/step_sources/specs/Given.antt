@@ -11,7 +11,7 @@ use Rattle.whole.specs.Filled.{get_d_same}
 use Rattle.whole.specs.Written.{set_at}
 use Rattle.paper.specs.Limits as Limits
 use Rattle.paper.specs.Rows.{Row, at}
-use Rattle.paper.specs.Kept.{either}
+use Rattle.paper.proofs.Kept.{either}
 use Rattle.laws_volts.specs.Range.{set_end}
 use Rattle.step_legs.specs.Sums.{none, from_none}
 use Rattle.step_sources.specs.Table.{value_of, Room, give, given}

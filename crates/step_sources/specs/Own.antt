@@ -14,7 +14,7 @@ use Rattle.paper.specs.Faults.{fixes}
 use Rattle.paper.specs.Areas.{Net, step, area_of}
 use Rattle.paper.specs.Sources.{risen, phase, swung, source, held, injected}
 use Rattle.paper.specs.Solve.{still_of}
-use Rattle.paper.specs.Kept.{either}
+use Rattle.paper.proofs.Kept.{either}
 use Rattle.laws_facts.specs.Fields.{Within, wider}
 use Rattle.laws_facts.specs.Sound.{StudySound, SourceSound}
 use Rattle.laws_facts.specs.Nets.{NetSound, row_at}

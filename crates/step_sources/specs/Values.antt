@@ -7,11 +7,12 @@ use Rattle.std.proofs.Common.{SFits}
 use Rattle.whole.specs.Int.{subℕ_ge}
 use Rattle.whole.specs.Size.{∣◌∣≤◌, mul, fits}
 use Rattle.whole.specs.Rounding.{part_size}
-use Rattle.num_cosine.specs.Cosine.{cosine, cosine_most}
+use Rattle.num_cosine.specs.Cosine.{cosine}
+use Rattle.num_cosine.proofs.Most.{cosine_most}
 use Rattle.paper.specs.Limits as Limits
 use Rattle.paper.specs.Rows.{Row, is_vC, peak}
 use Rattle.paper.specs.Sources.{phase, index, swung}
-use Rattle.paper.specs.Kept.{either}
+use Rattle.paper.proofs.Kept.{either}
 use Rattle.laws_volts.specs.Sources.{swung_size}
 use Rattle.step_sources.specs.Table.{pace, since, ramp_of, swing_of, value_of}
 

@@ -13,7 +13,7 @@ use Rattle.whole.specs.Turns.{run, turns}
 use Rattle.paper.specs.Rows.{Field, Kind, kinds, fields_of, no_kind, signed}
 use Rattle.paper.specs.Classes.{kind_count}
 use Rattle.paper.specs.Text.{LF, TAB, split, spelt, all_spelt, number_of, place_of, line_kind}
-use Rattle.paper.specs.Kept.{either}
+use Rattle.paper.proofs.Kept.{either}
 use Rattle.text_kinds.specs.Table.{low}
 use Rattle.text_kinds.specs.Fields.{fields_few}
 use Rattle.text_words.specs.Numbers.{cap_z, read_number}

@@ -8,7 +8,7 @@ use Rattle.whole.specs.Folds.{and_left, and_right}
 use Rattle.paper.specs.Rows.{Row, kind, is_study}
 use Rattle.paper.specs.Faults.{row_fault}
 use Rattle.paper.specs.Text.{line_kind, row_of}
-use Rattle.paper.specs.Kept.{either}
+use Rattle.paper.proofs.Kept.{either}
 use Rattle.paper.specs.Network.{Table}
 use Rattle.paper.specs.Reading.{Lines, good, bad, line_number, taken, line_read, closed, lines_of}
 use Rattle.text_faults.specs.declared.Seen.{Seen}

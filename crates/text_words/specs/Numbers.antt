@@ -6,7 +6,7 @@ use Rattle.whole.specs.Plain.{drop_of_length-le, length-drop, drop-cons, lt-ltb,
 use Rattle.whole.specs.Plain.{dec_lt, ℕ_discrete, arith, z, empty, every, fold}
 use Rattle.whole.specs.Truths.{and-false, and-true, or_false}
 use Rattle.paper.specs.Text.{digit, decimal, negative, decimal_of, number_of}
-use Rattle.paper.specs.Kept.{either}
+use Rattle.paper.proofs.Kept.{either}
 use Rattle.text_words.specs.declared.Digits.{Digits}
 use Rattle.text_words.specs.declared.Number.{Number}
 

@@ -8,7 +8,7 @@ use Rattle.whole.specs.Tables.{table, table_at}
 use Rattle.whole.specs.Truths.{and-false}
 use Rattle.paper.specs.Rows.{bytes, kinds, word_of}
 use Rattle.paper.specs.Text.{place_of}
-use Rattle.paper.specs.Kept.{either}
+use Rattle.paper.proofs.Kept.{either}
 use Rattle.text_kinds.specs.Fields.{each}
 
 -- ---- the letters of a kind's word, as code holds them

@@ -1,7 +1,8 @@
 -- `call_shape::area_in` meets its contract: a node of the network has the area that the plan has for it. Assumes nothing.
 use Rattle.std.specs.Prelude.{◌≤◌, ◌<◌, ◌≡◌}
 use Rattle.whole.specs.Plain.{ap, le-leb, lt-leb, arith}
-use Rattle.laws_facts.specs.Nets.{net_in, net_sound}
+use Rattle.laws_facts.specs.Nets.{net_in}
+use Rattle.laws_facts.proofs.Nets.{net_sound}
 use Rattle.plan_rows.specs.declared.Totals.{Totals}
 use Rattle.call_shape.specs.declared.Asked.TheVariants.{Told}
 use Rattle.call_shape.specs.Asked.{area_in}

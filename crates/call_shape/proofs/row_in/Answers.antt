@@ -2,7 +2,8 @@
 use Rattle.std.specs.Prelude.{◌≤◌, ◌≡◌}
 use Rattle.whole.specs.Plain.{ℕ, List, Words, suc, sym, ap, ◌∙◌, le-leb, lt-leb, length, arith}
 use Rattle.paper.specs.Areas.{branch_number}
-use Rattle.laws_facts.specs.Nets.{net_in, net_sound}
+use Rattle.laws_facts.specs.Nets.{net_in}
+use Rattle.laws_facts.proofs.Nets.{net_sound}
 use Rattle.plan_rows.specs.declared.Row.{Row}
 use Rattle.plan_rows.specs.declared.Totals.{Totals}
 use Rattle.plan_rows.specs.Planned.{Planned, totals_of, row_of}

@@ -4,7 +4,8 @@ use Rattle.whole.specs.Plain.{ℕ, suc, ap, ◌∙◌, List, length, arith, fill
 use Rattle.whole.specs.Turns.{turns}
 use Rattle.whole.specs.Folds.{length_numbers}
 use Rattle.whole.specs.Filled.{length_filled}
-use Rattle.laws_facts.specs.Nets.{net_in, net_sound}
+use Rattle.laws_facts.specs.Nets.{net_in}
+use Rattle.laws_facts.proofs.Nets.{net_sound}
 use Rattle.plan_areas.specs.Marks.{mark_words, round_of}
 use Rattle.plan_areas.specs.Numbered.{spread_in}
 use Rattle.plan_areas.proofs.areas.Goals as goal

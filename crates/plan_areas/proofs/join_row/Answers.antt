@@ -5,7 +5,8 @@ use Rattle.paper.specs.Rows.{Row, kind, is_branch, branch_kind}
 use Rattle.paper.specs.Network.{is_network}
 use Rattle.paper.specs.Areas.{step}
 use Rattle.laws_facts.specs.Sound.{BranchSound}
-use Rattle.laws_facts.specs.Nets.{net_in, row_at, net_sound}
+use Rattle.laws_facts.specs.Nets.{net_in, row_at}
+use Rattle.laws_facts.proofs.Nets.{net_sound}
 use Rattle.plan_areas.specs.Marks.{idle_row, busy_row}
 use Rattle.plan_areas.specs.Joining.{source_none, line_none, from_none, to_none, joins_both}
 use Rattle.plan_areas.proofs.join_row.Goals as goal

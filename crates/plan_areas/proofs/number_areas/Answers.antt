@@ -1,7 +1,8 @@
 -- `plan_areas::number_areas` meets its contract: the nodes passed have their areas' numbers. Assumes nothing.
 use Rattle.std.specs.Prelude.{◌≡◌}
 use Rattle.whole.specs.Plain.{arith}
-use Rattle.laws_facts.specs.Nets.{net_in, net_sound}
+use Rattle.laws_facts.specs.Nets.{net_in}
+use Rattle.laws_facts.proofs.Nets.{net_sound}
 use Rattle.plan_areas.specs.Numbered.{first_in, next_in, mark_in, count_in, areas_in}
 use Rattle.plan_areas.proofs.number_areas.Goals as goal
 

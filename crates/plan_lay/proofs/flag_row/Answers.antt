@@ -5,7 +5,8 @@ use Rattle.paper.specs.Rows.{Row, kind, fixing_kind, is_fixing}
 use Rattle.paper.specs.Network.{is_network}
 use Rattle.paper.specs.Classes.{fixing_source}
 use Rattle.laws_facts.specs.Sound.{SourceSound}
-use Rattle.laws_facts.specs.Nets.{net_in, row_at, net_sound}
+use Rattle.laws_facts.specs.Nets.{net_in, row_at}
+use Rattle.laws_facts.proofs.Nets.{net_sound}
 use Rattle.plan_lay.specs.Flags.{flag_not, flag_put}
 use Rattle.plan_lay.proofs.flag_row.Goals as goal
 

@@ -7,7 +7,8 @@ use Rattle.paper.specs.Rows.{Row, kind, is_source, at, source_kind}
 use Rattle.paper.specs.Network.{is_network}
 use Rattle.paper.specs.Areas.{Net, area_of}
 use Rattle.laws_facts.specs.Sound.{SourceSound}
-use Rattle.laws_facts.specs.Nets.{net_in, row_at, net_sound}
+use Rattle.laws_facts.specs.Nets.{net_in, row_at}
+use Rattle.laws_facts.proofs.Nets.{net_sound}
 use Rattle.plan_record.specs.Mapped.{Mapped}
 use Rattle.plan_ends.specs.Own.{own_source}
 use Rattle.plan_lay.specs.Grown.{put_yes, put_no}

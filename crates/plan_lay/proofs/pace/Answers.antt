@@ -10,7 +10,8 @@ use Rattle.paper.specs.Rows.{Row, is_source, frequency}
 use Rattle.paper.specs.Network.{is_network}
 use Rattle.paper.specs.Areas.{step}
 use Rattle.laws_facts.specs.Sound.{SourceSound}
-use Rattle.laws_facts.specs.Nets.{net_in, row_at, net_sound, network_length, head_word}
+use Rattle.laws_facts.specs.Nets.{net_in, row_at, network_length, head_word}
+use Rattle.laws_facts.proofs.Nets.{net_sound}
 use Rattle.plan_lay.specs.Sources.{pace_swings, pace_rises}
 use Rattle.plan_lay.proofs.pace.Goals as goal
 

@@ -2,7 +2,8 @@
 use Rattle.std.specs.Prelude.{◌≤◌, ◌≡◌}
 use Rattle.whole.specs.Plain.{ℕ, Bool, List, Words, suc, sym, ap, ◌∙◌, arith}
 use Rattle.paper.specs.Areas.{area_count}
-use Rattle.laws_facts.specs.Nets.{net_in, net_sound, area_count_most}
+use Rattle.laws_facts.specs.Nets.{net_in, area_count_most}
+use Rattle.laws_facts.proofs.Nets.{net_sound}
 use Rattle.plan_rows.specs.declared.Totals.{Totals}
 use Rattle.plan_own.specs.Owns.{Given}
 use Rattle.plan_own.specs.Laying.{laying_none, laying_more}

@@ -1,7 +1,8 @@
 -- `plan_own::lay_area` meets its contract: each part is laid by its own function. Assumes nothing.
 use Rattle.std.specs.Prelude.{◌<◌, ◌≤◌, ◌≡◌}
 use Rattle.whole.specs.Plain.{ℕ, ap, ◌∙◌, Bool, true, false, List, map, length, length-map, arith, Words}
-use Rattle.laws_facts.specs.Nets.{NetSound, net_in, net_sound}
+use Rattle.laws_facts.specs.Nets.{NetSound, net_in}
+use Rattle.laws_facts.proofs.Nets.{net_sound}
 use Rattle.paper.specs.Areas.{free_of}
 use Rattle.plan_ends.specs.Own.{own_ends, fixed_of, source_lines}
 use Rattle.plan_rows.specs.declared.Totals.{Totals}

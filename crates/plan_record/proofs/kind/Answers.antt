@@ -1,6 +1,6 @@
 -- `plan_record::kind` meets its contract. Assumes nothing.
 use Rattle.whole.specs.Plain.{refl, ap, ◌∙◌, arith, nat}
-use Rattle.laws_facts.specs.Nets.{net_sound}
+use Rattle.laws_facts.proofs.Nets.{net_sound}
 use Rattle.plan_record.proofs.kind.Goals as goal
 
 pub number-requires : goal.number-requires

@@ -1,7 +1,8 @@
 -- `plan_record::value` meets its contract: the row's word is the record's. Assumes nothing.
 use Rattle.whole.specs.Plain.{sym, ◌∙◌, arith}
 use Rattle.whole.specs.Int.{read64}
-use Rattle.laws_facts.specs.Nets.{net_sound, network_length, row_word}
+use Rattle.laws_facts.specs.Nets.{network_length, row_word}
+use Rattle.laws_facts.proofs.Nets.{net_sound}
 use Rattle.plan_record.proofs.value.Goals as goal
 
 pub overflow_mul-result : goal.overflow_mul-result

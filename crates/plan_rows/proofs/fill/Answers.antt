@@ -4,7 +4,8 @@ use Rattle.whole.specs.Plain.{refl, sym, ap, ◌∙◌, length, arith, count}
 use native.Mathlib.Numerals.{add-one}
 use Rattle.paper.specs.Areas.{branch_number}
 use Rattle.paper.specs.Records.{offset}
-use Rattle.laws_facts.specs.Nets.{net_in, net_sound}
+use Rattle.laws_facts.specs.Nets.{net_in}
+use Rattle.laws_facts.proofs.Nets.{net_sound}
 use Rattle.plan_rows.specs.declared.Row.{Row}
 use Rattle.plan_rows.specs.Planned.{row_of}
 use Rattle.plan_rows.specs.Decoded.{slots_end}

@@ -1,6 +1,6 @@
 -- `plan_rows::named` meets its contract. Assumes nothing.
 use Rattle.whole.specs.Plain.{arith}
-use Rattle.laws_facts.specs.Nets.{net_sound}
+use Rattle.laws_facts.proofs.Nets.{net_sound}
 use Rattle.plan_rows.specs.Decoded.{from_in, named_is}
 use Rattle.plan_rows.proofs.named.Goals as goal
 

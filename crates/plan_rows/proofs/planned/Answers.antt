@@ -3,7 +3,8 @@ use Rattle.std.specs.Prelude.{◌/◌, ◌%◌, ◌≤◌, ◌≡◌}
 use Rattle.whole.specs.Plain.{sym, ◌∙◌, arith}
 use Rattle.paper.specs.Limits as Limits
 use Rattle.paper.specs.Faults as Faults
-use Rattle.laws_facts.specs.Nets.{net_in, row_at, net_sound, travel_word, branch_number_most}
+use Rattle.laws_facts.specs.Nets.{net_in, row_at, branch_number_most}
+use Rattle.laws_facts.proofs.Nets.{net_sound, travel_word}
 use Rattle.plan_rows.specs.ByKind.{slots_by, slots_by_lem}
 use Rattle.plan_rows.specs.Planned.{row_of}
 use Rattle.plan_rows.specs.Decoded.{from_in, to_most, slots_end, open_word, owner_from, owner_to}

@@ -2,7 +2,8 @@
 use Rattle.std.specs.Prelude.{◌≡◌}
 use Rattle.whole.specs.Plain.{sym, ap, ◌∙◌, true, arith}
 use Rattle.paper.specs.Rows.{is_branch}
-use Rattle.laws_facts.specs.Nets.{net_in, row_at, net_sound}
+use Rattle.laws_facts.specs.Nets.{net_in, row_at}
+use Rattle.laws_facts.proofs.Nets.{net_sound}
 use Rattle.paper.specs.Rows.{branch_kind}
 use Rattle.plan_rows.specs.Decoded.{branch, no_branch}
 use Rattle.plan_rows.proofs.to_at.Goals as goal

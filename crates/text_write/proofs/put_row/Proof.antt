@@ -6,7 +6,8 @@ use Rattle.paper.specs.Rows.{word_of}
 use Rattle.paper.specs.Listing.{line_of}
 use Rattle.paper.specs.Writing.{row_line}
 use Rattle.laws_facts.specs.Layout.{arity_most}
-use Rattle.laws_facts.specs.Nets.{net_in, row_at, net_sound, network_length}
+use Rattle.laws_facts.specs.Nets.{net_in, row_at, network_length}
+use Rattle.laws_facts.proofs.Nets.{net_sound}
 use Rattle.list_digits.specs.Puts.{puts_as}
 use Rattle.text_write.specs.Lines.{row_line_lem}
 use Rattle.text_write.proofs.put_row.Statement.{statement}

@@ -20,10 +20,11 @@ use Rattle.laws_local.specs.Outcome.{step_of, legs_now, taken}
 use Rattle.laws_demands.specs.Said.{voltage, peak_in, peak_step_in, offer, Offered, Stepped}
 use Rattle.laws_demands.specs.Judged.{Asked, asked, call_of}
 use Rattle.laws_demands.specs.Volts.{fixed_volt, free_whole}
-use Rattle.laws_demands.specs.Branches.{now, snd, volt_of, plain_obeys, from_obeys, to_obeys}
+use Rattle.laws_demands.specs.Branches.{now, snd, volt_of}
+use Rattle.laws_demands.proofs.Branches.{plain_obeys, from_obeys, to_obeys}
 use Rattle.laws_demands.specs.Passing.{AllInRange, all_inside}
 use Rattle.laws_demands.specs.Says.{Ready}
-use Rattle.laws_demands.specs.Exact.{exactly}
+use Rattle.laws_demands.proofs.Exact.{exactly}
 
 module _ (N : Net) (a : ℕ) (m : Memory) (ok : Asked N a m) where
   open now N a m use {k, ears, v}

@@ -16,7 +16,8 @@ use Rattle.paper.specs.Advance.{Memory, Advanced, waits_for, take_step, ready, o
 use Rattle.laws_facts.specs.Nets.{net_in}
 use Rattle.laws_floats.specs.Floats.{search_floats, floats_search}
 use Rattle.laws_local.specs.Nodes.{free_of_lem}
-use Rattle.laws_local.specs.Waits.{not_late, late_not, late_place, waits_line, waits_behind, behind_waits, free_allowed, allowed_free}
+use Rattle.laws_local.specs.Waits.{late_not, late_place, waits_line, waits_behind, behind_waits, allowed_free}
+use Rattle.laws_local.proofs.Waits.{not_late, free_allowed}
 use Rattle.laws_local.specs.Outcome.{legs_now, volts_of, late_now, is_area, is_done, lone, outside, heavy, large, Solving, floats, leaves, tips, exceeds, solves, solving, Outcome, no_area, done, waits, stops, takes, outcome}
 use Rattle.laws_stays.specs.Stays.{stop_move}
 use Rattle.laws_demands.specs.Said.{IsArea}

@@ -1,0 +1,3 @@
+pub mod Branches
+pub mod Exact
+pub mod Step

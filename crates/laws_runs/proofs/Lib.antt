@@ -1,0 +1,4 @@
+pub mod Orders
+pub mod Heard
+pub mod Lines
+pub mod Ends
