@@ -20,7 +20,7 @@ use Rattle.laws_local.specs.Own.{row_is, legs_length, branch_is, line_no, keeper
 use Rattle.laws_local.specs.Written.{history_put}
 use Rattle.laws_local.specs.Slots.{sent_put}
 use Rattle.laws_local.specs.Outcome.{legs_now, large}
-use Rattle.laws_stays.specs.Sizes.{beyond_place}
+use Rattle.laws_stays.proofs.Sizes.{beyond_place}
 use Rattle.laws_demands.specs.Said.{history, from_sent, to_sent, offer}
 use Rattle.laws_demands.specs.Judged.{Asked}
 use Rattle.laws_demands.specs.Branches.{now, snd, from_leg, to_leg, from_else, to_else, plain_legs_lem, row_else}

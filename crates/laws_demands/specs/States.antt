@@ -14,7 +14,8 @@ use Rattle.laws_local.specs.Owners.{OnlyOwn, writes_own}
 use Rattle.laws_local.specs.Outcome.{step_of}
 use Rattle.laws_local.specs.Depends.{SameFor, SameOut}
 use Rattle.laws_local.proofs.Depends.{depends_on}
-use Rattle.laws_stays.specs.Stays.{Long, fresh_well, stays}
+use Rattle.laws_stays.specs.Stays.{Long, fresh_well}
+use Rattle.laws_stays.proofs.Stays.{stays}
 use Rattle.laws_demands.specs.Judged.{Judged, fits_long, call_of}
 
 pub long_fits : (net : Words) (m : Memory) → is_network net ≡ true → Long m → fits net m ≡ true

@@ -19,7 +19,7 @@ use Rattle.paper.specs.Doubles.{CheckedVoltage, Good, Refused, as_voltage, tenth
 use Rattle.paper.specs.Elimination.{System, voltages, solved, row_solved, eliminated}
 use Rattle.paper.specs.Solve.{system, proposed, settled, out_of_range, still_of}
 use Rattle.laws_facts.specs.Nets.{NetSound, row_at, held_is}
-use Rattle.laws_volts.specs.Still.{still_at, still_ground, still_length}
+use Rattle.laws_volts.proofs.Still.{still_at, still_ground, still_length}
 use Rattle.laws_floats.specs.Floats.{free_rising}
 use Rattle.laws_local.specs.Nodes.{NodeOf, free_of_lem}
 use Rattle.laws_local.specs.Outcome.{rounded, volts_of}

@@ -23,7 +23,7 @@ use Rattle.laws_facts.specs.Nets.{net_in}
 use Rattle.laws_facts.proofs.Nets.{net_sound}
 use Rattle.laws_stays.specs.Stays.{fresh_well, zero_word}
 use Rattle.laws_demands.specs.States.{long_fits, fresh_long}
-use Rattle.laws_spelling.specs.Networks.{network_exactly}
+use Rattle.laws_spelling.proofs.Networks.{network_exactly}
 use Rattle.laws_runs.specs.Moves.{Inv}
 use Rattle.laws_pieces.specs.Level.{Level}
 use Rattle.laws_pieces.specs.Runs.{run_from}

@@ -9,9 +9,10 @@ use Rattle.paper.specs.declared.Advance.TheVariants.{Done, Wait}
 use Rattle.paper.specs.Answers.{accepted}
 use Rattle.paper.specs.Rows.{is_line, from, to, steps}
 use Rattle.paper.specs.Records.{count_at, count_of, end_of}
-use Rattle.paper.specs.Apart.{counts_in, end_most}
+use Rattle.paper.proofs.Apart.{counts_in, end_most}
 use Rattle.paper.specs.Advance.{Memory, advance_of}
-use Rattle.laws_facts.specs.Nets.{row_at, area_of_lem, net_sound}
+use Rattle.laws_facts.specs.Nets.{row_at, area_of_lem}
+use Rattle.laws_facts.proofs.Nets.{net_sound}
 use Rattle.laws_order.specs.Calls as C
 use Rattle.laws_order.specs.Orders as O
 use Rattle.laws_local.specs.Sound.{Sound, sound}

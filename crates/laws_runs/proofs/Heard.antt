@@ -11,13 +11,16 @@ use Rattle.paper.specs.Faults.{depth}
 use Rattle.paper.specs.Records.{count_of, offset}
 use Rattle.paper.specs.Legs as Legs
 use Rattle.paper.specs.Advance.{Memory, Advanced, advance_of}
-use Rattle.laws_facts.specs.Nets.{row_at, net_sound}
+use Rattle.laws_facts.specs.Nets.{row_at}
+use Rattle.laws_facts.proofs.Nets.{net_sound}
 use Rattle.laws_facts.specs.Travels.{Reads}
 use Rattle.laws_order.specs.Calls.{put}
-use Rattle.laws_order.specs.Ring.{Holds, places, holds_read}
+use Rattle.laws_order.specs.Ring.{Holds, places}
+use Rattle.laws_order.proofs.Ring.{holds_read}
 use Rattle.laws_local.specs.Sound.{sound}
 use Rattle.laws_local.specs.Slots.{delay_at, slot_of, line_slots}
-use Rattle.laws_local.specs.Waits.{Allowed, not_late}
+use Rattle.laws_local.specs.Waits.{Allowed}
+use Rattle.laws_local.proofs.Waits.{not_late}
 use Rattle.laws_local.specs.Outcome.{step_of}
 use Rattle.laws_stays.specs.Formed.{Formed, formed}
 use Rattle.laws_runs.specs.Runs.{Lent, from_reset, after, accepts, taken}

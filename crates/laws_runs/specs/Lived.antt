@@ -7,8 +7,9 @@ use Rattle.paper.specs.declared.Advance.TheVariants.{Took}
 use Rattle.paper.specs.Answers.{accepted}
 use Rattle.paper.specs.Records.{count_at, count_of}
 use Rattle.paper.specs.Advance.{Memory, Advanced, advance_of}
-use Rattle.paper.specs.Kept.{advance_refused}
-use Rattle.laws_facts.specs.Nets.{net_in, net_sound}
+use Rattle.paper.proofs.Kept.{advance_refused}
+use Rattle.laws_facts.specs.Nets.{net_in}
+use Rattle.laws_facts.proofs.Nets.{net_sound}
 use Rattle.laws_local.specs.Sound.{sound}
 use Rattle.laws_local.specs.Own.{own_count}
 use Rattle.laws_local.specs.Outcome.{step_of}

@@ -13,19 +13,22 @@ use Rattle.paper.specs.Areas.{Net, area_of, area_count}
 use Rattle.paper.specs.Records.{count_of, well_formed, owner_of}
 use Rattle.paper.specs.Legs.{Heard, heard}
 use Rattle.paper.specs.Advance.{Memory, memory, Advanced, advanced, written, first_late, on_net, advance_of}
-use Rattle.paper.specs.Kept.{advance_refused}
-use Rattle.laws_facts.specs.Nets.{NetSound, net_sound, row_at, net_in, area_of_lem}
+use Rattle.paper.proofs.Kept.{advance_refused}
+use Rattle.laws_facts.specs.Nets.{NetSound, row_at, net_in, area_of_lem}
+use Rattle.laws_facts.proofs.Nets.{net_sound}
 use Rattle.laws_order.specs.Calls.{Moves}
 use Rattle.laws_order.specs.Local.{Local}
 use Rattle.laws_local.specs.Sound.{Sound, sound}
 use Rattle.laws_local.specs.Owners.{keeper_of, writes_own}
-use Rattle.laws_local.specs.Waits.{Free, not_late, late_not}
+use Rattle.laws_local.specs.Waits.{Free, late_not}
+use Rattle.laws_local.proofs.Waits.{not_late}
 use Rattle.laws_local.specs.Outcome.{step_of, legs_now, volts_of, late_now, is_area, is_done, Outcome, no_area, done, waits, stops, takes, outcome, StepRefusal, floating14, range15, unbalanced16, history17, Taken}
 use Rattle.laws_local.specs.Outcome as Outcome
 use Rattle.laws_local.specs.Touch.{touch_same}
 use Rattle.laws_local.specs.Depends.{SameOut, SameLengths, same_out, same_count}
-use Rattle.laws_local.specs.Quiet.{quiet}
-use Rattle.laws_stays.specs.Stays.{Long, stays, counted, uncounted}
+use Rattle.laws_local.proofs.Quiet.{quiet}
+use Rattle.laws_stays.specs.Stays.{Long}
+use Rattle.laws_stays.proofs.Stays.{stays, counted, uncounted}
 use Rattle.laws_demands.specs.States.{long_fits}
 use Rattle.laws_runs.specs.Runs.{firm}
 

@@ -12,8 +12,9 @@ use Rattle.paper.specs.Areas.{Net, area_of}
 use Rattle.paper.specs.Records.{count_of, offset}
 use Rattle.paper.specs.Legs.{End, Branch}
 use Rattle.paper.specs.Advance.{Memory, Advanced, written, advance_of}
-use Rattle.paper.specs.Kept.{advance_refused}
-use Rattle.laws_facts.specs.Nets.{net_in, row_at, area_of_lem, net_sound}
+use Rattle.paper.proofs.Kept.{advance_refused}
+use Rattle.laws_facts.specs.Nets.{net_in, row_at, area_of_lem}
+use Rattle.laws_facts.proofs.Nets.{net_sound}
 use Rattle.laws_order.specs.Ring.{slot, Holds, holds_still, holds_sent}
 use Rattle.laws_local.specs.Sound.{Sound, sound}
 use Rattle.laws_local.specs.Owners.{keeper_of_lem}

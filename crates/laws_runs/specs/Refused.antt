@@ -10,9 +10,10 @@ use Rattle.paper.specs.Rows.{from, to}
 use Rattle.paper.specs.Areas.{area_of}
 use Rattle.paper.specs.Records.{count_at, count_of}
 use Rattle.paper.specs.Advance.{Memory, Advanced, advance_of}
-use Rattle.paper.specs.Kept.{advance_refused}
+use Rattle.paper.proofs.Kept.{advance_refused}
 use Rattle.paper.specs.Resetting.{fresh}
-use Rattle.laws_facts.specs.Nets.{row_at, area_of_lem, net_sound}
+use Rattle.laws_facts.specs.Nets.{row_at, area_of_lem}
+use Rattle.laws_facts.proofs.Nets.{net_sound}
 use Rattle.laws_order.specs.Calls as C
 use Rattle.laws_order.specs.Calls.{put}
 use Rattle.laws_order.specs.Orders as O

@@ -8,7 +8,7 @@ use Rattle.paper.specs.Answers.{accepted}
 use Rattle.paper.specs.Network.{is_network}
 use Rattle.paper.specs.Legs.{Heard}
 use Rattle.paper.specs.Advance.{Memory, advance_of}
-use Rattle.paper.specs.Kept.{advance_refused}
+use Rattle.paper.proofs.Kept.{advance_refused}
 use Rattle.laws_facts.specs.Nets.{net_in}
 use Rattle.laws_order.specs.Same.{same}
 use Rattle.laws_order.specs.Calls as C

@@ -3,8 +3,5 @@ pub mod Numbers
 pub mod Pieces
 pub mod Lines
 pub mod Texts
-pub mod Reader
 pub mod Tables
 pub mod Said
-pub mod Networks
-pub mod Written

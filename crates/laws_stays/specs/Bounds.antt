@@ -24,7 +24,7 @@ use Rattle.laws_local.specs.Puts.{put_with}
 use Rattle.laws_local.specs.Slots.{slots_at, slot_of, some_slots, slots_inside, sent_as}
 use Rattle.laws_stays.specs.Formed.{Formed, slot_end}
 use Rattle.laws_stays.specs.Volts.{AllVolts}
-use Rattle.laws_stays.specs.Sizes.{current_size, ends_ranged, InRange}
+use Rattle.laws_stays.proofs.Sizes.{current_size, ends_ranged, InRange}
 
 -- ---- words within their ends
 

@@ -27,8 +27,8 @@ use Rattle.laws_local.specs.Outcome.{step_of, legs_now, volts_of, large, Taken, 
 use Rattle.laws_stays.specs.Formed.{Peaked, latch_in, Latched, Formed, formed, well_formed_lem}
 use Rattle.laws_stays.specs.Latches.{latch_later, latch_next}
 use Rattle.laws_stays.specs.Volts.{AllVolts, step_volts}
-use Rattle.laws_stays.specs.Sizes.{InRange, none_beyond}
-use Rattle.laws_stays.specs.Bounds.{records_bounded, froms_bounded, tos_bounded}
+use Rattle.laws_stays.proofs.Sizes.{InRange, none_beyond}
+use Rattle.laws_stays.proofs.Bounds.{records_bounded, froms_bounded, tos_bounded}
 
 -- ---- T-fresh
 

@@ -13,7 +13,7 @@ use Rattle.paper.specs.Elimination.{voltages}
 use Rattle.paper.specs.Solve.{system, proposed, settled, still_of}
 use Rattle.laws_facts.specs.Nets.{NetSound}
 use Rattle.laws_volts.specs.Range.{whole_most, set_end}
-use Rattle.laws_volts.specs.Still.{still_end}
+use Rattle.laws_volts.proofs.Still.{still_end}
 use Rattle.laws_local.specs.Outcome.{rounded, volts_of}
 
 -- a double that is rounded

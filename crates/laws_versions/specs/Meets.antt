@@ -9,7 +9,8 @@ use Rattle.paper.specs.Advance.{Memory, Advanced, advanced, advance_of}
 use Rattle.paper.proofs.Kept.{advance_refused}
 use Rattle.laws_facts.specs.Nets.{net_in}
 use Rattle.laws_facts.proofs.Nets.{net_sound}
-use Rattle.laws_stays.specs.Stays.{Long, stays}
+use Rattle.laws_stays.specs.Stays.{Long}
+use Rattle.laws_stays.proofs.Stays.{stays}
 use Rattle.laws_demands.specs.Said.{Stepped}
 use Rattle.laws_demands.specs.Judged.{fits_long, call_of}
 use Rattle.laws_demands.specs.Says.{Says}

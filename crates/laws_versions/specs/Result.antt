@@ -18,7 +18,8 @@ use Rattle.laws_local.specs.Own.{line_no, keeper}
 use Rattle.laws_local.specs.Nodes.{NodeOf}
 use Rattle.laws_local.specs.Slots.{slot_of}
 use Rattle.laws_local.specs.Outcome.{step_of}
-use Rattle.laws_stays.specs.Stays.{Long, next_long}
+use Rattle.laws_stays.specs.Stays.{Long}
+use Rattle.laws_stays.proofs.Stays.{next_long}
 use Rattle.laws_demands.specs.Said.{IsArea, peak_in, peak_step_in, from_current, to_current, from_sent, to_sent, offer, Offered}
 use Rattle.laws_demands.specs.Judged.{asked}
 use Rattle.laws_demands.specs.Passing.{AllInRange}

@@ -1,4 +1,4 @@
--- "a quarter table of 257 entries scaled to 2^30, and its two rules". Assumes nothing.
+-- "a quarter table of 257 entries scaled to 2^30", and its two rules. Assumes nothing.
 use Rattle.std.specs.Prelude.{◌+◌, ◌*◌, ◌^◌, ◌≤◌, ◌≡◌, ◌&&◌, ◌∷◌}
 use Rattle.whole.specs.Plain.{ℕ, zero, suc, refl, Bool, true, List, [], eqb, leb, ltb}
 use Rattle.whole.specs.Plain.{get_or, length}

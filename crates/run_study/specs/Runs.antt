@@ -19,7 +19,7 @@ use Rattle.paper.specs.Answers.{reading_number, reading_line}
 use Rattle.paper.specs.Listing.{listing, listing_from, shown, shown_all, line_of}
 use Rattle.laws_stays.specs.Stays.{Long}
 use Rattle.laws_demands.specs.States.{long_fits, reset_is}
-use Rattle.laws_spelling.specs.Networks.{network_exactly}
+use Rattle.laws_spelling.proofs.Networks.{network_exactly}
 use Rattle.run_pieces.specs.Handed.{handed, handed_run}
 use Rattle.run_pieces.specs.declared.Next.{Next}
 use Rattle.run_pieces.specs.declared.Next.TheVariants.{More, Last, Stopped, Unwritten}

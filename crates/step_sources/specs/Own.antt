@@ -18,7 +18,7 @@ use Rattle.paper.proofs.Kept.{either}
 use Rattle.laws_facts.specs.Fields.{Within, wider}
 use Rattle.laws_facts.specs.Sound.{StudySound, SourceSound}
 use Rattle.laws_facts.specs.Nets.{NetSound, row_at}
-use Rattle.laws_volts.specs.Still.{area_node, still_at, still_length, still_end}
+use Rattle.laws_volts.proofs.Still.{area_node, still_at, still_length, still_end}
 use Rattle.plan_ends.specs.Own.{own_source, own_sources, pace_of, source_line, source_lines}
 use Rattle.step_legs.specs.Shares.{Volts}
 use Rattle.step_sources.specs.Table.{LineSound, Sources, ramp_of, swing_of, value_of, given}

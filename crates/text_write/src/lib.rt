@@ -50,8 +50,8 @@ fn put_fields(pairs: &Pairs, fields: &[i64], out: &mut [u8], at: usize) -> usize
 }
 
 fn put_line(pairs: &Pairs, kind: usize, fields: &[i64], out: &mut [u8], at: usize) -> usize
-    requires pairs_value { (pairs.now ≡ all_pairs) × (kind < 10) }
-    requires fields_in_bounds { at + length (line_of (word_of kind) fields.now) ≤ length out.old }
+    requires known { (pairs.now ≡ all_pairs) × (kind < 10) }
+    requires room { at + length (line_of (word_of kind) fields.now) ≤ length out.old }
     ensures { Puts out.old at (line_of (word_of kind) fields.now) result out.new }
 {
     let next = put_kind(kind, out, at);
@@ -62,8 +62,8 @@ fn put_line(pairs: &Pairs, kind: usize, fields: &[i64], out: &mut [u8], at: usiz
 
 // the line of row i
 fn put_row(pairs: &Pairs, net: &[i64], i: usize, out: &mut [u8], at: usize) -> usize
-    requires pairs_value { (pairs.now ≡ all_pairs) × (is_network net.now ≡ true) × (i < length (net_in net.now).rows) }
-    requires i_in_bounds { at + length (row_line (row_at (net_in net.now) i)) ≤ length out.old }
+    requires known { (pairs.now ≡ all_pairs) × (is_network net.now ≡ true) × (i < length (net_in net.now).rows) }
+    requires room { at + length (row_line (row_at (net_in net.now) i)) ≤ length out.old }
     ensures { Puts out.old at (row_line (row_at (net_in net.now) i)) result out.new }
 {
     let kind = plan_record::kind(net, i);
@@ -73,8 +73,8 @@ fn put_row(pairs: &Pairs, net: &[i64], i: usize, out: &mut [u8], at: usize) -> u
 }
 
 fn put_rows(pairs: &Pairs, net: &[i64], rows: usize, out: &mut [u8], at: usize) -> usize
-    requires pairs_value { (pairs.now ≡ all_pairs) × (is_network net.now ≡ true) × (rows ≡ length (net_in net.now).rows) }
-    requires net_in_bounds { at + length (text_of (net_in net.now).rows) ≤ length out.old }
+    requires known { (pairs.now ≡ all_pairs) × (is_network net.now ≡ true) × (rows ≡ length (net_in net.now).rows) }
+    requires room { at + length (text_of (net_in net.now).rows) ≤ length out.old }
     ensures { Puts out.old at (text_of (net_in net.now).rows) result out.new }
 {
     let mut next = at;

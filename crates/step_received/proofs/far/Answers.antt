@@ -1,4 +1,4 @@
--- src/lib.rt:19:23
+-- `step_received::far` meets its contract, at either end. Assumes nothing.
 use Rattle.step_received.proofs.far.Goals as goal
 
 pub returns-in-From : goal.returns-in-From

@@ -18,8 +18,9 @@ use Rattle.laws_facts.specs.Passing.{Taken, head_taken, row_taken}
 use Rattle.laws_facts.specs.Layout.{recorded, row_count_most, row_room_in}
 use Rattle.laws_spelling.specs.Pieces.{join_length}
 use Rattle.laws_spelling.specs.Lines.{Sayable, spell_line}
-use Rattle.laws_spelling.specs.Texts.{Sayables, spell_text, spelt_spelling}
-use Rattle.laws_spelling.specs.Reader.{row_read, faulty_other, not_empty, rows_bad, spelling_read, taken_spelt}
+use Rattle.laws_spelling.specs.Texts.{Sayables, spell_text}
+use Rattle.laws_spelling.proofs.Texts.{spelt_spelling}
+use Rattle.laws_spelling.proofs.Reader.{row_read, faulty_other, not_empty, rows_bad, spelling_read, taken_spelt}
 use Rattle.laws_spelling.specs.Tables.{study_fields, table_network}
 use Rattle.laws_spelling.specs.Said.{sayable, small_row, row_small, line_short}
 

@@ -16,14 +16,16 @@ use Rattle.paper.specs.Reading.{read_out, read_of}
 use Rattle.paper.specs.Listing.{shown, shown_all, line_of}
 use Rattle.paper.specs.Writing.{row_line, text_of, Written-out, written_out, over, write_of}
 use Rattle.laws_facts.specs.Layout.{network_length}
-use Rattle.laws_spelling.specs.Numbers.{spell, shown_spelt}
+use Rattle.laws_spelling.specs.Numbers.{spell}
+use Rattle.laws_spelling.proofs.Numbers.{shown_spelt}
 use Rattle.laws_spelling.specs.Pieces.{join, join_more}
 use Rattle.laws_spelling.specs.Lines.{spell_line}
-use Rattle.laws_spelling.specs.Texts.{spell_text, spelt_spelling}
-use Rattle.laws_spelling.specs.Reader.{taken_spelt}
+use Rattle.laws_spelling.specs.Texts.{spell_text}
+use Rattle.laws_spelling.proofs.Texts.{spelt_spelling}
+use Rattle.laws_spelling.proofs.Reader.{taken_spelt}
 use Rattle.laws_spelling.specs.Tables.{table_again}
 use Rattle.laws_spelling.specs.Said.{small_word, small_row}
-use Rattle.laws_spelling.specs.Networks.{all_small, text_fits, network_read, read_took, read_network}
+use Rattle.laws_spelling.proofs.Networks.{all_small, text_fits, network_read, read_took, read_network}
 
 -- ---- what is written is the spelling
 

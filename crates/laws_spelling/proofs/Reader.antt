@@ -14,8 +14,10 @@ use Rattle.paper.specs.Network.{Table}
 use Rattle.paper.specs.Answers.{reading_number}
 use Rattle.paper.specs.Reading.{Lines, good, bad, line_number, fault_of, taken, line_read, closed, lines_of, faulty, Read-out, read_end, read_of}
 use Rattle.paper.proofs.Kept.{either}
-use Rattle.laws_spelling.specs.Lines.{Sayable, spell_line, line_row, line_formed}
-use Rattle.laws_spelling.specs.Texts.{all_formed, well_spelt, Sayables, Spelling, text_lead, text_final, lines_in}
+use Rattle.laws_spelling.specs.Lines.{Sayable, spell_line}
+use Rattle.laws_spelling.proofs.Lines.{line_row, line_formed}
+use Rattle.laws_spelling.specs.Texts.{all_formed, well_spelt, Sayables, Spelling, lines_in}
+use Rattle.laws_spelling.proofs.Texts.{text_lead, text_final}
 
 -- ---- the reader, over rows
 
