@@ -6,7 +6,7 @@ use Rattle.paper.specs.declared.Writing.TheVariants.{Wrote, Network, Store}
 use Rattle.paper.specs.Limits as Limits
 use Rattle.paper.specs.Network.{is_network, table_of}
 use Rattle.paper.specs.Writing.{text_of, write_of, Writes}
-use Rattle.laws_spelling.specs.Written.{written_fits, write_takes}
+use Rattle.laws_spelling.proofs.Written.{written_fits, write_takes}
 use Rattle.list_digits.specs.Puts.{Puts, puts_first}
 
 module _ (net : Words) (out : List ℕ) where

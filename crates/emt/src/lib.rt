@@ -26,12 +26,7 @@ pub fn emt_read(text: &[u8], network: &mut [i64], line: &mut u64) -> u64
 // "Resetting gives 9 or 8, or writes the records and both line stores all zero and answers 0."
 pub use call_reset::reset;
 
-pub fn emt_reset(
-    network: &[i64],
-    records: &mut [i64],
-    froms: &mut [i64],
-    tos: &mut [i64],
-) -> u64
+pub fn emt_reset(network: &[i64], records: &mut [i64], froms: &mut [i64], tos: &mut [i64]) -> u64
     ensures { ResetsBy network.now (memory records.old froms.old tos.old) result (memory records.new froms.new tos.new) }
 {
     call_answers::resetting_number(call_reset::reset(network, records, froms, tos))

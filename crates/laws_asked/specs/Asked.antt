@@ -81,7 +81,3 @@ savings =
     -- a row count that is one short of the rows
     ∷ saves e1 ((3, pos 2) ∷ []) 8192 Network []
     ∷ []
-
-pub savings_hold : map saved_again savings ≡ savings
-unfolding computing tabbed lines put_over saved_again e1 mixed savings
-savings_hold = refl

@@ -14,7 +14,7 @@ use Rattle.paper.specs.Legs.{Branch}
 use Rattle.paper.specs.Solve.{Step, stop, move, solve, settling, solved_step, range_step, balance_step, history_step}
 use Rattle.paper.specs.Advance.{Memory, Advanced, waits_for, take_step, ready, on_next, on_net, finish, advance_of}
 use Rattle.laws_facts.specs.Nets.{net_in}
-use Rattle.laws_floats.specs.Floats.{search_floats, floats_search}
+use Rattle.laws_floats.proofs.Floats.{search_floats, floats_search}
 use Rattle.laws_local.specs.Nodes.{free_of_lem}
 use Rattle.laws_local.specs.Waits.{late_not, late_place, waits_line, waits_behind, behind_waits, allowed_free}
 use Rattle.laws_local.proofs.Waits.{not_late, free_allowed}

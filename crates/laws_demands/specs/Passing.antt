@@ -16,7 +16,7 @@ use Rattle.paper.specs.Solve.{out_of_range, unbalanced, imbalance}
 use Rattle.paper.specs.Advance.{Memory}
 use Rattle.laws_floats.specs.HasPath.{HasPath}
 use Rattle.laws_floats.specs.Floats.{free_rising}
-use Rattle.laws_floats.specs.Search.{sound, complete}
+use Rattle.laws_floats.proofs.Search.{sound, complete}
 use Rattle.laws_local.specs.Nodes.{NodeOf, free_of_lem, of_free}
 use Rattle.laws_local.specs.Outcome.{legs_now, volts_of, rounded, lone, outside, heavy}
 use Rattle.laws_demands.specs.Said.{solution, offer, imbalance_at}

@@ -1,4 +1,2 @@
 pub mod HasPath
-pub mod Legs
-pub mod Search
 pub mod Floats

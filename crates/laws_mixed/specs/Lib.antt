@@ -1,4 +1,3 @@
 pub mod Made
 pub mod Mixed
-pub mod Ends
 pub mod Worked

@@ -1,4 +1,3 @@
 pub mod Volts
 pub mod Result
 pub mod Meets
-pub mod Wrong

@@ -1,6 +1,6 @@
 -- What a step of one area says leaves no choice: two memories that are the step's result have the same voltages, currents, histories and sent
 -- values. Assumes nothing.
-use Rattle.std.specs.Prelude.{◌+◌, ◌≤◌, ◌<◌, ◌≡◌, ◌≢◌, ◌⊎◌, ◌||◌, ◌∷◌, ◌+ℤ◌}
+use Rattle.std.specs.Prelude.{◌≤◌, ◌<◌, ◌≡◌, ◌⊎◌, ◌||◌, ◌∷◌, ◌+ℤ◌}
 use Rattle.whole.specs.Plain.{ℕ, zero, suc, refl, sym, ap, ◌∙◌, inl, inr, Bool, true}
 use Rattle.whole.specs.Plain.{false, true≢false, List, [], Mem-cases_cons, Mem-not_nil, ℤ}
 use Rattle.whole.specs.Plain.{length, get_or, eqb-true, eq-eqb, arith}

@@ -1,6 +1,6 @@
 -- K6: breakers open at current zero, worked; and an SWT opens as a switch of document 01 did. Assumes nothing.
 use Rattle.std.specs.Prelude.{◌-◌, ◌*◌, ◌^◌, ◌≡◌, ◌&&◌, ◌∷◌, ◌++◌}
-use Rattle.whole.specs.Plain.{ℕ, suc, refl, Bool, true, false, not, List, [], map, leb, ltb}
+use Rattle.whole.specs.Plain.{ℕ, refl, Bool, true, false, not, List, [], map, leb, ltb}
 use Rattle.whole.specs.Plain.{ℤ, pos, negsuc, get_or, replicate, eqb-true, Words, z}
 use Rattle.paper.specs.declared.Reading.TheVariants.{Read, Form, Value, Full}
 use Rattle.paper.specs.declared.Advance.TheVariants.{Took, State, Done, Floating}
@@ -12,7 +12,7 @@ use Rattle.paper.specs.Legs.{is_open}
 use Rattle.paper.specs.Computing.{computing}
 use Rattle.paper.proofs.Examples.{Example, Call, runs, call, volts, amps, parted, lines, place_of, looked, goes, played, replay, tabbed}
 use Rattle.paper.proofs.Cases.{Lending, lends, in_records, put_on, lent_again}
-use Rattle.laws_asked.specs.Asked.{Saving, saves, put_over, saved_again}
+use Rattle.laws_asked.specs.Asked.{saves, put_over, saved_again}
 
 -- ---- "zero or of opposite sign": zero has no opposite sign
 pub signs : map (λ (p : ℤ × ℤ). crosses p.0 p.1) ((pos 5, negsuc 0) ∷ (negsuc 0, pos 5) ∷ (pos 5, z) ∷ (z, z) ∷ (z, pos 5) ∷ (z, negsuc 0) ∷ (pos 5, pos 1) ∷ (negsuc 0, negsuc 5) ∷ [])

@@ -1,6 +1,6 @@
 -- K3: peaks while running, worked. Assumes nothing.
 use Rattle.std.specs.Prelude.{◌≡◌, ◌∷◌}
-use Rattle.whole.specs.Plain.{ℕ, refl, List, [], map, ℤ, pos, negsuc, replicate, set, Words, z}
+use Rattle.whole.specs.Plain.{ℕ, refl, List, [], map, pos, negsuc, replicate, set, Words, z}
 use Rattle.paper.specs.declared.Reading.TheVariants.{Read}
 use Rattle.paper.specs.declared.Advance.TheVariants.{Took, State, Wait}
 use Rattle.paper.specs.declared.Looking.{Looking}

@@ -1,10 +1,9 @@
 -- The power-frequency source worked: a table in the form of E1 to E10's. Assumes nothing.
-use Rattle.std.specs.Prelude.{◌≡◌, ◌∷◌, ◌++◌}
-use Rattle.whole.specs.Plain.{ℕ, suc, refl, List, [], map, ℤ, pos, negsuc, replicate, z}
+use Rattle.std.specs.Prelude.{◌∷◌, ◌++◌}
+use Rattle.whole.specs.Plain.{ℕ, suc, List, [], ℤ, pos, negsuc, replicate, z}
 use Rattle.paper.specs.declared.Reading.TheVariants.{Read, Form, Node, Value, Double, Full}
 use Rattle.paper.specs.declared.Advance.TheVariants.{Took}
-use Rattle.paper.specs.Computing.{computing}
-use Rattle.paper.proofs.Examples.{Example, Call, runs, call, volts, lines, place_of, looked, goes, played, replay, tabbed}
+use Rattle.paper.proofs.Examples.{Example, Call, runs, call, volts, lines}
 
 -- step by step from step k on, node 1's voltage
 unfoldable pub swings : ℕ → List ℤ → List Call
@@ -43,7 +42,3 @@ supplies =
     ∷ runs (lines ("study 1000 1 0" ∷ "VC 1 7 1" ∷ [])) (Form 2) []
     ∷ runs (lines ("study 1000 1 0" ∷ "VD 1 7 1 1" ∷ [])) (Form 2) []
     ∷ []
-
-pub supplies_hold : map replay supplies ≡ supplies
-unfolding computing place_of looked goes played replay tabbed lines swings supplies
-supplies_hold = refl

@@ -1,6 +1,6 @@
 -- "current magnitudes are at most 1.4·10^17": a conductance of 10^9 at most, times a voltage between two nodes of 4·10^7 at most, and a history of
 -- 10^17 at most. What is passed on is in its range by refusal 17. Assumes nothing.
-use Rattle.std.specs.Prelude.{◌*◌, ◌^◌, ◌≤◌, ◌<◌, ◌≡◌, ◌&&◌, ◌∷◌, ◌-ℤ◌, ◌*ℤ◌}
+use Rattle.std.specs.Prelude.{◌^◌, ◌≤◌, ◌<◌, ◌≡◌, ◌&&◌, ◌∷◌, ◌-ℤ◌, ◌*ℤ◌}
 use Rattle.whole.specs.Plain.{ℕ, zero, suc, refl, sym, ap, ◌∙◌, subst, Bool, true, false}
 use Rattle.whole.specs.Plain.{cond, List, [], eqb, ℤ, pos, nat_abs, length, get_or, replicate}
 use Rattle.whole.specs.Plain.{leb-true, not-false, arith, Words, z, word, up_to, numbers}

@@ -10,7 +10,8 @@ use Rattle.laws_demands.specs.Said.{IsArea}
 use Rattle.laws_runs.specs.Runs.{Lent, from_reset, accepts}
 use Rattle.laws_runs.specs.Ends.{Quits, Tied, Ended}
 use Rattle.laws_runs.proofs.Ends.{ends_agree, takes_all}
-use Rattle.laws_mixed.specs.Mixed.{Call, at, run, is_run}
+use Rattle.laws_mixed.specs.Mixed.{Call, at, run}
+use Rattle.laws_mixed.proofs.Mixed.{is_run}
 
 module _ (net : Words) (lent : Memory) (ok : Lent net lent) where
   open from_reset net lent use {N, start}

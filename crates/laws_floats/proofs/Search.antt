@@ -15,7 +15,7 @@ use Rattle.laws_paths.specs.Meaning.{leg_joins, Grounded, reached_sound, reached
 use Rattle.laws_facts.specs.Nets.{row_at, NetSound, row_area_from, row_area_to}
 use Rattle.paper.specs.Classes.{line_branch}
 use Rattle.laws_floats.specs.HasPath.{Conducts, Between, HasPath, at_ground, at_fixed, at_line, along}
-use Rattle.laws_floats.specs.Legs.{Of-row, of_line, of_branch, legs_in, leg_of, row_legs, line_from, line_to, plain_from}
+use Rattle.laws_floats.proofs.Legs.{Of-row, of_line, of_branch, legs_in, leg_of, row_legs, line_from, line_to, plain_from}
 
 record Of-leg (legs : List Leg) (j : Join) : Type 0 where
   wire : Leg

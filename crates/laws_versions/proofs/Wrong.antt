@@ -16,7 +16,8 @@ use Rattle.paper.proofs.Kept.{advance_refused}
 use Rattle.paper.specs.Resetting.{fresh}
 use Rattle.paper.specs.Computing.{computing}
 use Rattle.laws_facts.specs.Nets.{net_in}
-use Rattle.laws_versions.specs.Meets.{Version, Meets, version, meets, one_version}
+use Rattle.laws_versions.specs.Meets.{Version, Meets, version}
+use Rattle.laws_versions.proofs.Meets.{meets, one_version}
 
 -- ---- networks of two steps: sixteen nodes from f on, each with a VS of 100 V, joined by an L from each to the next
 
