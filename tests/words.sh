@@ -45,14 +45,14 @@ fi
 # what the definitions number: a refusal's name and number; 0 has one name for all calls
 {
     echo "0 ACCEPTED"
-    sed -nE 's/^(reading|resetting|advance|looking|listing|writing)Number \(?([A-Z]\.)?([A-Za-z]+)(( [a-z])+\))? = ([1-9][0-9]*)$/\6 \U\3/p' $specs/Answers.antt $specs/Looking.antt $specs/Pieces.antt
+    sed -nE 's/^(reading|resetting|advance|looking|listing|writing)_number \(?([A-Z]\.)?([A-Za-z]+)(( [a-z])+\))? = ([1-9][0-9]*)$/\6 \U\3/p' $specs/Answers.antt $specs/Looking.antt $specs/Pieces.antt
 } | sort -un >"$work/numbers"
 awk -F'|' '{ print $1, $2 }' "$work/table" | sort -n >"$work/told.numbers"
 check "names and numbers of the definitions" "$work/told.numbers" "$work/numbers"
 [ "$(wc -l <"$work/numbers")" -ge 20 ] || { echo "the definitions number only $(wc -l <"$work/numbers") answers"; failed=$((failed + 1)); }
 
 # what the number beside an answer is: a definition gives the answer's own l, n or b, a line, a node or a branch
-sed -nE 's/^(readingLine|advancePlace) \(([A-Za-z]+) ([lnb])\) = \3$/\U\2 \L\3/p' $specs/Answers.antt |
+sed -nE 's/^(reading_line|advance_place) \(([A-Za-z]+) ([lnb])\) = \3$/\U\2 \L\3/p' $specs/Answers.antt |
     sed 's/ l$/ line/; s/ n$/ node/; s/ b$/ branch/' | sort >"$work/places"
 awk -F'|' '$3 != "" { print $2, $3 }' "$work/table" | sort >"$work/told.places"
 check "places of the definitions" "$work/told.places" "$work/places"
