@@ -9,3 +9,4 @@ pub mod Outcome
 pub mod Owners
 pub mod Touch
 pub mod Depends
+pub mod Quiet

@@ -27,8 +27,8 @@ use Rattle.laws_local.specs.Outcome as Outcome
 use Rattle.laws_local.specs.Touch.{touch_same}
 use Rattle.laws_local.specs.Depends.{SameOut, SameLengths, same_out, same_count}
 use Rattle.laws_local.proofs.Quiet.{quiet}
-use Rattle.laws_stays.specs.Stays.{Long}
-use Rattle.laws_stays.proofs.Stays.{stays, counted, uncounted}
+use Rattle.laws_stays.specs.Stays.{Long, counted, uncounted}
+use Rattle.laws_stays.proofs.Stays.{stays}
 use Rattle.laws_demands.specs.States.{long_fits}
 use Rattle.laws_runs.specs.Runs.{firm}
 
