@@ -25,6 +25,10 @@ fn text_room() -> [u8; INPUT]
 fn fail(rt: &HostRuntime, what: &str, code: i32) {
     let error = Error::from_raw_os_error(code);
     let Ok(text) = format!(in rt.alloc(); "{error}") else {
+        // no memory to spell the error: what failed is said all the same
+        if eprintln!(rt; "emtrun: {what}").is_err() {
+            return;
+        }
         return;
     };
     // the words alone, without the number that stands behind them
