@@ -71,27 +71,27 @@ module _ (net : Words) (lent : Memory) (ok : Lent net lent) where
   is_area_lem toSide i l = record { one = f.to_area i l; most = area_of_lem N (to (row_at N i)) }
 
   module _ (w : List ℕ) (ended : Ended w) (a : ℕ) (free : (x : ℕ) → Tied N a x → StepRefusal (answers x w) → ⊥) where
-    -- a waiting area has a line to one with a lower count; so down to one that has taken all its steps
-    down : (n b : ℕ) → count b w < n → IsArea N b → Tied N a b → steps N.head ≤ count b w
-    down zero b h o t = absurd (omega arith)
-    down (suc n) b h o t = by (ended b o) (λ c l o' t'. down n c l o' t')
-      where
-        behind : (i : ℕ) → i < length N.rows → is_line (row_at N i) ≡ true → Behind N b (suc (count b w)) (at w).records i
-            → ((c : ℕ) → count c w < n → IsArea N c → Tied N a c → steps N.head ≤ count c w) → steps N.head ≤ count b w
-        behind i there l (inl p) more =
-            let q = more (area_at N toSide i) (omega (arith, p.1, f.travels i l)) (is_area_lem toSide i l) (line from_side i t there l p.0) in omega (arith, p.1)
-        behind i there l (inr p) more =
-            let q = more (area_at N from_side i) (omega (arith, p.1, f.travels i l)) (is_area_lem from_side i l) (line toSide i t there l p.0) in omega (arith, p.1)
-
-        by : Quits (answers b w) → ((c : ℕ) → count c w < n → IsArea N c → Tied N a c → steps N.head ≤ count c w) → steps N.head ≤ count b w
-        by (all_taken e) more = ((exactly net b (at w) Done).0 e).2
-        by (waiting r e) more = let q = ((exactly net b (at w) (Wait r)).0 e).1 in behind q.row q.there q.line q.behind more
-        by (stopped s) more = absurd (free b t s)
-
     -- "every area not stopped by 14 to 17 and not tied by a chain of lines to one that is has taken all its steps"
     pub takes_all : IsArea N a → count a w ≡ steps N.head
     takes_all o = le_antisymm most (down (suc (count a w)) a (omega arith) o self)
       where
+        -- a waiting area has a line to one with a lower count; so down to one that has taken all its steps
+        down : (n b : ℕ) → count b w < n → IsArea N b → Tied N a b → steps N.head ≤ count b w
+        down zero b h o t = absurd (omega arith)
+        down (suc n) b h o t = by (ended b o) (λ c l o' t'. down n c l o' t')
+          where
+            behind : (i : ℕ) → i < length N.rows → is_line (row_at N i) ≡ true → Behind N b (suc (count b w)) (at w).records i
+                → ((c : ℕ) → count c w < n → IsArea N c → Tied N a c → steps N.head ≤ count c w) → steps N.head ≤ count b w
+            behind i there l (inl p) more =
+                let q = more (area_at N toSide i) (omega (arith, p.1, f.travels i l)) (is_area_lem toSide i l) (line from_side i t there l p.0) in omega (arith, p.1)
+            behind i there l (inr p) more =
+                let q = more (area_at N from_side i) (omega (arith, p.1, f.travels i l)) (is_area_lem from_side i l) (line toSide i t there l p.0) in omega (arith, p.1)
+
+            by : Quits (answers b w) → ((c : ℕ) → count c w < n → IsArea N c → Tied N a c → steps N.head ≤ count c w) → steps N.head ≤ count b w
+            by (all_taken e) more = ((exactly net b (at w) Done).0 e).2
+            by (waiting r e) more = let q = ((exactly net b (at w) (Wait r)).0 e).1 in behind q.row q.there q.line q.behind more
+            by (stopped s) more = absurd (free b t s)
+
         g : Formed N (at w)
         g = formed N (at w) (run_inv net lent ok w).good
 
