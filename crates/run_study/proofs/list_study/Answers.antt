@@ -1,6 +1,6 @@
 -- `run_study::list_study` meets its contract: a network is reset, whatever stood in the room, and then listed. Assumes nothing.
 use Rattle.std.specs.Prelude.{◌≡◌}
-use Rattle.whole.specs.Plain.{ℕ, sym, subst}
+use Rattle.whole.specs.Plain.{ℕ, sym, subst, arith}
 use Rattle.paper.specs.Advance.{Memory, memory}
 use Rattle.laws_stays.specs.Stays.{Long}
 use Rattle.run_pieces.specs.Pieces.{Hand, out_bytes}
@@ -10,7 +10,8 @@ use Rattle.run_study.proofs.list_study.Goals as goal
 pub returns-in_default : goal.returns-in_default
 returns-in_default g c =
     let long : Long (memory c.record_room-records.result c.store_room-froms.result c.store_room-tos.result) = record { records = sym c.record_room-records.ensures; froms = sym c.store_room-froms.ensures; tos = sym c.store_room-tos.ensures } in
-    absurd (c.in_default.not-Reset (reset_takes c.requires long c.reset-resetting.ensures).0)
+    let took = (reset_takes c.requires long c.reset-resetting.ensures).0 in
+    grind (arith, took)
 
 pub returns : goal.returns
 returns g c =
