@@ -24,18 +24,16 @@ fn text_room() -> [u8; INPUT]
 // What failed, and how: a line to standard error. Where that is not taken either, there is nothing left to say.
 fn fail(rt: &HostRuntime, what: &str, code: i32) {
     let error = Error::from_raw_os_error(code);
-    let Ok(text) = format!(in rt.alloc(); "{error}") else {
-        // no memory to spell the error: what failed is said all the same
-        if eprintln!(rt; "emtrun: {what}").is_err() {
-            return;
+    let told = match format!(in rt.alloc(); "{error}") {
+        Ok(text) => {
+            // the words alone, without the number that stands behind them
+            let words = text.split(" (os error").next().unwrap_or("");
+            eprintln!(rt; "emtrun: {what}: {words}")
         }
-        return;
+        // no memory to spell the error: what failed is said all the same
+        Err(_) => eprintln!(rt; "emtrun: {what}"),
     };
-    // the words alone, without the number that stands behind them
-    let words = text.split(" (os error").next().unwrap_or("");
-    if eprintln!(rt; "emtrun: {what}: {words}").is_err() {
-        return;
-    }
+    told.unwrap_or(());
 }
 
 fn fail_at_input(rt: &HostRuntime, code: i32) {
