@@ -1,6 +1,6 @@
 #!/usr/bin/env bash
 # Every number of include/emt.h is the definitions' own: limits and lengths (crates/paper/specs/Limits), where the records have their words (Where), the
-# numbers of the answers (Answers, Looking, Pieces), the size of the lent room (crates/emt/specs/Numbered). The version has one spelling, also in desk/emt/library.py, and goes up
+# numbers of the answers (Faulted, Answers, Looking, Pieces), the size of the lent room (crates/emt/specs/Numbered). The version has one spelling, also in desk/emt/library.py, and goes up
 # with the declarations: tests/header.sum has their sum and the version's first two numbers. Closing line: N passed, M failed.
 set -u
 cd "$(dirname "$0")/.." || exit 1
@@ -64,7 +64,8 @@ expect 'sizeof(struct emt_room)' "$((8 * (${lent//,/ +})))"
 # refusals by name; what is accepted is 0
 while read -r name number; do
     expect "EMT_${name^^}" "$number"
-done < <(sed -nE 's/^(reading|resetting|advance|looking|listing|writing)_number \(?([A-Z]\.)?([A-Za-z]+)(( [a-z])+\))? = ([1-9][0-9]*)$/\3 \6/p' $specs/Answers.antt $specs/Looking.antt $specs/Pieces.antt | sort -u)
+done < <(sed -nE 's/^(fault|unread|unfit|refusal|unlooked|unlisted|listing)_number \(?(Ok \(?)?([A-Z]\.)?([A-Za-z]+)( [a-z])*\)* = ([1-9][0-9]*)$/\4 \6/p' \
+    $specs/Faulted.antt $specs/Answers.antt $specs/Looking.antt $specs/Pieces.antt | sort -u)
 
 expect 'version_agrees()' 1
 

@@ -14,8 +14,11 @@ awk '
         split("whole num_quantity num_cosine paper", words); for (i in words) small[words[i]] = 1
         # The kit: a program lists what io needs too, which no file names. std is never listed.
         split("check libc io os bytes", words); for (i in words) kit[words[i]] = 1
-        # A type that passes through without its name: the piece that emt::list answers, to emtrun.
-        through["emtrun", "list_pieces"] = 1
+        # A type that passes through without its name: the piece that emt::list answers, whose fields run_pieces reads; a voltage, whose
+        # number two crates take out of what num_double::nearest answers.
+        through["run_pieces", "list_pieces"] = 1
+        through["step_solve", "num_quantity"] = 1
+        through["num_c", "num_quantity"] = 1
     }
 
     function name(crate, other) {

@@ -1,5 +1,5 @@
 #!/usr/bin/env bash
-# The names and words of the answers, include/emt_words.c: a line for each number that a definition gives (crates/paper/specs/Answers, Looking, Pieces) and for no other; its name is the
+# The names and words of the answers, include/emt_words.c: a line for each number that a definition gives (crates/paper/specs/Faulted, Answers, Looking, Pieces) and for no other; its name is the
 # definition's, docs/PAPER.md's and README.md's; what the number beside it is, line, node or branch, follows from the definitions too; and each has words of its own.
 # tests/words.sh DOCUMENT also holds numbers and names to the table of refusals in the paper's own text, document 01. Closing line: N passed, M failed.
 set -u
@@ -45,14 +45,18 @@ fi
 # what the definitions number: a refusal's name and number; 0 has one name for all calls
 {
     echo "0 ACCEPTED"
-    sed -nE 's/^(reading|resetting|advance|looking|listing|writing)_number \(?([A-Z]\.)?([A-Za-z]+)(( [a-z])+\))? = ([1-9][0-9]*)$/\6 \U\3/p' $specs/Answers.antt $specs/Looking.antt $specs/Pieces.antt
+    sed -nE 's/^(fault|unread|unfit|refusal|unlooked|unlisted|listing)_number \(?(Ok \(?)?([A-Z]\.)?([A-Za-z]+)( [a-z])*\)* = ([1-9][0-9]*)$/\6 \U\4/p' \
+        $specs/Faulted.antt $specs/Answers.antt $specs/Looking.antt $specs/Pieces.antt
 } | sort -un >"$work/numbers"
 awk -F'|' '{ print $1, $2 }' "$work/table" | sort -n >"$work/told.numbers"
 check "names and numbers of the definitions" "$work/told.numbers" "$work/numbers"
 [ "$(wc -l <"$work/numbers")" -ge 20 ] || { echo "the definitions number only $(wc -l <"$work/numbers") answers"; failed=$((failed + 1)); }
 
-# what the number beside an answer is: a definition gives the answer's own l, n or b, a line, a node or a branch
-sed -nE 's/^(reading_line|advance_place) \(([A-Za-z]+) ([lnb])\) = \3$/\U\2 \L\3/p' $specs/Answers.antt |
+# what the number beside an answer is: a definition gives the refusal's own l, n or b: the line of a fault, a node or a branch
+{
+    grep -qxF 'unread_line (R.Line l f) = l' $specs/Answers.antt && sed -nE 's/^fault_number ([A-Za-z]+) = [1-9]$/\U\1 \Ll/p' $specs/Faulted.antt
+    sed -nE 's/^refusal_place \(([A-Za-z]+) ([nb])\) = \2$/\U\1 \L\2/p' $specs/Answers.antt
+} |
     sed 's/ l$/ line/; s/ n$/ node/; s/ b$/ branch/' | sort >"$work/places"
 awk -F'|' '$3 != "" { print $2, $3 }' "$work/table" | sort >"$work/told.places"
 check "places of the definitions" "$work/told.places" "$work/places"

@@ -5,9 +5,11 @@ ghost use Rattle.paper.specs.One.{Advances};
 ghost use Rattle.paper.specs.Advance.{memory};
 
 use paper::{Advance, Node, Room};
-use step_take::Turn;
+use plan_rows::Row;
+use step_legs::Wire;
 
-// A call that is refused pays for the plan alone.
+// A call that is refused pays for the plan alone: through call_room's, which clears lent tables, every call would pay for the legs and factors twice, a
+// refused one too.
 pub fn advance(
     network: &[i64],
     records: &mut [i64],
@@ -18,23 +20,18 @@ pub fn advance(
     ensures { Advances network.now area (memory records.old froms.old tos.old) result (memory records.new froms.new tos.new) }
 {
     let mut areas = [0; Node::PLACES];
-    let mut plan = [[0; plan_rows::WORDS]; Room::ROWS];
-    let judged = call_judge::judge(network, records, froms, tos, area, &mut areas, &mut plan);
-    if judged.k == 0 {
-        return judged.answer;
-    }
-    let turn: Turn = call_alone::turn_at(judged.totals, area, judged.k);
-    let mut legs = [[0; 9]; 2 * Room::ROWS];
+    let mut plan = [Row::NONE; Room::ROWS];
+    let ready = call_judge::judge(network, records, froms, tos, area, &mut areas, &mut plan)?;
+    let mut legs = [Wire::NONE; 2 * Room::ROWS];
     let mut factors = [[0.0; Node::MAX as usize]; Node::MAX as usize];
     call_alone::alone(
         network,
         &plan,
         &areas,
-        judged.totals,
+        ready,
         records,
         froms,
         tos,
-        turn,
         &mut legs,
         &mut factors,
     )

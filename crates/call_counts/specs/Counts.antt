@@ -1,13 +1,13 @@
 -- The areas' counts of steps, those at a line's two ends, and a breaker's latch against them, by the plan's rows. Assumes nothing.
 use Rattle.std.specs.Prelude.{◌+◌, ◌≤◌, ◌<◌, ◌≡◌, ◌&&◌, ◌||◌, ◌∷◌}
-use Rattle.whole.specs.Plain.{ℕ, Bool, true, false, not, and-true, List, [], leb, ltb, eqb, ℤ, pos}
+use Rattle.whole.specs.Plain.{ℕ, Bool, true, false, not, and-true, [], leb, ltb, eqb, ℤ, pos}
 use Rattle.whole.specs.Plain.{non_neg, length, eq-eqb, ne_eqb, le-leb, lt-leb, Words, word, nat}
 use Rattle.whole.specs.Truths.{and-false}
 use Rattle.paper.specs.Limits as Limits
 use Rattle.paper.specs.Rows.{is_line}
 use Rattle.paper.specs.Records.{count_at, latch_at, count_of}
 use Rattle.plan_rows.specs.declared.Row.{Row}
-use Rattle.plan_rows.specs.Planned.{row_in}
+use Rattle.plan_rows.specs.Planned.{Plan, row_in}
 use Rattle.plan_rows.specs.Switching.{may_part_by}
 
 abbrev pub line_kind : ℕ → Bool
@@ -79,7 +79,7 @@ abbrev pub BreakerIn : Words → Row → Type 0
 BreakerIn recs r = r.kind ≡ 5 → CountIn recs r.from_area
 
 -- every line and every SW of the plan
-pub record Counted (plan : List (List ℕ)) (rows : ℕ) (recs : Words) : Type 0 where
+pub record Counted (plan : Plan) (rows : ℕ) (recs : Words) : Type 0 where
   pub few : rows ≤ Limits.row_end
   pub line : (i : ℕ) → i < rows → LineIn recs (row_in plan i)
   pub breaker : (i : ℕ) → i < rows → BreakerIn recs (row_in plan i)

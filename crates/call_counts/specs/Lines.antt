@@ -1,6 +1,6 @@
 -- The plan's lines are the network's: whose counts are compared, and for which row an area waits. Assumes nothing.
 use Rattle.std.specs.Prelude.{◌+◌, ◌≤◌, ◌<◌, ◌≡◌}
-use Rattle.whole.specs.Plain.{ℕ, max, refl, sym, ap, subst, ◌∙◌, true, false, List, [], length, drop}
+use Rattle.whole.specs.Plain.{ℕ, suc, max, refl, sym, ap, subst, ◌∙◌, true, false, [], length, drop}
 use Rattle.whole.specs.Plain.{drop_of_length-le, drop-cons, le_trans, div-le_self, eq-eqb, arith, Words, word, nat}
 use Rattle.std.proofs.Common.{add-one}
 use Rattle.paper.specs.Rows as Rows
@@ -15,17 +15,17 @@ use Rattle.laws_facts.specs.Nets.{NetSound, row_at, area_of_lem}
 use Rattle.plan_ends.specs.Own.{owner_of}
 use Rattle.plan_rows.specs.declared.Row.{Row}
 use Rattle.plan_rows.specs.declared.Totals.{Totals}
-use Rattle.plan_rows.specs.Planned.{row_in, row_of, Planned}
+use Rattle.plan_rows.specs.Planned.{Plan, row_in, row_of, Planned}
 use Rattle.plan_rows.specs.Switching.{may_paper}
 use Rattle.plan_net.specs.Of.{Of}
 use Rattle.call_counts.specs.Counts.{CountIn, CountsIn, EndsIn, Counted, near_by, latch_formed_by, latched_by, waits_by}
 
 -- a plan of the network's rows
-pub record RowsOf (N : Net) (plan : List (List ℕ)) (rows : ℕ) : Type 0 where
+pub record RowsOf (N : Net) (plan : Plan) (rows : ℕ) : Type 0 where
   pub planned : Planned N plan
   pub count : rows ≡ length N.rows
 
-pub rows_of : {N : Net} {plan : List (List ℕ)} {t : Totals} → Of N plan t → RowsOf N plan t.rows
+pub rows_of : {N : Net} {plan : Plan} {t : Totals} → Of N plan t → RowsOf N plan t.rows
 rows_of o = record { planned = o.planned; count = ap (λ (t : Totals). t.rows) o.counts }
 
 -- ---- by one row
@@ -45,7 +45,7 @@ module _ (N : Net) (recs : Words) (i : ℕ) where
   unfolding waits_by waits_for row_of owner_of
   waits_row a k = elim (is_line (row_at N i)) as (λ l. is_line (row_at N i) ≡ l → waits_by a k recs (row_of N i) ≡ waits_for N a k recs (row_at N i)) [ true ↦ λ e. rw e | false ↦ λ e. rw e ] refl
 
-module _ {N : Net} {plan : List (List ℕ)} (p : Planned N plan) (i : ℕ) (h : i < length N.rows) where
+module _ {N : Net} {plan : Plan} (p : Planned N plan) (i : ℕ) (h : i < length N.rows) where
   pub kind_is_lem : (row_in plan i).kind ≡ Rows.kind (row_at N i)
   unfolding row_of
   kind_is_lem = ap (λ (r : Row). r.kind) (p.row i h)
@@ -84,7 +84,7 @@ breaker_in {N} s c i h b =
     let n = max (Rows.from r) (Rows.to r) in
     rw (breaker_line r b, breaker_branch r b) (c.at (area_of N n) (s.area_least n (omega (arith, e.apart)) (omega (arith, e.from_in.most, e.to_in.most))) (area_of_lem N n))
 
-pub counted : {N : Net} {plan : List (List ℕ)} {t : Totals} {recs : Words} → Of N plan t → CountsIn recs t.areas → Counted plan t.rows recs
+pub counted : {N : Net} {plan : Plan} {t : Totals} {recs : Words} → Of N plan t → CountsIn recs t.areas → Counted plan t.rows recs
 counted {N} {plan} {t} {recs} o c =
     let n : t.rows ≡ length N.rows = ap (λ (u : Totals). u.rows) o.counts in
     let a : CountsIn recs (area_count N) = rw (ap (λ (u : Totals). u.areas) o.counts) at c in
@@ -100,9 +100,9 @@ counted {N} {plan} {t} {recs} o c =
 
 -- ---- 13 WAIT, row by row
 module _ (N : Net) (a k : ℕ) (recs : Words) (i : ℕ) where
-  pub late_hit : i < length N.rows → waits_for N a k recs (row_at N i) ≡ true → first_late N a k recs i (drop i N.rows) ≡ i + 1
+  pub late_hit : i < length N.rows → waits_for N a k recs (row_at N i) ≡ true → first_late N a k recs i (drop i N.rows) ≡ suc i
   unfolding first_late
-  late_hit h e = rw (drop-cons N.rows i [] h, e, add-one)
+  late_hit h e = rw (drop-cons N.rows i [] h, e)
 
   pub late_pass : i < length N.rows → waits_for N a k recs (row_at N i) ≡ false
       → first_late N a k recs (i + 1) (drop (i + 1) N.rows) ≡ first_late N a k recs i (drop i N.rows)

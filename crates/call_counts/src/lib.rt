@@ -4,6 +4,7 @@
 // when an area must wait (refusal 13), and how many steps all have taken.
 ghost use Rattle.std.specs.Prelude.{◌≤◌, ◌<◌, ◌≡◌};
 ghost use Rattle.whole.specs.Plain.{length, every, numbers};
+ghost use Rattle.whole.specs.Named.{placed};
 ghost use Rattle.paper.specs.Areas.{Net};
 ghost use Rattle.paper.specs.Records.{count_of};
 ghost use Rattle.paper.specs.Advance.{first_late};
@@ -43,17 +44,16 @@ fn latch_formed(r: Row, latch: i64, count: usize) -> bool
     requires { count ≤ Limits.steps_end }
     ensures { result ≡ latch_formed_by r latch count }
 {
-    if latch < 0 {
+    let Ok(step) = usize::try_from(latch) else {
         return false;
-    }
-    let step = latch as usize;
+    };
     if step == 0 {
         return true;
     }
     if count < step {
         return false;
     }
-    plan_rows::may_part(r, step)
+    r.may_part(step)
 }
 
 // The same of the row in place i, where it is an SW.
@@ -81,20 +81,23 @@ fn waits_for(r: Row, records: &[i64], area: usize, k: usize) -> bool
     ((r.from_area == area) & (to + r.delay < k)) | ((r.to_area == area) & (from + r.delay < k))
 }
 
-// The place, from 1, of the first row that the area's step k waits for; 0 where there is none.
-pub fn first_late(plan: &Table, rows: usize, records: &[i64], area: usize, k: usize) -> usize
+// The first row that the area's step k waits for.
+pub fn first_late(
+    plan: &Table,
+    rows: usize,
+    records: &[i64],
+    area: usize,
+    k: usize,
+) -> Option<usize>
     requires { Counted plan.now rows records.now }
-    ensures { (N : Net) → RowsOf N plan.now rows → result ≡ first_late N area k records.now 0 N.rows }
+    ensures { (N : Net) → RowsOf N plan.now rows → result ≡ placed (first_late N area k records.now 0 N.rows) }
 {
-    let mut i = 0;
-    while i < rows {
-        let r = plan_rows::row_at(plan, i);
-        if waits_for(r, records, area, k) {
-            return i + 1;
+    for i in 0..rows {
+        if waits_for(plan[i], records, area, k) {
+            return Some(i);
         }
-        i += 1;
     }
-    0
+    None
 }
 
 // How many steps all areas have taken, where they have taken as many: area 1 tells; without areas, all of them.
@@ -114,11 +117,8 @@ pub fn all_taken(records: &[i64], areas: usize, taken: usize) -> bool
     ensures { result ≡ every (took_all records.now taken) (numbers 1 areas) }
 {
     let mut all = true;
-    let mut passed = 0;
-    while passed < areas {
-        passed += 1;
-        let its = count_of(records, passed);
-        all = all & (its == taken);
+    for a in 1..=areas {
+        all = all & (count_of(records, a) == taken);
     }
     all
 }

@@ -7,9 +7,5 @@ ghost use Rattle.std.specs.Prelude.{◌≡◌, pos, length, replicate};
 pub fn clear(words: &mut [i64])
     ensures { words.new ≡ replicate (length words.old) (pos 0) }
 {
-    let mut i = 0;
-    while i < words.len() {
-        words[i] = 0;
-        i += 1;
-    }
+    words.fill(0);
 }

@@ -1,7 +1,7 @@
 -- A network's plan, the step that comes next, and the tables of one area alone. Assumes nothing.
 use Rattle.whole.specs.Plain.{ℕ, suc, sym, ap, subst, ◌∙◌, Bool, true, List, length, set}
 use Rattle.whole.specs.Plain.{length-set, arith, Words}
-use Rattle.std.specs.Prelude.{Float, ◌-◌, ◌≤◌, ◌<◌, ◌≡◌}
+use Rattle.std.specs.Prelude.{Float, ◌≤◌, ◌<◌, ◌≡◌}
 use Rattle.paper.specs.Rows as Rows
 use Rattle.paper.specs.Network.{is_network}
 use Rattle.paper.specs.Areas.{Net, area_count, branch_number}
@@ -11,11 +11,13 @@ use Rattle.laws_facts.specs.Nets.{net_in, area_count_most}
 use Rattle.plan_record.specs.Mapped.{Mapped}
 use Rattle.plan_rows.specs.declared.Row.{Row}
 use Rattle.plan_rows.specs.declared.Totals.{Totals}
-use Rattle.plan_rows.specs.Planned.{row_in, row_of, Planned, totals_of}
+use Rattle.plan_rows.specs.Planned.{Plan, row_in, row_of, Planned, totals_of}
 use Rattle.plan_net.specs.Of.{Of, of_record}
+use Rattle.step_legs.specs.declared.Wire.{Wire}
+use Rattle.step_legs.specs.declared.Source.{Source}
 use Rattle.plan_own.specs.declared.Own.{Own}
 use Rattle.plan_lay.specs.Flags.{Flagged}
-use Rattle.plan_own.specs.Owns.{Given, Ours, Behind, own_in, words_of}
+use Rattle.plan_own.specs.Owns.{Given, Ours, Behind, own_in}
 use Rattle.plan_own.specs.Kept.{own_put}
 use Rattle.step_factors.specs.Factors.{Square}
 use Rattle.step_take.specs.declared.Turn.{Turn}
@@ -25,7 +27,7 @@ use Rattle.call_state.specs.Judged.{Long, MappedOf}
 use Rattle.call_state.specs.Kept.{kept}
 
 -- a network that passes, its plan and its areas by node
-pub record Seen (net : Words) (plan : List (List ℕ)) (areas : List ℕ) (totals : Totals) : Type 0 where
+pub record Seen (net : Words) (plan : Plan) (areas : List ℕ) (totals : Totals) : Type 0 where
   pub network : is_network net ≡ true
   pub planned : Planned (net_in net) plan
   pub mapped : Mapped (net_in net) areas
@@ -35,7 +37,7 @@ pub record Seen (net : Words) (plan : List (List ℕ)) (areas : List ℕ) (total
 abbrev pub turn_at : Totals → ℕ → ℕ → Turn
 turn_at t a k = record { area = a; k = k; limit = t.limit }
 
-module _ {net : Words} {plan : List (List ℕ)} {areas : List ℕ} {totals : Totals} (s : Seen net plan areas totals) where
+module _ {net : Words} {plan : Plan} {areas : List ℕ} {totals : Totals} (s : Seen net plan areas totals) where
   pub of : Of (net_in net) plan totals
   of = of_record net s.network s.planned s.counts
 
@@ -62,10 +64,10 @@ module _ {net : Words} {plan : List (List ℕ)} {areas : List ℕ} {totals : Tot
   stepping a k l e one h d q =
       rw q (record { least = one; most = h; step = omega (arith, step_count); limit = ap (λ (t : Totals). t.limit) s.counts; kept = kept (net_in net) l e })
 
--- the number of the branch in the place, from 1, that is waited for
-pub number_is : {N : Net} {plan : List (List ℕ)} → Planned N plan → (p : ℕ) → (p ≡ 0 → ⊥) → p ≤ length N.rows → (row_in plan (p - 1)).number ≡ branch_number N p
+-- the number of the branch in the place that is waited for
+pub number_is : {N : Net} {plan : Plan} → Planned N plan → (i : ℕ) → i < length N.rows → (row_in plan i).number ≡ branch_number N (suc i)
 unfolding row_of
-number_is {N} q p n h = let e : suc (p - 1) ≡ p = omega arith in ap (λ (r : Row). r.number) (q.row (p - 1) (omega arith)) ∙ ap (branch_number N) e
+number_is q i h = ap (λ (r : Row). r.number) (q.row i h)
 
 -- ---- one area alone
 
@@ -73,13 +75,13 @@ pub stepping_alone : {N : Net} {low high : ℕ} {turn : Turn} {m : Memory} → S
 stepping_alone g = record { least = omega arith; most = omega arith; step = g.step; limit = g.limit; kept = g.kept }
 
 -- its own is put into the table of areas, laid as the first; nothing is prepared for it
-module _ {net : Words} {plan : List (List ℕ)} {areas : List ℕ} {totals : Totals} {turn : Turn} {m : Memory} (s : Seen net plan areas totals) (g : Stepping (net_in net) 1 totals.areas turn m)
-    (owns : List (List ℕ)) (at o : Own) {owns' : List (List ℕ)} {legs legs' : List Words} {nodes nodes' : List ℕ} {sources sources' : List Words} {f : List (List Float)} (long : length owns ≡ 33)
-    (e : owns' ≡ set owns turn.area (words_of o)) (w : Ours (net_in net) turn.area o legs' nodes' sources') (b : Behind at o legs nodes sources legs' nodes' sources') (q : Square f) where
+module _ {net : Words} {plan : Plan} {areas : List ℕ} {totals : Totals} {turn : Turn} {m : Memory} (s : Seen net plan areas totals) (g : Stepping (net_in net) 1 totals.areas turn m)
+    (owns : List Own) (at o : Own) {owns' : List Own} {legs legs' : List Wire} {nodes nodes' : List ℕ} {sources sources' : List Source} {f : List (List Float)} (long : length owns ≡ 33)
+    (e : owns' ≡ set owns turn.area o) (w : Ours (net_in net) turn.area o legs' nodes' sources') (b : Behind at o legs nodes sources legs' nodes' sources') (q : Square f) where
   own : (a : ℕ) → turn.area ≤ a → a ≤ turn.area → own_in owns' a ≡ o
   own a l h =
       let p : a ≡ turn.area = omega arith in
-      ap (own_in owns') p ∙ ap (λ (x : List (List ℕ)). own_in x turn.area) e ∙ own_put owns turn.area o (omega (arith, area_few s turn.area g.most))
+      ap (own_in owns') p ∙ ap (λ (x : List Own). own_in x turn.area) e ∙ own_put owns turn.area o (omega (arith, area_few s turn.area g.most))
 
   pub tables_alone : Tables (net_in net) turn.area turn.area turn.k m.records plan owns' legs' nodes' sources' f
   tables_alone = record {
@@ -87,7 +89,7 @@ module _ {net : Words} {plan : List (List ℕ)} {areas : List ℕ} {totals : Tot
     planned = s.planned;
     least = g.least;
     most = omega (arith, g.most, area_count_lem s);
-    long = ap length e ∙ length-set owns turn.area (words_of o) ∙ long;
+    long = ap length e ∙ length-set owns turn.area o ∙ long;
     tables = b.tables;
     square = q;
     ours = λ a l h. let p : turn.area ≡ a = omega arith in

@@ -8,26 +8,28 @@ ghost use Rattle.paper.specs.Network.{is_network};
 ghost use Rattle.paper.specs.One.{Advances};
 ghost use Rattle.paper.specs.Advance.{memory};
 ghost use Rattle.call_state.specs.Judged.{Long};
-ghost use Rattle.call_judge.specs.Judging.{refusal, OnNet, Judges};
+ghost use Rattle.call_judge.specs.Given.{turn_at};
+ghost use Rattle.call_judge.specs.Judging.{OnNet, Judges};
 
-use paper::{Advance, Node};
+use paper::{Node, Refusal};
 use plan_rows::{Table, Totals};
+use step_take::Turn;
 
-// What it comes to: the refusal, k being 0, or the step k that the area may try, and the network's counts.
+// The step that the area may try, and the network's counts.
 #[derive(Clone, Copy)]
-pub struct Judged {
-    pub answer: Advance,
+pub struct Ready {
     pub totals: Totals,
-    pub k: usize,
+    pub turn: Turn,
 }
 
-fn refused(totals: Totals, answer: Advance) -> Judged
-    ensures { result ≡ refusal totals answer }
+// Step k of an area, within the network's limit.
+fn turn_at(totals: Totals, area: usize, k: usize) -> Turn
+    ensures { result ≡ turn_at totals area k }
 {
-    Judged {
-        answer,
-        totals,
-        k: 0,
+    Turn {
+        area,
+        k,
+        limit: totals.limit,
     }
 }
 
@@ -40,52 +42,30 @@ fn on_network(
     area: usize,
     areas: &mut [usize; Node::PLACES],
     plan: &mut Table,
-) -> Judged
+) -> Result<Ready, Refusal>
     requires passes { (is_network net.now ≡ true) × Long records.now froms.now tos.now }
     requires long { (length areas.old ≡ Limits.node_end + 1) × (length plan.old ≡ Limits.row_end) }
-    ensures { Judges (OnNet net.now area (memory records.now froms.now tos.now)) net.now area (memory records.now froms.now tos.now)
+    ensures { Judges (OnNet net.now area (memory records.now froms.now tos.now)) net.now (memory records.now froms.now tos.now)
         result plan.new areas.new }
 {
     let totals = plan_rows::make(net, areas, plan);
     if !call_state::well_formed(plan, areas, totals, records, froms, tos) {
-        return refused(totals, Advance::State);
+        return Err(Refusal::State);
     }
-    if area < 1 {
-        return refused(totals, Advance::Area);
-    }
-    if totals.areas < area {
-        return refused(totals, Advance::Area);
+    if area < 1 || totals.areas < area {
+        return Err(Refusal::Area);
     }
     let taken = call_counts::count_of(records, area);
     if totals.steps <= taken {
-        return refused(totals, Advance::Done);
+        return Err(Refusal::Done);
     }
     let k = taken + 1;
-    let late = call_counts::first_late(plan, totals.rows, records, area, k);
-    if late != 0 {
-        let row = plan_rows::row_at(plan, late - 1);
-        return refused(totals, Advance::Wait(row.number as u64));
+    if let Some(late) = call_counts::first_late(plan, totals.rows, records, area, k) {
+        let branch = plan[late].number;
+        return Err(Refusal::Wait(branch as u64));
     }
-    Judged {
-        answer: Advance::Took(k as u64),
-        totals,
-        k,
-    }
-}
-
-// A refusal before the network is read.
-fn unread(answer: Advance) -> Judged
-    ensures { (result.answer ≡ answer) × (result.k ≡ 0) }
-{
-    let totals = Totals {
-        rows: 0,
-        nodes: 0,
-        areas: 0,
-        slots: 0,
-        steps: 0,
-        limit: 0,
-    };
-    refused(totals, answer)
+    let turn = turn_at(totals, area, k);
+    Ok(Ready { totals, turn })
 }
 
 // 9, 8, then the others.
@@ -97,16 +77,12 @@ pub fn judge(
     area: usize,
     areas: &mut [usize; Node::PLACES],
     plan: &mut Table,
-) -> Judged
+) -> Result<Ready, Refusal>
     requires { (length areas.old ≡ Limits.node_end + 1) × (length plan.old ≡ Limits.row_end) }
-    ensures { Judges (Advances network.now area (memory records.now froms.now tos.now)) network.now area
+    ensures { Judges (Advances network.now area (memory records.now froms.now tos.now)) network.now
         (memory records.now froms.now tos.now) result plan.new areas.new }
 {
-    if !call_lent::fits(network, records, froms, tos) {
-        return unread(Advance::Store);
-    }
-    if !call_network::is_network(network) {
-        return unread(Advance::Network);
-    }
+    call_lent::admit(network, records, froms, tos)?;
+    call_network::admit(network)?;
     on_network(network, records, froms, tos, area, areas, plan)
 }

@@ -1,9 +1,10 @@
 -- What a listing of a network that passes answers, case by case. Assumes nothing.
+use Rattle.std.specs.Prelude.{Err}
 use Rattle.std.specs.Prelude.{◌≡◌, ◌&&◌, ◌||◌}
 use Rattle.whole.specs.Plain.{ℕ, refl, ◌∙◌, Bool, true, false, cond, not, List, []}
 use Rattle.whole.specs.Plain.{arith, Words}
-use Rattle.paper.specs.declared.Listing.{Listing}
-use Rattle.paper.specs.declared.Listing.TheVariants.{State}
+use Rattle.paper.specs.Replies.{Listing}
+use Rattle.paper.specs.declared.Unlisted.TheVariants.{State}
 use Rattle.paper.specs.Areas.{Net}
 use Rattle.paper.specs.Records.{well_formed}
 use Rattle.paper.specs.Advance.{Memory}
@@ -22,6 +23,6 @@ swapped true false x y = refl
 swapped false b x y = refl
 
 pub judged : (net : Words) (N : Net) (m : Memory) (room : ℕ) (t : Bool) → (well_formed N m.records m.froms m.tos && level N m.records) ≡ t
-    → on_level net N m room ≡ cond t (piece_of net N m room) (listed State [] m)
+    → on_level net N m room ≡ cond t (piece_of net N m room) (listed (Err State) [] m)
 unfolding on_level
 judged net N m room t e = swapped (well_formed N m.records m.froms m.tos) (level N m.records) _ _ ∙ rw e

@@ -9,10 +9,12 @@ ghost use Rattle.paper.specs.Pieces.{on_level};
 ghost use Rattle.paper.specs.Advance.{memory};
 ghost use Rattle.laws_facts.specs.Nets.{net_in};
 ghost use Rattle.call_state.specs.Judged.{Long};
+ghost use Rattle.list_pieces.specs.Answered.{answer_of, count_of};
 ghost use Rattle.list_pieces.specs.Sofar.{Gives};
 
 use list_pieces::Piece;
-use paper::{Listing, Node, Room};
+use paper::{Node, Room, Unlisted};
+use plan_rows::Row;
 
 // 10, or the piece, of a network that passes.
 pub fn on_network(
@@ -21,20 +23,17 @@ pub fn on_network(
     froms: &mut [i64],
     tos: &mut [i64],
     out: &mut [u8],
-) -> Piece
+) -> Result<Piece, Unlisted>
     requires net_value { (is_network net.now ≡ true) × Long records.old froms.old tos.old }
     requires in_bounds { Limits.step_bytes ≤ length out.old }
     ensures { Gives (on_level net.now (net_in net.now) (memory records.old froms.old tos.old) (length out.old)) out.old
-        result.answer result.count out.new (memory records.new froms.new tos.new) }
+        (answer_of result) (count_of result) out.new (memory records.new froms.new tos.new) }
 {
     let mut area = [0; Node::PLACES];
-    let mut plan = [[0; plan_rows::WORDS]; Room::ROWS];
+    let mut plan = [Row::NONE; Room::ROWS];
     let totals = plan_rows::make(net, &mut area, &mut plan);
     if !call_state::in_step(&plan, &area, totals, records, froms, tos) {
-        return Piece {
-            answer: Listing::State,
-            count: 0,
-        };
+        return Err(Unlisted::State);
     }
-    call_piece::onward(net, &plan, &area, totals, records, froms, tos, out)
+    Ok(call_piece::onward(net, &plan, &area, totals, records, froms, tos, out))
 }

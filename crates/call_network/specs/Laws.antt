@@ -18,7 +18,7 @@ use Rattle.text_faults.specs.Seen.{seen_fault, seen_after, nothing_seen}
 use Rattle.text_faults.specs.Stands.{Stands, stands_none}
 use Rattle.text_faults.specs.After.{stands_after}
 use Rattle.call_network.specs.Judged.{words_of, study_words, spare_zero, known_row, good_row, blank}
-use Rattle.call_network.specs.Replayed.{zero_word, passes_more, sound_row, row_back, arity_least, table_at, table_long, table_next, words_long, words_at}
+use Rattle.call_network.specs.Replayed.{zero_word, passes_more, sound_row, row_back, table_at, table_long, table_next, words_long, words_at}
 
 -- what cannot be so is false
 pub never : (b : Bool) → (b ≡ true → ⊥) → b ≡ false
@@ -30,6 +30,29 @@ unfolding same_words same
 same_refl [] = refl
 same_refl (pos a ∷ w) = both (eq-eqb a a refl) (same_refl w)
 same_refl (negsuc a ∷ w) = both (eq-eqb a a refl) (same_refl w)
+
+-- a row that the reader could have written
+pub record Good (s : Seen) (w : Words) : Type 0 where
+  pub least : 1 ≤ kind w
+  pub most : kind w ≤ 9
+  pub spare : spare_zero w ≡ true
+  pub fault : seen_fault s w ≡ 0
+
+pub good : (s : Seen) (w : Words) → good_row s w ≡ true → Good s w
+unfolding good_row
+good s w g =
+    let ks = and_left (known_row w && spare_zero w) (eqb (seen_fault s w) 0) g in
+    let k = and_left (known_row w) (spare_zero w) ks in
+    record {
+      least = leb-true 1 (kind w) (and_left (leb 1 (kind w)) (leb (kind w) 9) k);
+      most = leb-true (kind w) 9 (and_right (leb 1 (kind w)) (leb (kind w) 9) k);
+      spare = and_right (known_row w) (spare_zero w) ks;
+      fault = eqb-true (seen_fault s w) 0 (and_right (known_row w && spare_zero w) (eqb (seen_fault s w) 0) g);
+    }
+
+pub good_if : (s : Seen) (w : Words) → Good s w → good_row s w ≡ true
+unfolding good_row
+good_if s w q = both (both (both (le-leb 1 (kind w) q.least) (le-leb (kind w) 9 q.most)) q.spare) (eq-eqb (seen_fault s w) 0 q.fault)
 
 -- so far: the study's row and i rows pass, and have no word too many
 pub record Replayed (net : Words) (i : ℕ) (s : Seen) : Type 0 where
@@ -85,23 +108,8 @@ module _ (net : Words) (rows : ℕ) (z₀ : Sized net rows) where
     abbrev w : Words
     w = words_of net i
 
-    known_row_lem : known_row w ≡ true
-    unfolding good_row
-    known_row_lem = and_left (known_row w) (spare_zero w) (and_left (known_row w && spare_zero w) (eqb (seen_fault s w) 0) g)
-
-    pub good_spare : spare_zero w ≡ true
-    unfolding good_row
-    good_spare = and_right (known_row w) (spare_zero w) (and_left (known_row w && spare_zero w) (eqb (seen_fault s w) 0) g)
-
-    pub good_fault : seen_fault s w ≡ 0
-    unfolding good_row
-    good_fault = eqb-true (seen_fault s w) 0 (and_right (known_row w && spare_zero w) (eqb (seen_fault s w) 0) g)
-
-    pub good_kind : (1 ≤ kind w) × (kind w ≤ 9)
-    good_kind = (leb-true 1 (kind w) (and_left (leb 1 (kind w)) (leb (kind w) 9) known_row_lem), leb-true (kind w) 9 (and_right (leb 1 (kind w)) (leb (kind w) 9) known_row_lem))
-
-    pub good_known : kind w < 10
-    good_known = omega (arith, good_kind.1)
+    q : Good s w
+    q = good s w g
 
     long : length w ≡ 8
     long = words_long net i (omega (arith, rows_are)) (omega (arith, rows_are, z₀.few)) z₀.long
@@ -109,14 +117,14 @@ module _ (net : Words) (rows : ℕ) (z₀ : Sized net rows) where
     pub replayed_next : Replayed net i s → Replayed net (i + 1) (seen_after s w)
     replayed_next r =
         let t = take (suc i) (table_of net) in
-        let e : empty t ≡ is_study w = not_empty i ∙ sym (ne_eqb (kind w) 0 (λ e. omega (arith, good_kind.0))) in
+        let e : empty t ≡ is_study w = not_empty i ∙ sym (ne_eqb (kind w) 0 (λ e. omega (arith, q.least))) in
         let n = table_next net i (omega (arith, rows_are)) in
         rw (add-one i)
         (record {
-          stands = rw n (stands_after s w (omega (arith, long)) good_known t r.stands e good_fault);
-          pass = rw n (passes_more t (row_of_words w) r.pass (sound_row w long good_known s t r.stands e good_fault));
-          known = λ k u. elim (ℕ_discrete k i) [ yes q ↦ rw q good_known | no q ↦ r.known k (omega arith) ];
-          spare = λ k u. elim (ℕ_discrete k i) [ yes q ↦ rw q good_spare | no q ↦ r.spare k (omega arith) ];
+          stands = rw n (stands_after s w (omega (arith, long)) (omega (arith, q.most)) t r.stands e q.fault);
+          pass = rw n (passes_more t (row_of_words w) r.pass (sound_row w long (omega (arith, q.most)) s t r.stands e q.fault));
+          known = λ k u. elim (ℕ_discrete k i) [ yes v ↦ rw v (omega (arith, q.most)) | no q ↦ r.known k (omega arith) ];
+          spare = λ k u. elim (ℕ_discrete k i) [ yes v ↦ rw v q.spare | no q ↦ r.spare k (omega arith) ];
         })
 
   -- ---- all rows
@@ -161,7 +169,7 @@ module _ (net : Words) (rows : ℕ) (z₀ : Sized net rows) where
         let w = words_of net i in
         let known = r.known i h in
         sym (words_at net i j k)
-        ∙ sym (row_back w (words_long net i (omega (arith, rows_are)) (omega (arith, rows_are, z₀.few)) z₀.long) known (r.spare i h) (arity_least (kind w) known) j k)
+        ∙ sym (row_back w (words_long net i (omega (arith, rows_are)) (omega (arith, rows_are, z₀.few)) z₀.long) known (r.spare i h) j k)
         ∙ ap (λ (l : Words). word l j) (sym (table_at net i (omega (arith, rows_are))))
         ∙ sym (Layout.laid_word (Layout.rows_in net) (Layout.rows_in_short net) i j (omega (arith, rows_long)) k)
 

@@ -2,3 +2,4 @@ pub mod Judged
 pub mod Replayed
 pub mod Laws
 pub mod Refused
+pub mod Admitted

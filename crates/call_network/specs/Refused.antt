@@ -1,24 +1,24 @@
 -- The other way: a record that passes refusal 8 passes each test of the judgement, so one that fails a test is refused. Assumes nothing.
-use Rattle.std.specs.Prelude.{◌+◌, ◌*◌, ◌≤◌, ◌<◌, ◌≡◌, ◌&&◌, ◌||◌, ◌∷◌}
+use Rattle.std.specs.Prelude.{◌+◌, ◌-◌, ◌*◌, ◌≤◌, ◌<◌, ◌≡◌, ◌&&◌, ◌∷◌}
 use Rattle.whole.specs.Plain.{ℕ, suc, refl, sym, ap, ◌∙◌, true, false, bool_beq}
-use Rattle.whole.specs.Plain.{true≢false, [], leb, ltb, eqb, ℤ, pos, negsuc, lt_z, length, get_or, take, drop}
-use Rattle.whole.specs.Plain.{length-take, length-drop, get_or-take, get_or-drop, le-leb, le-ltb, ltb-false, eqb-true}
-use Rattle.whole.specs.Plain.{eq-eqb, ne_eqb, arith, Words, z, word, nat, up_to, empty}
+use Rattle.whole.specs.Plain.{true≢false, [], leb, eqb, ℤ, pos, lt_z, length, get_or, take, drop}
+use Rattle.whole.specs.Plain.{length-take, length-drop, get_or-take, get_or-drop, le-ltb, eqb-true}
+use Rattle.whole.specs.Plain.{ne_eqb, arith, Words, z, word, nat, up_to, empty}
 use Rattle.whole.specs.Folds.{and_right, both, every_if}
 use Rattle.paper.specs.Limits as Limits
 use Rattle.paper.specs.Rows.{Row, fields_of, kind, no_kind, is_study}
 use Rattle.paper.specs.Faults.{row_fault}
 use Rattle.paper.specs.Network.{Table, sound, row_of_words, table_of, is_network}
 use Rattle.laws_facts.specs.Passing.{passes_at}
-use Rattle.laws_facts.specs.Layout.{recorded, arity_most}
+use Rattle.laws_facts.specs.Layout.{recorded}
 use Rattle.laws_facts.specs.Nets as Nets
 use Rattle.laws_facts.proofs.Nets.{net_sound}
 use Rattle.text_faults.specs.declared.Seen.{Seen}
 use Rattle.text_faults.specs.Seen.{seen_fault, nothing_seen}
 use Rattle.text_faults.specs.Stands.{Stands, stands_none}
-use Rattle.call_network.specs.Judged.{words_of, study_words, spare_zero, known_row, good_row, blank}
+use Rattle.call_network.specs.Judged.{words_of, study_words, spare_zero, good_row, blank}
 use Rattle.call_network.specs.Replayed.{word_zero, fault_none, table_at, table_long, words_long, words_at}
-use Rattle.call_network.specs.Laws.{never, Sized, study_row, rows_are, not_empty}
+use Rattle.call_network.specs.Laws.{never, Sized, good_if, study_row, rows_are, not_empty}
 
 kind_head : (w : Words) → kind w ≡ kind (word w 0 ∷ [])
 kind_head [] = refl
@@ -28,11 +28,6 @@ kind_head (x ∷ w) = refl
 sound_fault : (t : Table) (r : Row) → sound t r ≡ true → row_fault t r ≡ 0
 unfolding sound
 sound_fault t r e = eqb-true (row_fault t r) 0 (and_right (leb (suc (kind r)) no_kind && bool_beq (empty t) (is_study r)) (eqb (row_fault t r) 0) e)
-
--- a word that is no negative number
-pub count_word : (x : ℤ) → lt_z x (pos 0) ≡ false → x ≡ pos (nat x)
-count_word (pos n) e = refl
-count_word (negsuc n) e = absurd (true≢false e)
 
 module _ (net : Words) where
   pub negative_refused : lt_z (word net 3) (pos 0) ≡ true → false ≡ is_network net
@@ -89,26 +84,19 @@ module _ (net : Words) (rows : ℕ) (z₀ : Sized net rows) where
           let s = (net_sound net e).row i at_row in
           (omega (arith, same_kind, s.kind_least), omega (arith, same_kind, s.kind_most))
 
-      known_passes : known_row w ≡ true
-      known_passes = both (le-leb 1 (kind w) kinds.0) (le-leb (kind w) 9 kinds.1)
-
       -- a word past the kind's fields
-      spare : (j : ℕ) → length (fields_of (kind w)) < j → j < 8 → up_to 0 (word w j) ≡ true
+      spare : (j : ℕ) → length (fields_of (kind w)) < j → j < 8 → word w j ≡ z
       unfolding row
       spare j l k =
           let q : length (fields_of (kind row)) ≡ length (fields_of (kind w)) = ap (λ (n : ℕ). length (fields_of n)) (sym same_kind) in
-          word_zero (word w j) (same_word j k ∙ Nets.row_beyond net e i j at_row (omega arith))
-
-      or_spare : (m j : ℕ) → m < j → j < 8 → (ltb m (length (fields_of (kind w))) || up_to 0 (word w j)) ≡ true
-      or_spare m j l k =
-          elim (ltb m (length (fields_of (kind w)))) as (λ b. ltb m (length (fields_of (kind w))) ≡ b → (b || up_to 0 (word w j)) ≡ true)
-          [ true ↦ λ q. refl | false ↦ λ q. spare j (omega (arith, ltb-false m (length (fields_of (kind w))) q)) k ] refl
+          same_word j k ∙ Nets.row_beyond net e i j at_row (omega arith)
 
       spare_passes : spare_zero w ≡ true
       unfolding spare_zero
       spare_passes =
-          let f = arity_most (kind w) in
-          both (both (both (spare 7 (omega arith) (omega arith)) (spare 6 (omega arith) (omega arith))) (or_spare 4 5 (omega arith) (omega arith))) (or_spare 3 4 (omega arith) (omega arith))
+          let m = suc (length (fields_of (kind w))) in
+          let long : length w ≡ 8 = words_long net i (omega (arith, rows_are net rows z₀)) (omega (arith, rows_are net rows z₀, z₀.few)) z₀.long in
+          every_if (up_to 0) (drop m w) z (λ j h. word_zero _ (get_or-drop m w j z ∙ spare (m + j) (omega arith) (let l : j < length w - m = rw (← length-drop m w) h in omega arith)))
 
       fault_passes : (s : Seen) → Stands s (take (suc i) (table_of net)) → seen_fault s w ≡ 0
       fault_passes s st =
@@ -120,8 +108,7 @@ module _ (net : Words) (rows : ℕ) (z₀ : Sized net rows) where
           (not_empty net rows z₀ i ∙ sym (ne_eqb (kind w) 0 (λ q. omega (arith, kinds.0)))) (sound_fault t (row_of_words w) u)
 
       good_passes : (s : Seen) → Stands s (take (suc i) (table_of net)) → good_row s w ≡ true
-      unfolding good_row
-      good_passes s st = both (both known_passes spare_passes) (eq-eqb (seen_fault s w) 0 (fault_passes s st))
+      good_passes s st = good_if s w (record { least = kinds.0; most = kinds.1; spare = spare_passes; fault = fault_passes s st })
 
   -- ---- so one that fails a test is refused
 

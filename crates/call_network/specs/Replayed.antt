@@ -1,21 +1,21 @@
 -- A record's rows, replayed one by one. Assumes nothing.
-use Rattle.std.specs.Prelude.{◌+◌, ◌*◌, ◌≤◌, ◌<◌, ◌≡◌, ◌&&◌, ◌||◌, ◌∷◌, ◌++◌}
+use Rattle.std.specs.Prelude.{◌+◌, ◌-◌, ◌*◌, ◌≤◌, ◌<◌, ◌≡◌, ◌∷◌, ◌++◌}
+use Rattle.std.specs.Simd.{first_chunks}
 use Rattle.whole.specs.Plain.{ℕ, zero, suc, refl, sym, ap, ◌∙◌, true, false}
-use Rattle.whole.specs.Plain.{bool_beq, [], append_assoc, append-nil, ltb, lit≤, ℤ, pos, negsuc, le_z, length}
+use Rattle.whole.specs.Plain.{bool_beq, [], append_assoc, append-nil, ℤ, pos, negsuc, length}
 use Rattle.whole.specs.Plain.{get_or, take, drop, length-take, length-drop, get_or-eq_default, take-suc, drop-drop}
-use Rattle.whole.specs.Plain.{get_or-take, get_or-drop, ext_get_or, leb-true, eq-eqb, le-leb, le-ltb, dec_lt, arith, Words, z}
+use Rattle.whole.specs.Plain.{get_or-take, get_or-drop, leb-true, eq-eqb, le-leb, dec_lt, arith, Words, z}
 use Rattle.whole.specs.Plain.{word, nat, up_to, empty, fold}
-use Rattle.whole.specs.Folds.{and_left, and_right, both, fold_append}
-use Rattle.paper.specs.Rows.{Row, kinds, fields_of, kind, no_kind, is_study}
+use Rattle.whole.specs.Folds.{both, every_at, fold_append}
+use Rattle.paper.specs.Rows.{Row, fields_of, kind, no_kind, is_study}
 use Rattle.paper.specs.Classes.{kind_count}
 use Rattle.paper.specs.Faults.{row_fault}
 use Rattle.paper.specs.Network.{Table, Replay, replayed, passes, sound, row_of_words, rows_of, table_of}
 use Rattle.laws_facts.specs.Layout.{length_rows}
-use Rattle.text_kinds.specs.Fields.{each}
 use Rattle.text_faults.specs.declared.Seen.{Seen}
 use Rattle.text_faults.specs.Seen.{seen_fault}
 use Rattle.text_faults.specs.Stands.{Stands, row_kind, fault_is}
-use Rattle.call_network.specs.Judged.{words_of, spare_zero, known_row}
+use Rattle.call_network.specs.Judged.{words_of, rows_in, spare_zero}
 
 -- ---- zero words
 
@@ -44,18 +44,6 @@ passes_more t r p s = ap (λ (x : Replay). x.ok) (fold_append replayed start t (
 
 -- ---- a row by its words
 
--- what holds of each of eight words
-each_word : (P : ℕ → Type 0) → P 0 → P 1 → P 2 → P 3 → P 4 → P 5 → P 6 → P 7 → (j : ℕ) → j < 8 → P j
-each_word P a b c d e f g h zero l = a
-each_word P a b c d e f g h (suc zero) l = b
-each_word P a b c d e f g h (suc (suc zero)) l = c
-each_word P a b c d e f g h (suc (suc (suc zero))) l = d
-each_word P a b c d e f g h (suc (suc (suc (suc zero)))) l = e
-each_word P a b c d e f g h (suc (suc (suc (suc (suc zero))))) l = f
-each_word P a b c d e f g h (suc (suc (suc (suc (suc (suc zero)))))) l = g
-each_word P a b c d e f g h (suc (suc (suc (suc (suc (suc (suc zero))))))) l = h
-each_word P a b c d e f g h (suc (suc (suc (suc (suc (suc (suc (suc j)))))))) l = absurd (omega arith)
-
 module _ (w : Words) (long : length w ≡ 8) (k : kind w < 10) where
   few : 6 ≤ length w
   few = omega (arith, long)
@@ -69,27 +57,35 @@ module _ (w : Words) (long : length w ≡ 8) (k : kind w < 10) where
   pub fault_none : (s : Seen) (t : Table) → Stands s t → empty t ≡ is_study w → row_fault t (row_of_words w) ≡ 0 → seen_fault s w ≡ 0
   fault_none s t h e f = fault_is s w few k t h e ∙ f
 
-  -- the row has the words of its kind, and the others are 0
-  pub row_back : spare_zero w ≡ true → 3 ≤ length (fields_of (kind w)) → (j : ℕ) → j < 8 → word (row_of_words w) j ≡ word w j
-  unfolding row_of_words spare_zero
-  row_back e l j h =
-      let f = length (fields_of (kind w)) in
-      let a = up_to 0 (word w 7) in
-      let b = up_to 0 (word w 6) in
-      let c = ltb 4 f || up_to 0 (word w 5) in
-      let p = and_left (a && b && c) (ltb 3 f || up_to 0 (word w 4)) e in
-      let q = and_left (a && b) c p in
-      let other : (m : ℕ) (x : ℤ) → (ltb m f || up_to 0 x) ≡ true → f ≤ m → x ≡ z = λ m x o u. zero_word x (rw (le-ltb m f u) at o) in
-      let none : (i : ℕ) → i < 4 → suc f ≤ i → word w i ≡ z = λ i u v. absurd (omega arith) in
-      let spare = each_word (λ j. suc f ≤ j → word w j ≡ z) (none 0 (lit≤ tt)) (none 1 (lit≤ tt)) (none 2 (lit≤ tt)) (none 3 (lit≤ tt))
-      (λ u. other 3 (word w 4) (and_right (a && b && c) _ e) (omega arith)) (λ u. other 4 (word w 5) (and_right (a && b) c p) (omega arith))
-      (λ u. zero_word (word w 6) (and_right a b q)) (λ u. zero_word (word w 7) (and_left a b q)) in
-      elim (dec_lt j (suc f))
-      [ yes u ↦ get_or-take (suc f) w j z u | no u ↦ get_or-eq_default (take (suc f) w) z (rw length-take (omega arith)) ∙ sym (spare j h (omega arith)) ]
+  -- the words after those of its kind
+  spare_word : spare_zero w ≡ true → (j : ℕ) → length (fields_of (kind w)) < j → j < 8 → word w j ≡ z
+  unfolding spare_zero
+  spare_word e j l h =
+      let m = suc (length (fields_of (kind w))) in
+      let q : m + (j - m) ≡ j = omega arith in
+      let v : word (drop m w) (j - m) ≡ word w j = get_or-drop m w (j - m) z ∙ ap (word w) q in
+      sym v ∙ zero_word _ (every_at (up_to 0) (drop m w) z (j - m) e (rw length-drop (omega (arith, long))))
 
-pub arity_least : (k : ℕ) → k < 10 → 3 ≤ length (fields_of k)
-unfolding fields_of kinds
-arity_least = each (λ k. 3 ≤ length (fields_of k)) (lit≤ tt) (lit≤ tt) (lit≤ tt) (lit≤ tt) (lit≤ tt) (lit≤ tt) (lit≤ tt) (lit≤ tt) (lit≤ tt) (lit≤ tt)
+  -- the row has the words of its kind, and the others are 0
+  pub row_back : spare_zero w ≡ true → (j : ℕ) → j < 8 → word (row_of_words w) j ≡ word w j
+  unfolding row_of_words
+  row_back e j h =
+      let f = length (fields_of (kind w)) in
+      elim (dec_lt j (suc f))
+      [ yes u ↦ get_or-take (suc f) w j z u | no u ↦ get_or-eq_default (take (suc f) w) z (rw length-take (omega arith)) ∙ sym (spare_word e j (omega arith) h) ]
+
+-- ---- words in eights
+
+chunk_count : (n k : ℕ) (l : Words) → length (first_chunks n k l) ≡ k
+chunk_count n zero l = refl
+chunk_count n (suc k) l = ap suc (chunk_count n k (drop n l))
+
+chunk_at : (n k : ℕ) (l : Words) (i : ℕ) (d : Words) → i < k → get_or (first_chunks n k l) i d ≡ take n (drop (n * i) l)
+chunk_at n zero l i d h = absurd (omega arith)
+chunk_at n (suc k) l zero d h = let e : n * 0 ≡ 0 = omega arith in rw e
+chunk_at n (suc k) l (suc i) d h =
+    let e : n + n * i ≡ n * suc i = omega arith in
+    chunk_at n k (drop n l) i d (omega arith) ∙ ap (take n) (drop-drop (n * i) n l ∙ ap (λ (m : ℕ). drop m l) e)
 
 -- ---- the record's table, row by row
 
@@ -122,25 +118,12 @@ module _ (net : Words) where
   pub words_at : (i j : ℕ) → j < 8 → word (words_of net i) j ≡ word net (8 + 8 * i + j)
   words_at i j h = get_or-take 8 (drop (8 + 8 * i) net) j z h ∙ get_or-drop (8 + 8 * i) net j z
 
-  -- the eight, written out
-  pub words_are : (i : ℕ) → 16 + 8 * i ≤ length net
-      → (let b = 8 + 8 * i in word net b ∷ word net (b + 1) ∷ word net (b + 2) ∷ word net (b + 3) ∷ word net (b + 4) ∷ word net (b + 5) ∷ word net (b + 6) ∷ word net (b + 7) ∷ []) ≡ words_of net i
-  words_are i h =
-      let b = 8 + 8 * i in
-      let all : Words = word net b ∷ word net (b + 1) ∷ word net (b + 2) ∷ word net (b + 3) ∷ word net (b + 4) ∷ word net (b + 5) ∷ word net (b + 6) ∷ word net (b + 7) ∷ [] in
-      let is : (j : ℕ) → j < 8 → word net (b + j) ≡ word (words_of net i) j = λ j k. sym (words_at i j k) in
-      let first : word net b ≡ word (words_of net i) 0 = let e : b ≡ b + 0 = omega arith in ap (word net) e ∙ is 0 (lit≤ tt) in
-      ext_get_or z all (words_of net i) (sym (rw (length-take, length-drop) (omega arith)))
-      (each_word (λ j. word all j ≡ word (words_of net i) j) first (is 1 (lit≤ tt)) (is 2 (lit≤ tt)) (is 3 (lit≤ tt)) (is 4 (lit≤ tt)) (is 5 (lit≤ tt)) (is 6 (lit≤ tt)) (is 7 (lit≤ tt)))
+  pub rows_count : (rows : ℕ) → rows ≤ 80 → length (rows_in net rows) ≡ rows
+  rows_count rows h = rw length-take (omega (arith, chunk_count 8 127 (drop 8 net)))
 
--- eight words that are eight others, one by one
-pub eight : {a b c d e f g h a' b' c' d' e' f' g' h' : ℤ} → a ≡ a' → b ≡ b' → c ≡ c' → d ≡ d' → e ≡ e' → f ≡ f' → g ≡ g' → h ≡ h'
-    → ◌≡◌ {A = Words} (a ∷ b ∷ c ∷ d ∷ e ∷ f ∷ g ∷ h ∷ []) (a' ∷ b' ∷ c' ∷ d' ∷ e' ∷ f' ∷ g' ∷ h' ∷ [])
-eight p q r s t u v w = λ i. p i ∷ q i ∷ r i ∷ s i ∷ t i ∷ u i ∷ v i ∷ w i ∷ []
-
--- a kind from 1 to 9, by the word
-pub known_word : (w : Words) → (le_z (pos 1) (word w 0) && le_z (word w 0) (pos 9)) ≡ known_row w
-unfolding kinds
-known_word [] = refl
-known_word (pos k ∷ w) = refl
-known_word (negsuc k ∷ w) = refl
+  -- a row's eight words, as the loop meets them
+  pub row_words : (rows i : ℕ) (d : Words) → rows ≤ 80 → i < rows → get_or (rows_in net rows) i d ≡ words_of net i
+  row_words rows i d l h =
+      get_or-take rows (first_chunks 8 127 (drop 8 net)) i d h
+      ∙ chunk_at 8 127 (drop 8 net) i d (omega arith)
+      ∙ ap (take 8) (drop-drop (8 * i) 8 net)

@@ -1,7 +1,7 @@
 #![tactic(auto)]
 
 // The next piece of a listing, from tables that hold all areas: a call that is refused before does not pay for them.
-ghost use Rattle.std.specs.Prelude.{◌≤◌};
+ghost use Rattle.std.specs.Prelude.{Ok, ◌≤◌};
 ghost use Rattle.whole.specs.Plain.{length};
 ghost use Rattle.paper.specs.Limits as Limits;
 ghost use Rattle.paper.specs.Pieces.{steps_taken, piece_of};
@@ -14,7 +14,10 @@ ghost use Rattle.list_pieces.specs.Sofar.{Gives};
 
 use list_pieces::Piece;
 use paper::{Node, Room};
+use plan_own::Own;
+use plan_record::Record;
 use plan_rows::{Table, Totals};
+use step_legs::{Source, Wire};
 
 // Of a state in step.
 pub fn onward(
@@ -31,13 +34,14 @@ pub fn onward(
     requires in_step { InStep net.now (steps_taken (net_in net.now) records.old) (memory records.old froms.old tos.old) }
     requires in_bounds { Limits.step_bytes ≤ length out.old }
     ensures { Gives (piece_of net.now (net_in net.now) (memory records.old froms.old tos.old) (length out.old)) out.old
-        result.answer result.count out.new (memory records.new froms.new tos.new) }
+        (Ok result.pause) result.count out.new (memory records.new froms.new tos.new) }
 {
+    let net = Record { words: net };
     let fixed = plan_lay::fixed_nodes(net, totals.rows);
-    let mut legs = [[0; 9]; 2 * Room::ROWS];
+    let mut legs = [Wire::NONE; 2 * Room::ROWS];
     let mut nodes = [0; Node::MAX as usize];
-    let mut sources = [[0; 5]; Room::SOURCES];
-    let mut owns = [[0; 8]; Node::PLACES];
+    let mut sources = [Source::NONE; Room::SOURCES];
+    let mut owns = [Own::NOTHING; Node::PLACES];
     plan_own::lay_all(
         net,
         plan,

@@ -5,13 +5,12 @@ ghost use Rattle.paper.specs.One.{Advances};
 ghost use Rattle.paper.specs.Advance.{memory};
 
 use paper::{Advance, Node, Room};
-use plan_rows::Table;
+use plan_rows::{Row, Table};
 use step_factors::Matrix;
-use step_legs::Line;
-use step_take::Turn;
+use step_legs::Wire;
 
 // two legs for each row
-pub type Legs = [Line; 2 * Room::ROWS];
+pub type Legs = [Wire; 2 * Room::ROWS];
 
 // The tables lent: whatever stands in them is cleared first, and nothing is promised of what is left there. A call that is refused pays for the plan alone.
 pub fn advance_in(
@@ -27,24 +26,11 @@ pub fn advance_in(
     ensures { Advances network.now area (memory records.old froms.old tos.old) result (memory records.new froms.new tos.new) }
 {
     let mut areas = [0; Node::PLACES];
-    *plan = [[0; plan_rows::WORDS]; Room::ROWS];
-    let judged = call_judge::judge(network, records, froms, tos, area, &mut areas, plan);
-    if judged.k == 0 {
-        return judged.answer;
-    }
-    let turn: Turn = call_alone::turn_at(judged.totals, area, judged.k);
-    *legs = [[0; 9]; 2 * Room::ROWS];
+    *plan = [Row::NONE; Room::ROWS];
+    let ready = call_judge::judge(network, records, froms, tos, area, &mut areas, plan)?;
+    *legs = [Wire::NONE; 2 * Room::ROWS];
     *factors = [[0.0; Node::MAX as usize]; Node::MAX as usize];
     call_alone::alone(
-        network,
-        plan,
-        &areas,
-        judged.totals,
-        records,
-        froms,
-        tos,
-        turn,
-        legs,
-        factors,
+        network, plan, &areas, ready, records, froms, tos, legs, factors,
     )
 }

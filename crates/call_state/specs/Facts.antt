@@ -9,6 +9,7 @@ use Rattle.paper.specs.Limits as Limits
 use Rattle.paper.specs.Areas.{Net, area_of, area_count}
 use Rattle.paper.specs.Records.{count_of, well_formed}
 use Rattle.laws_facts.specs.Nets.{area_of_lem}
+use Rattle.plan_rows.specs.Planned.{Plan}
 use Rattle.plan_rows.specs.declared.Totals.{Totals}
 use Rattle.paper.proofs.Apart.{state_records}
 use Rattle.plan_net.specs.Of.{Of}
@@ -47,7 +48,7 @@ module _ (recs : Words) (areas most : ℕ) (long : length recs ≡ Limits.record
       }
 
 -- each node is of one of the areas
-pub nodes_counted : {N : Net} {plan : List (List ℕ)} {areas : List ℕ} {t : Totals} {recs : Words} → MappedOf N plan areas t → CountsIn recs t.areas → NodesCounted areas t.nodes recs
+pub nodes_counted : {N : Net} {plan : Plan} {areas : List ℕ} {t : Totals} {recs : Words} → MappedOf N plan areas t → CountsIn recs t.areas → NodesCounted areas t.nodes recs
 nodes_counted {N} {plan} {areas} {t} {recs} o c =
     let n : t.nodes ≡ N.nodes = ap (λ (u : Totals). u.nodes) o.of.counts in
     let a : t.areas ≡ area_count N = ap (λ (u : Totals). u.areas) o.of.counts in
@@ -59,7 +60,7 @@ nodes_counted {N} {plan} {areas} {t} {recs} o c =
 
 -- ---- of a state that is well formed
 
-module _ {N : Net} {plan : List (List ℕ)} {t : Totals} {recs froms tos : Words} (o : Of N plan t) (k : Long recs froms tos)
+module _ {N : Net} {plan : Plan} {t : Totals} {recs froms tos : Words} (o : Of N plan t) (k : Long recs froms tos)
     (e : well_formed N recs froms tos ≡ true) where
   counts_good : counts_formed recs t.areas t.steps ≡ true
   counts_good = counts_formed_lem recs o k.records_long (state_records N recs froms tos e)

@@ -13,7 +13,7 @@ use Rattle.paper.specs.Records.{slot_count, Section, sections, sections_end, end
 use Rattle.paper.proofs.Apart.{counts_in, voltages_in, currents_in, to_currents_in, histories_in, peaks_in, peak_steps_in, latches_in, end_of_lem, end_past, ends_at}
 use Rattle.laws_facts.specs.Nets.{NetSound, row_at, area_count_most}
 use Rattle.plan_rows.specs.declared.Totals.{Totals}
-use Rattle.plan_rows.specs.Planned.{Planned, row_in}
+use Rattle.plan_rows.specs.Planned.{Plan, Planned, row_in}
 use Rattle.plan_net.specs.Of.{Of}
 use Rattle.call_counts.specs.Counts.{near_by, latched_by}
 use Rattle.call_counts.specs.Lines.{kind_is_lem, near_is, latched_is}
@@ -31,7 +31,7 @@ arranged : (sign counts volts i zᵢ t zₜ h zₕ peaks steps l zₗ rest near 
     ≡ (sign && counts && ((volts && (peaks && steps)) && ((i && (t && (h && l)) && (near && latched)) && ((zᵢ && (zₜ && (zₕ && (zₗ && rest)))) && peaked))))
 arranged sign counts volts i zᵢ t zₜ h zₕ peaks steps l zₗ rest near peaked latched = simp (and_assoc, and_comm, and_swap, and-true)
 
-module _ {N : Net} {plan : List (List ℕ)} (s : NetSound N) (p : Planned N plan) (recs : Words) (long : length recs ≡ Limits.record_words) where
+module _ {N : Net} {plan : Plan} (s : NetSound N) (p : Planned N plan) (recs : Words) (long : length recs ≡ Limits.record_words) where
   abbrev n : ℕ
   n = length N.rows
 
@@ -145,14 +145,14 @@ pub record Few (t : Totals) : Type 0 where
   pub slots : t.slots ≤ Limits.store_words
   pub steps : t.steps ≤ Limits.steps_end
 
-pub few : {N : Net} {plan : List (List ℕ)} {t : Totals} → Of N plan t → Few t
+pub few : {N : Net} {plan : Plan} {t : Totals} → Of N plan t → Few t
 few {N} {plan} {t} o =
     let s = o.sound in
     let areas : area_count N ≤ Limits.node_end = omega (arith, area_count_most N s, s.node_most) in
     rw o.counts (record { rows = s.row_most; nodes = s.node_most; areas = areas; slots = s.slot_most; steps = s.study.steps_in.most })
 
 -- of well-formed records, the counts
-pub counts_formed_lem : {N : Net} {plan : List (List ℕ)} {t : Totals} (recs : Words) → Of N plan t → length recs ≡ Limits.record_words → records_formed N recs ≡ true
+pub counts_formed_lem : {N : Net} {plan : Plan} {t : Totals} (recs : Words) → Of N plan t → length recs ≡ Limits.record_words → records_formed N recs ≡ true
     → counts_formed recs t.areas t.steps ≡ true
 unfolding records_formed counts_formed
 counts_formed_lem {N} recs o long e =
@@ -163,12 +163,12 @@ counts_formed_lem {N} recs o long e =
     rw o.counts (both (and_left c₁ c₂ e₂) (and_left _ _ (and_left _ _ (sym (records_are o.sound o.planned recs long) ∙ and_right c₁ c₂ e₂))))
 
 -- the peaks, by the areas that the plan has beside it
-peaks_by : {N : Net} {plan : List (List ℕ)} {areas : List ℕ} {t : Totals} → MappedOf N plan areas t → (recs : Words) → every (peaked N recs) (numbers 1 N.nodes) ≡ every (peaked_by areas recs) (numbers 1 N.nodes)
+peaks_by : {N : Net} {plan : Plan} {areas : List ℕ} {t : Totals} → MappedOf N plan areas t → (recs : Words) → every (peaked N recs) (numbers 1 N.nodes) ≡ every (peaked_by areas recs) (numbers 1 N.nodes)
 unfolding peaked peaked_by
 peaks_by {N} o recs = every_from _ _ 0 1 N.nodes (λ n l h. rw (zero-add n, o.mapped.area_at n (omega (arith, o.of.sound.node_most))))
 
 -- all of the records
-pub formed_is : {N : Net} {plan : List (List ℕ)} {areas : List ℕ} {t : Totals} (recs : Words) → MappedOf N plan areas t → length recs ≡ Limits.record_words
+pub formed_is : {N : Net} {plan : Plan} {areas : List ℕ} {t : Totals} (recs : Words) → MappedOf N plan areas t → length recs ≡ Limits.record_words
     → records_formed N recs ≡ formed_by plan areas t recs
 unfolding records_formed formed_by counts_formed nodes_formed tails_formed
 formed_is recs o long =
@@ -177,7 +177,7 @@ formed_is recs o long =
     rw (o.of.counts, records_are s p recs long, rows_are s p recs long, peaks_by o recs, arranged)
 
 -- with the stores
-pub state_is : {N : Net} {plan : List (List ℕ)} {areas : List ℕ} {t : Totals} {recs froms tos : Words} → MappedOf N plan areas t → Long recs froms tos
+pub state_is : {N : Net} {plan : Plan} {areas : List ℕ} {t : Totals} {recs froms tos : Words} → MappedOf N plan areas t → Long recs froms tos
     → well_formed N recs froms tos
     ≡ (records_formed N recs && (section_formed froms 0 t.slots Limits.store_words Limits.history_end && section_formed tos 0 t.slots Limits.store_words Limits.history_end))
 unfolding well_formed store_formed

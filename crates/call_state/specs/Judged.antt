@@ -10,7 +10,7 @@ use Rattle.paper.specs.Records.{current_at, to_current_at, history_at, latch_at,
 use Rattle.plan_record.specs.Mapped.{Mapped}
 use Rattle.plan_rows.specs.declared.Row.{Row}
 use Rattle.plan_rows.specs.declared.Totals.{Totals}
-use Rattle.plan_rows.specs.Planned.{row_in}
+use Rattle.plan_rows.specs.Planned.{Plan, row_in}
 use Rattle.plan_net.specs.Of.{Of}
 use Rattle.call_counts.specs.Counts.{CountIn, near_by, latched_by}
 
@@ -21,11 +21,11 @@ pub record Long (recs froms tos : Words) : Type 0 where
   pub tos_long : length tos ≡ Limits.store_words
 
 -- the network that a plan is of, with its areas by node; and that there is one
-pub record MappedOf (N : Net) (plan : List (List ℕ)) (areas : List ℕ) (totals : Totals) : Type 0 where
+pub record MappedOf (N : Net) (plan : Plan) (areas : List ℕ) (totals : Totals) : Type 0 where
   pub of : Of N plan totals
   pub mapped : Mapped N areas
 
-pub record MappedSome (plan : List (List ℕ)) (areas : List ℕ) (totals : Totals) : Type 0 where
+pub record MappedSome (plan : Plan) (areas : List ℕ) (totals : Totals) : Type 0 where
   pub net : Net
   pub of : MappedOf net plan areas totals
 
@@ -56,7 +56,7 @@ words_formed steps k recs i =
 unfoldable pub row_formed : ℕ → Words → Row → ℕ → Bool
 row_formed steps recs r i = words_formed steps r.kind recs i && (near_by recs r && latched_by recs r i)
 
-unfoldable pub planned_formed : ℕ → List (List ℕ) → Words → ℕ → Bool
+unfoldable pub planned_formed : ℕ → Plan → Words → ℕ → Bool
 planned_formed steps plan recs i = row_formed steps recs (row_in plan i) i
 
 -- the words past the last row's, and past the last section
@@ -84,7 +84,7 @@ pub record NodesCounted (areas : List ℕ) (nodes : ℕ) (recs : Words) : Type 0
   pub node : (n : ℕ) → 1 ≤ n → n ≤ nodes → CountIn recs (get_or areas n 0)
 
 -- all of the records
-unfoldable pub formed_by : List (List ℕ) → List ℕ → Totals → Words → Bool
+unfoldable pub formed_by : Plan → List ℕ → Totals → Words → Bool
 formed_by plan areas t recs =
     counts_formed recs t.areas t.steps
     && (nodes_formed recs t.nodes t.steps

@@ -3,3 +3,4 @@ pub mod Sections
 pub mod Formed
 pub mod Facts
 pub mod Kept
+pub mod OfRecord

@@ -48,11 +48,8 @@ fn none_negative(words: &[i64]) -> bool
     ensures { result ≡ every non_neg words.now }
 {
     let mut all = true;
-    let mut i = 0;
-    while i < words.len() {
-        let x = words[i];
-        all = all & (0 <= x);
-        i += 1;
+    for x in words {
+        all = all & (0 <= *x);
     }
     all
 }
@@ -122,12 +119,9 @@ fn rows_formed(plan: &Table, records: &[i64], rows: usize, steps: usize) -> bool
     ensures { result ≡ every (planned_formed steps plan.now records.now) (numbers 0 rows) }
 {
     let mut all = true;
-    let mut i = 0;
-    while i < rows {
-        let r = plan_rows::row_at(plan, i);
-        let good = row_formed(r, records, i, steps);
+    for i in 0..rows {
+        let good = row_formed(plan[i], records, i, steps);
         all = all & good;
-        i += 1;
     }
     all
 }
@@ -211,10 +205,8 @@ fn peaks_formed(areas: &[usize; Node::PLACES], records: &[i64], nodes: usize) ->
     ensures { result ≡ every (peaked_by areas.now records.now) (numbers 1 nodes) }
 {
     let mut all = true;
-    let mut passed = 0;
-    while passed < nodes {
-        passed += 1;
-        let good = node_formed(areas, records, passed);
+    for n in 1..=nodes {
+        let good = node_formed(areas, records, n);
         all = all & good;
     }
     all

@@ -6,17 +6,17 @@ ghost use Rattle.paper.specs.Answers.{writing_number, writing_bytes};
 ghost use Rattle.paper.specs.Looking.{looking_number, told_voltage, told_peak, told_step};
 ghost use Rattle.paper.specs.Pieces.{listing_number, stop_area, stop_number, stop_place};
 
-use paper::{Listing, Looking, Writing};
+use paper::{Listing, Looking, Pause, Unlisted, Unlooked, Writing};
 
 pub fn looking_number(answer: Looking) -> u64
     ensures { result ≡ looking_number answer }
 {
     match answer {
-        Looking::Told(_, _, _) => 0,
-        Looking::Node => 2,
-        Looking::Network => 8,
-        Looking::Store => 9,
-        Looking::State => 10,
+        Ok(_) => 0,
+        Err(Unlooked::Node) => 2,
+        Err(Unlooked::Network) => 8,
+        Err(Unlooked::Store) => 9,
+        Err(Unlooked::State) => 10,
     }
 }
 
@@ -25,11 +25,8 @@ pub fn told_voltage(answer: Looking) -> i64
     ensures { result ≡ told_voltage answer }
 {
     match answer {
-        Looking::Told(voltage, _, _) => voltage,
-        Looking::Node => 0,
-        Looking::Network => 0,
-        Looking::Store => 0,
-        Looking::State => 0,
+        Ok(told) => told.voltage,
+        Err(_) => 0,
     }
 }
 
@@ -37,11 +34,8 @@ pub fn told_peak(answer: Looking) -> u64
     ensures { result ≡ told_peak answer }
 {
     match answer {
-        Looking::Told(_, peak, _) => peak,
-        Looking::Node => 0,
-        Looking::Network => 0,
-        Looking::Store => 0,
-        Looking::State => 0,
+        Ok(told) => told.peak,
+        Err(_) => 0,
     }
 }
 
@@ -49,11 +43,8 @@ pub fn told_step(answer: Looking) -> u64
     ensures { result ≡ told_step answer }
 {
     match answer {
-        Looking::Told(_, _, step) => step,
-        Looking::Node => 0,
-        Looking::Network => 0,
-        Looking::Store => 0,
-        Looking::State => 0,
+        Ok(told) => told.step,
+        Err(_) => 0,
     }
 }
 
@@ -62,12 +53,12 @@ pub fn listing_number(answer: Listing) -> u64
     ensures { result ≡ listing_number answer }
 {
     match answer {
-        Listing::Done => 0,
-        Listing::Network => 8,
-        Listing::Store => 9,
-        Listing::State => 10,
-        Listing::More => 100,
-        Listing::Stopped(_, _) => 101,
+        Ok(Pause::Done) => 0,
+        Ok(Pause::More) => 100,
+        Ok(Pause::Stopped(_, _)) => 101,
+        Err(Unlisted::Network) => 8,
+        Err(Unlisted::Store) => 9,
+        Err(Unlisted::State) => 10,
     }
 }
 
@@ -76,12 +67,8 @@ pub fn stop_area(answer: Listing) -> u64
     ensures { result ≡ stop_area answer }
 {
     match answer {
-        Listing::Stopped(area, _) => area,
-        Listing::More => 0,
-        Listing::Done => 0,
-        Listing::Network => 0,
-        Listing::Store => 0,
-        Listing::State => 0,
+        Ok(Pause::Stopped(area, _)) => area,
+        Ok(Pause::More | Pause::Done) | Err(_) => 0,
     }
 }
 
@@ -90,12 +77,8 @@ pub fn stop_number(answer: Listing) -> u64
     ensures { result ≡ stop_number answer }
 {
     match answer {
-        Listing::Stopped(_, refusal) => call_answers::advance_number(refusal),
-        Listing::More => 0,
-        Listing::Done => 0,
-        Listing::Network => 0,
-        Listing::Store => 0,
-        Listing::State => 0,
+        Ok(Pause::Stopped(_, refusal)) => call_answers::refusal_number(refusal),
+        Ok(Pause::More | Pause::Done) | Err(_) => 0,
     }
 }
 
@@ -104,12 +87,8 @@ pub fn stop_place(answer: Listing) -> u64
     ensures { result ≡ stop_place answer }
 {
     match answer {
-        Listing::Stopped(_, refusal) => call_answers::advance_place(refusal),
-        Listing::More => 0,
-        Listing::Done => 0,
-        Listing::Network => 0,
-        Listing::Store => 0,
-        Listing::State => 0,
+        Ok(Pause::Stopped(_, refusal)) => call_answers::refusal_place(refusal),
+        Ok(Pause::More | Pause::Done) | Err(_) => 0,
     }
 }
 
@@ -117,9 +96,8 @@ pub fn writing_number(answer: Writing) -> u64
     ensures { result ≡ writing_number answer }
 {
     match answer {
-        Writing::Wrote(_) => 0,
-        Writing::Network => 8,
-        Writing::Store => 9,
+        Ok(_) => 0,
+        Err(unfit) => call_answers::unfit_number(unfit),
     }
 }
 
@@ -128,8 +106,7 @@ pub fn writing_bytes(answer: Writing) -> u64
     ensures { result ≡ writing_bytes answer }
 {
     match answer {
-        Writing::Wrote(bytes) => bytes,
-        Writing::Network => 0,
-        Writing::Store => 0,
+        Ok(bytes) => bytes,
+        Err(_) => 0,
     }
 }

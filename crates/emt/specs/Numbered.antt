@@ -1,8 +1,9 @@
 -- The calls as C sees them: the paper's number for the answer, and beside it the line, the place or the count, or what stopped a listing;
 -- and T-one, that each contract leaves nothing open. Assumes nothing.
+use Rattle.std.specs.Prelude.{Err}
 use Rattle.std.specs.Prelude.{◌+◌, ◌*◌, ◌≡◌, ◌++◌}
 use Rattle.whole.specs.Plain.{ℕ, sym, ◌∙◌, cond, eqb, eq-eqb, ne_eqb, List, ℤ, length, drop, Words}
-use Rattle.paper.specs.declared.Advance.TheVariants.{Store}
+use Rattle.paper.specs.declared.Refusal.TheVariants.{Store}
 use Rattle.paper.specs.Limits as Limits
 use Rattle.paper.specs.Answers.{reading_number, reading_line, resetting_number, advance_number, advance_place, advance_count}
 use Rattle.paper.specs.Answers.{writing_number, writing_bytes}
@@ -10,8 +11,7 @@ use Rattle.paper.specs.Reading.{read_of}
 use Rattle.paper.specs.Advance.{Memory, Advanced, advanced, advance_of}
 use Rattle.paper.specs.Resetting.{reset_of}
 use Rattle.paper.specs.Looking.{looking_number, told_voltage, told_peak, told_step, look_of}
-use Rattle.call_shape.specs.declared.Asked.{Asked}
-use Rattle.call_shape.specs.Asked.{asked_number, told_number}
+use Rattle.call_shape.specs.Asked.{Asked, asked_number, told_number}
 use Rattle.paper.specs.Pieces.{listing_number, stop_area, stop_number, stop_place, list_of}
 use Rattle.paper.specs.Writing.{write_of}
 
@@ -46,7 +46,7 @@ room_bytes = 8 * (Limits.row_end * 14 + 2 * Limits.row_end * 9 + Limits.node_end
 
 -- 9 for a room of another size; else what comes of the call without one
 unfoldable pub advance_in : ℕ → Words → ℕ → Memory → Advanced
-advance_in room net a m = cond (eqb room room_bytes) (advance_of net a m) (advanced Store m)
+advance_in room net a m = cond (eqb room room_bytes) (advance_of net a m) (advanced (Err Store) m)
 
 pub record AdvancesIn (room : ℕ) (net : Words) (a : ℕ) (m : Memory) (number place : ℕ) (after : Memory) : Type 0 where
   pub answer : number ≡ advance_number (advance_in room net a m).answer
@@ -54,7 +54,7 @@ pub record AdvancesIn (room : ℕ) (net : Words) (a : ℕ) (m : Memory) (number 
   pub memory : after ≡ (advance_in room net a m).after
 
 module _ {room : ℕ} (net : Words) (a : ℕ) (m : Memory) where
-  pub other_room : {x : ℕ} → (room ≡ room_bytes → ⊥) → x ≡ advance_number Store → AdvancesIn room net a m x 0 m
+  pub other_room : {x : ℕ} → (room ≡ room_bytes → ⊥) → x ≡ advance_number (Err Store) → AdvancesIn room net a m x 0 m
   unfolding advance_in
   other_room n e = record { answer = rw (ne_eqb room room_bytes n) e; place_of = rw (ne_eqb room room_bytes n); memory = rw (ne_eqb room room_bytes n) }
 

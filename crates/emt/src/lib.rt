@@ -2,12 +2,14 @@
 
 // What a customer links: the calls over lent memory. None has a `requires`; each refuses instead. The calls for Rattle are those of the crates below, by one
 // name; the functions whose names begin with `emt_` answer in numbers, for C, which links them from the archive of emt_c.
+ghost use Rattle.std.specs.Prelude.{◌≡◌};
 ghost use Rattle.paper.specs.Advance.{memory};
 ghost use Rattle.call_shape.specs.Asked.{areas_asked, area_asked, row_asked};
+ghost use Rattle.list_pieces.specs.Answered.{answer_of, count_of};
 ghost use Rattle.emt.specs.Numbered.{ReadsBy, ResetsBy, AdvancesBy, AdvancesIn, LooksBy, AsksBy, ListsBy, WritesBy};
 
 use call_room::Legs;
-use paper::Advance;
+use paper::{Listing, Refusal, Unlisted};
 use plan_rows::Table;
 use step_factors::Matrix;
 
@@ -75,7 +77,7 @@ pub fn emt_advance_in_tables(
 {
     if room != ROOM_BYTES {
         *place = 0;
-        return call_answers::advance_number(Advance::Store);
+        return call_answers::advance_number(Err(Refusal::Store));
     }
     let told = call_room::advance_in(network, records, froms, tos, area, plan, legs, factors);
     *place = call_answers::place_or_count(told);
@@ -105,7 +107,7 @@ pub fn emt_node(
 
 // How a network is laid out: how many areas it has; the area of a node; the row of a branch, from 1, as the study's line one further down has it. 9, 8, or 2
 // where there is no such node or branch; the number told is 0 then.
-pub use call_shape::{Asked, area, areas, row};
+pub use call_shape::{Asked, Unasked, area, areas, row};
 
 pub fn emt_areas(network: &[i64], count: &mut u64) -> u64
     ensures { AsksBy (areas_asked network.now) result count.new }
@@ -136,6 +138,26 @@ pub fn emt_row(network: &[i64], branch: usize, place: &mut u64) -> u64
 pub use call_list::list;
 pub use list_pieces::Piece;
 
+// What a listing comes to, beside the bytes.
+fn answer_of(listed: Result<Piece, Unlisted>) -> Listing
+    ensures { result ≡ answer_of listed }
+{
+    match listed {
+        Ok(piece) => Ok(piece.pause),
+        Err(unlisted) => Err(unlisted),
+    }
+}
+
+// How many bytes it has: none where it is refused.
+fn count_of(listed: Result<Piece, Unlisted>) -> u64
+    ensures { result ≡ count_of listed }
+{
+    match listed {
+        Ok(piece) => piece.count as u64,
+        Err(_) => 0,
+    }
+}
+
 // How many bytes are listed; and where an area's refusal stopped the listing, the area, the refusal's number and its place, else 0: all four are written
 // whatever the answer is.
 pub fn emt_list(
@@ -152,9 +174,9 @@ pub fn emt_list(
     ensures { ListsBy network.now (memory records.old froms.old tos.old) out.old result written.new area.new number.new
         place.new out.new (memory records.new froms.new tos.new) }
 {
-    let piece = call_list::list(network, records, froms, tos, out);
-    let answer = piece.answer;
-    *written = piece.count as u64;
+    let listed = call_list::list(network, records, froms, tos, out);
+    let answer = answer_of(listed);
+    *written = count_of(listed);
     *area = call_told::stop_area(answer);
     *number = call_told::stop_number(answer);
     *place = call_told::stop_place(answer);

@@ -5,11 +5,7 @@ ghost use Rattle.std.specs.Prelude.{◌≡◌};
 ghost use Rattle.whole.specs.Plain.{suc, length};
 ghost use Rattle.paper.specs.Limits as Limits;
 
-mod noting;
-
-use noting::Noting;
 use paper::Room;
-use run_bytes::Input;
 use std::io::{Error, Read, Write};
 
 const INPUT: usize = Room::TEXT + 1;
@@ -22,8 +18,7 @@ fn text_room() -> [u8; INPUT]
 }
 
 // What failed, and how: a line to standard error. Where that is not taken either, there is nothing left to say.
-fn fail(rt: &HostRuntime, what: &str, code: i32) {
-    let error = Error::from_raw_os_error(code);
+fn fail(rt: &HostRuntime, what: &str, error: Error) {
     let told = match format!(in rt.alloc(); "{error}") {
         Ok(text) => {
             // the words alone, without the number that stands behind them
@@ -36,36 +31,20 @@ fn fail(rt: &HostRuntime, what: &str, code: i32) {
     told.unwrap_or(());
 }
 
-fn fail_at_input(rt: &HostRuntime, code: i32) {
-    fail(rt, "standard input", code);
-}
-
-fn fail_at_output(rt: &HostRuntime, code: i32) {
-    fail(rt, "standard output", code);
-}
-
 // All that is read is answered; nothing is, where a read fails.
-fn serve<R: Read, W: Write>(
-    rt: &HostRuntime,
-    reader: &mut Noting<R>,
-    writer: &mut Noting<W>,
-    text: &mut [u8],
-)
+fn serve<R: Read, W: Write>(rt: &HostRuntime, reader: &mut R, writer: &mut W, text: &mut [u8])
     requires { suc Limits.text_end ≡ length text.old }
 {
-    let input = run_bytes::read_all(reader, text);
-    let Input::Whole(count) = input else {
-        fail_at_input(rt, reader.code);
-        return;
+    let count = match run_bytes::read_all(reader, text) {
+        Ok(count) => count,
+        Err(error) => return fail(rt, "standard input", error),
     };
-    if !run_study::is_written(run_study::run(writer, &text[..count])) {
-        fail_at_output(rt, writer.code);
+    if let Err(error) = run_study::run(writer, &text[..count]) {
+        fail(rt, "standard output", error);
     }
 }
 
 fn main(rt: HostRuntime) {
     let mut text = text_room();
-    let mut reader = Noting::of(rt.stdin());
-    let mut writer = Noting::of(rt.stdout());
-    serve(&rt, &mut reader, &mut writer, &mut text);
+    serve(&rt, &mut rt.stdin(), &mut rt.stdout(), &mut text);
 }

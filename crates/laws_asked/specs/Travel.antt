@@ -1,10 +1,12 @@
 -- "Travel times between steps": worked examples as one table with one theorem over it, in the form of E1 to E10; and where every travel time is a whole
 -- number of steps, 01's definitions are what they were. Assumes nothing.
+use Rattle.std.specs.Prelude.{Ok, Err}
 use Rattle.std.specs.Prelude.{◌+◌, ◌-◌, ◌*◌, ◌%◌, ◌≤◌, ◌<◌, ◌≡◌, ◌&&◌, ◌∷◌}
 use Rattle.whole.specs.Plain.{ℕ, zero, suc, refl, ◌∙◌, Bool, true, false, cond, not}
 use Rattle.whole.specs.Plain.{List, [], map, eqb, ltb, ℤ, length, get_or, take, eq-eqb, le-ltb, mod-add-div', zero-mul, arith, Words, z, word, sum}
-use Rattle.paper.specs.declared.Reading.TheVariants.{Read, Full}
-use Rattle.paper.specs.declared.Advance.TheVariants.{Took, Wait}
+use Rattle.paper.specs.declared.Fault.TheVariants.{Full}
+use Rattle.paper.specs.declared.Unread.TheVariants.{Line}
+use Rattle.paper.specs.declared.Refusal.TheVariants.{Wait}
 use Rattle.paper.specs.Rows.{Row, is_line, travel, step_length}
 use Rattle.paper.specs.Faults.{travel_fault, delay, rest, slots}
 use Rattle.paper.specs.Areas.{Net, step}
@@ -36,12 +38,12 @@ travels =
     "v 6 1 -7" ∷ "v 6 2 -2" ∷ "i 6 1 -1000 436" ∷ "i 6 2 -6" ∷
     "done 6" ∷ []))
     -- "The wait rule reads k - q, the count difference allowed is q": q is 1
-    ∷ runs (lines ("study 1000 8 0" ∷ "VS 1 1000 1 0" ∷ "LINE 1 2 400000 1500" ∷ [])) Read
-    (call 1 (Took 1) [] ∷ call 1 (Wait 1) [] ∷ call 2 (Took 1) [] ∷ call 2 (Took 2) [] ∷ call 1 (Took 2) [] ∷ call 1 (Took 3) [] ∷ call 2 (Took 3) [] ∷ [])
+    ∷ runs (lines ("study 1000 8 0" ∷ "VS 1 1000 1 0" ∷ "LINE 1 2 400000 1500" ∷ [])) (Ok tt)
+    (call 1 (Ok 1) [] ∷ call 1 (Err (Wait 1)) [] ∷ call 2 (Ok 1) [] ∷ call 2 (Ok 2) [] ∷ call 1 (Ok 2) [] ∷ call 1 (Ok 3) [] ∷ call 2 (Ok 3) [] ∷ [])
     -- "6 counts the new slots": 2,048 steps and a rest need 4,097, one step less and a rest 4,095
-    ∷ runs (lines ("study 2 1 0" ∷ "VS 1 1000 1 0" ∷ "LINE 1 2 400000 4097" ∷ [])) (Full 3) []
-    ∷ runs (lines ("study 2 1 0" ∷ "VS 1 1000 1 0" ∷ "LINE 1 2 400000 4096" ∷ [])) Read []
-    ∷ runs (lines ("study 2 1 0" ∷ "VS 1 1000 1 0" ∷ "LINE 1 2 400000 4095" ∷ [])) Read []
+    ∷ runs (lines ("study 2 1 0" ∷ "VS 1 1000 1 0" ∷ "LINE 1 2 400000 4097" ∷ [])) (Err (Line 3 Full)) []
+    ∷ runs (lines ("study 2 1 0" ∷ "VS 1 1000 1 0" ∷ "LINE 1 2 400000 4096" ∷ [])) (Ok tt) []
+    ∷ runs (lines ("study 2 1 0" ∷ "VS 1 1000 1 0" ∷ "LINE 1 2 400000 4095" ∷ [])) (Ok tt) []
     ∷ []
 
 pub travels_hold : map replay travels ≡ travels

@@ -1,11 +1,11 @@
 -- T-parts: over every run from a reset, an SW's latch is the first accepted step x of its area, "at or after open - 1 and later than its closing step, at which
 -- its current is zero or of opposite sign to that of step" x - 1; it is 0 while there is none; and "it is open from step" x "+ 1 and stays so". Assumes nothing.
+use Rattle.std.specs.Prelude.{Ok}
 use Rattle.std.specs.Prelude.{◌-◌, ◌≤◌, ◌<◌, ◌≡◌, ◌⊎◌, ◌&&◌, ◌∷◌, ◌++◌}
 use Rattle.whole.specs.Plain.{ℕ, suc, max, refl, sym, ap, ◌∙◌, subst, inl, inr, Bool, true, false, cond, not}
 use Rattle.whole.specs.Plain.{true≢false, List, [], leb, ltb, ℤ, pos, lt_z, length, length-append, leb-true, ltb-true}
 use Rattle.whole.specs.Plain.{ltb-false, le-leb, lt-ltb, lt-leb, not-true, not-false, dec_le, arith, Words, z, word, nat}
 use Rattle.whole.specs.Folds.{and_left, and_right, both}
-use Rattle.paper.specs.declared.Advance.TheVariants.{Took}
 use Rattle.paper.specs.Limits as Limits
 use Rattle.paper.specs.Rows.{Row, is_breaker, from, to, closes, opens}
 use Rattle.paper.specs.Classes.{breaker_branch, breaker_line}
@@ -151,7 +151,7 @@ module _ (net : Words) (lent : Memory) (ok : Lent net lent) (i : ℕ) (there : i
     -- a step of the longer run is one of the shorter, or this one
     module _ {x : ℕ} {c : ℤ} (t : At new x c) where
       same : t.step.before ≡ w → k ≡ x
-      same q = let e : Took k ≡ Took x = sym o.answer ∙ subst (λ (u : List ℕ). (advance_of net a (at u)).answer ≡ Took x) q t.step.answer in cc
+      same q = let e : Ok k ≡ Ok x = sym o.answer ∙ subst (λ (u : List ℕ). (advance_of net a (at u)).answer ≡ Ok x) q t.step.answer in cc
 
       flow : t.step.before ≡ w → c ≡ current new
       flow q = sym t.flows ∙ ap (λ (u : List ℕ). from_current (advance_of net a (at u)).after i) q ∙ here

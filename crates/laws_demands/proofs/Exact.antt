@@ -1,9 +1,11 @@
 -- T-exact: each answer to an advance comes exactly when document 01 says, with its place. Assumes nothing.
+use Rattle.std.specs.Prelude.{Ok, Err}
 use Rattle.std.specs.Prelude.{◌<◌, ◌≡◌, ◌↔◌}
 use Rattle.whole.specs.Plain.{ℕ, zero, suc, refl, sym, ap, ◌∙◌, subst, Bool, true, false, true≢false}
 use Rattle.whole.specs.Plain.{List, [], leb, length, get_or, leb-true, leb-false, le-leb, lt-leb, arith, Words}
-use Rattle.paper.specs.declared.Advance.{Advance}
-use Rattle.paper.specs.declared.Advance.TheVariants.{Took, Store, Network, State, Area, Done, Wait, Floating, Range, Unbalanced, History}
+use Rattle.paper.specs.Replies.{Advance}
+use Rattle.paper.specs.declared.Refusal.{Refusal}
+use Rattle.paper.specs.declared.Refusal.TheVariants.{Store, Network, State, Area, Done, Wait, Floating, Range, Unbalanced, History}
 use Rattle.whole.specs.Folds.{and_left, and_right, both}
 use Rattle.whole.specs.Members.{among_at}
 use Rattle.whole.specs.Places.{place_least, least_place}
@@ -104,18 +106,18 @@ module _ (net : Words) (a : ℕ) (m : Memory) where
 
   -- ---- what the answer says
 
-  same_stop : {x y : Advance} → stop x ≡ stop y → x ≡ y
+  same_stop : {x y : Refusal} → stop x ≡ stop y → x ≡ y
   same_stop e = cc
 
-  step_says : (r : Ready net a m) (y : Advance) → solve N a k bs ≡ stop y → Solving N a k bs → Says net a m y
-  step_says r y v (floats i p e) = subst (Says net a m) (same_stop (sym e ∙ v)) (r, search_floats N (ok r).net a k m.records ears i p)
-  step_says r y v (leaves i p o e) = subst (Says net a m) (same_stop (sym e ∙ v)) (r, lone_paths N a m (ok r) p, outside_out N a m (ok r) i o)
-  step_says r y v (tips i p o h e) = subst (Says net a m) (same_stop (sym e ∙ v)) (r, lone_paths N a m (ok r) p, inside_all N a m (ok r) o, heavy_tips N a m (ok r) i h)
+  step_says : (r : Ready net a m) (y : Refusal) → solve N a k bs ≡ stop y → Solving N a k bs → Says net a m (Err y)
+  step_says r y v (floats i p e) = subst (λ (x : Refusal). Says net a m (Err x)) (same_stop (sym e ∙ v)) (r, search_floats N (ok r).net a k m.records ears i p)
+  step_says r y v (leaves i p o e) = subst (λ (x : Refusal). Says net a m (Err x)) (same_stop (sym e ∙ v)) (r, lone_paths N a m (ok r) p, outside_out N a m (ok r) i o)
+  step_says r y v (tips i p o h e) = subst (λ (x : Refusal). Says net a m (Err x)) (same_stop (sym e ∙ v)) (r, lone_paths N a m (ok r) p, inside_all N a m (ok r) o, heavy_tips N a m (ok r) i h)
   step_says r y v (exceeds i p o h b e) =
-      subst (Says net a m) (same_stop (sym e ∙ v)) (r, lone_paths N a m (ok r) p, inside_all N a m (ok r) o, even_all N a m (ok r) h, large_first N a m (ok r) i _ b refl)
+      subst (λ (x : Refusal). Says net a m (Err x)) (same_stop (sym e ∙ v)) (r, lone_paths N a m (ok r) p, inside_all N a m (ok r) o, even_all N a m (ok r) h, large_first N a m (ok r) i _ b refl)
   step_says r y v (solves p o h b e) = absurd (stop_move (sym v ∙ e))
 
-  move_says : (r : Ready net a m) → solve N a k bs ≡ move bs (volts_of N a k bs) → Solving N a k bs → Says net a m (Took k)
+  move_says : (r : Ready net a m) → solve N a k bs ≡ move bs (volts_of N a k bs) → Solving N a k bs → Says net a m (Ok k)
   move_says r v (floats i p e) = absurd (stop_move (sym e ∙ v))
   move_says r v (leaves i p o e) = absurd (stop_move (sym e ∙ v))
   move_says r v (tips i p o h e) = absurd (stop_move (sym e ∙ v))
@@ -159,27 +161,30 @@ module _ (net : Words) (a : ℕ) (m : Memory) where
   free_over : (q : ℕ) → q < length (free_of N a) → 0 < get_or (free_of N a) q 0
   free_over q h = omega (arith, (free_of_lem N a (among_at (free_of N a) q 0 h)).0.low)
 
+  abbrev exceeding : ℕ → Advance
+  exceeding b = Err (History b)
+
   says_answer : (x : Advance) → Says net a m x → (advance_of net a m).answer ≡ x
   unfolding advance_of on_net on_next
-  says_answer Store h = rw h
-  says_answer Network h = rw (h.0, h.1)
-  says_answer State h = rw (h.0, h.1, h.2)
-  says_answer Area h = answer_is (on_net N a m) (call_of net a m h.0) ∙ rw (h.0.formed, area_not h.1)
-  says_answer Done h = answer_is (on_net N a m) (call_of net a m h.0) ∙ rw (h.0.formed, area_is h.1, le-leb (steps N.head) (count_of m.records a) h.2)
-  says_answer (Wait b) h = on_next_lem h.0 ∙ rw (row_late b h.1, h.1.number)
-  says_answer (Floating zero) h = absurd (omega (arith, h.1.node.low))
-  says_answer (Floating (suc n)) h = on_step h.0 _ (solve14 N a k bs n (floats_search N (ok h.0).net a k m.records ears (suc n) h.1))
-  says_answer (Range zero) h = absurd (omega (arith, h.2.node, free_over h.2.place h.2.inside))
-  says_answer (Range (suc n)) h = on_step h.0 _ (solve15 N a k bs n (paths_lone N a m (ok h.0) h.1) (out_outside N a m (ok h.0) (suc n) h.2))
-  says_answer (Unbalanced zero) h = absurd (omega (arith, h.3.node.low))
-  says_answer (Unbalanced (suc n)) h =
+  says_answer (Err Store) h = rw h
+  says_answer (Err Network) h = rw (h.0, h.1)
+  says_answer (Err State) h = rw (h.0, h.1, h.2)
+  says_answer (Err Area) h = answer_is (on_net N a m) (call_of net a m h.0) ∙ rw (h.0.formed, area_not h.1)
+  says_answer (Err Done) h = answer_is (on_net N a m) (call_of net a m h.0) ∙ rw (h.0.formed, area_is h.1, le-leb (steps N.head) (count_of m.records a) h.2)
+  says_answer (Err (Wait b)) h = on_next_lem h.0 ∙ rw (row_late b h.1, h.1.number)
+  says_answer (Err (Floating zero)) h = absurd (omega (arith, h.1.node.low))
+  says_answer (Err (Floating (suc n))) h = on_step h.0 _ (solve14 N a k bs n (floats_search N (ok h.0).net a k m.records ears (suc n) h.1))
+  says_answer (Err (Range zero)) h = absurd (omega (arith, h.2.node, free_over h.2.place h.2.inside))
+  says_answer (Err (Range (suc n))) h = on_step h.0 _ (solve15 N a k bs n (paths_lone N a m (ok h.0) h.1) (out_outside N a m (ok h.0) (suc n) h.2))
+  says_answer (Err (Unbalanced zero)) h = absurd (omega (arith, h.3.node.low))
+  says_answer (Err (Unbalanced (suc n))) h =
       on_step h.0 _ (solve16 N a k bs n (paths_lone N a m (ok h.0) h.1) (all_inside N a m (ok h.0) h.2) (tips_heavy N a m (ok h.0) (suc n) h.3))
-  says_answer (History b) h =
+  says_answer (Err (History b)) h =
       on_step h.0 _ (solve17 N a k bs h.4.row (paths_lone N a m (ok h.0) h.1) (all_inside N a m (ok h.0) h.2) (all_even N a m (ok h.0) h.3) (first_large N a m (ok h.0) b h.4))
-      ∙ ap History (sym h.4.number)
-  says_answer (Took x) h =
+      ∙ ap exceeding (sym h.4.number)
+  says_answer (Ok x) h =
       on_step h.0 _ (solve0 N a k bs (paths_lone N a m (ok h.0) h.2) (all_inside N a m (ok h.0) h.3) (all_even N a m (ok h.0) h.4) (all_small N a m (ok h.0) h.5))
-      ∙ ap Took (sym h.1)
+      ∙ ap Ok (sym h.1)
 
   -- T-exact
   pub exactly : (x : Advance) → ((advance_of net a m).answer ≡ x) ↔ Says net a m x

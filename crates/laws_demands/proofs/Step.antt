@@ -1,7 +1,7 @@
 -- T-step: the step that 16 and 17 judge is the offer of the branch equations, and an accepted step writes it. Assumes nothing.
+use Rattle.std.specs.Prelude.{Ok}
 use Rattle.std.specs.Prelude.{◌≡◌}
 use Rattle.whole.specs.Plain.{ℕ, refl, sym, ap, ◌∙◌, inr, ℤ, get_or, eq-eqb, Words, word}
-use Rattle.paper.specs.declared.Advance.TheVariants.{Took}
 use Rattle.paper.specs.Doubles.{as_voltage}
 use Rattle.whole.specs.Folds.{and_left, and_right, both}
 use Rattle.whole.specs.Members.{among_at}
@@ -60,14 +60,14 @@ module _ (net : Words) (a : ℕ) (m : Memory) where
   offered r = offer_is N a m (asked net a m r.next.judged r.next.area)
 
   -- an accepted step writes it
-  pub writes_offer : (k : ℕ) → (advance_of net a m).answer ≡ Took k → (advance_of net a m).after ≡ offer N a m
+  pub writes_offer : (k : ℕ) → (advance_of net a m).answer ≡ Ok k → (advance_of net a m).after ≡ offer N a m
   writes_offer k e =
-      let j = ((exactly net a m (Took k)).0 e).0.next.judged in
+      let j = ((exactly net a m (Ok k)).0 e).0.next.judged in
       let c = call_of net a m j in
       ap (λ (r : Advanced). r.after) (c ∙ (taken N a m j.formed (ap (λ (r : Advanced). accepted r.answer) (sym c) ∙ ap accepted e)).is)
 
   -- T-step
-  pub step : (k : ℕ) → (advance_of net a m).answer ≡ Took k → Stepped N a k m (advance_of net a m).after
+  pub step : (k : ℕ) → (advance_of net a m).answer ≡ Ok k → Stepped N a k m (advance_of net a m).after
   step k e =
-      let h = (exactly net a m (Took k)).0 e in
+      let h = (exactly net a m (Ok k)).0 e in
       rw (writes_offer k e, h.1) (record { offered = offered h.0 h.3; balance = h.4 })

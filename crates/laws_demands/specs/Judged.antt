@@ -1,7 +1,8 @@
 -- What is lent passes refusals 9, 8 and 10, or the call is answered with the first that it does not pass. Assumes nothing.
+use Rattle.std.specs.Prelude.{Err}
 use Rattle.std.specs.Prelude.{◌≡◌, ◌&&◌}
 use Rattle.whole.specs.Plain.{ℕ, refl, Bool, true, false, eqb, length, eqb-true, Words}
-use Rattle.paper.specs.declared.Advance.TheVariants.{Store, Network, State}
+use Rattle.paper.specs.declared.Refusal.TheVariants.{Store, Network, State}
 use Rattle.whole.specs.Folds.{and_left, and_right}
 use Rattle.paper.specs.Limits as Limits
 use Rattle.paper.specs.Network.{is_network}
@@ -65,9 +66,9 @@ module _ (net : Words) (a : ℕ) (m : Memory) where
 
   -- 9, 8, 10, or judged
   pub data Call : Type 0 where
-    unfit : fits net m ≡ false → advance_of net a m ≡ advanced Store m → Call
-    unread : fits net m ≡ true → is_network net ≡ false → advance_of net a m ≡ advanced Network m → Call
-    unformed : fits net m ≡ true → is_network net ≡ true → well_formed N m.records m.froms m.tos ≡ false → advance_of net a m ≡ advanced State m → Call
+    unfit : fits net m ≡ false → advance_of net a m ≡ advanced (Err Store) m → Call
+    unread : fits net m ≡ true → is_network net ≡ false → advance_of net a m ≡ advanced (Err Network) m → Call
+    unformed : fits net m ≡ true → is_network net ≡ true → well_formed N m.records m.froms m.tos ≡ false → advance_of net a m ≡ advanced (Err State) m → Call
     judged : Judged net m → Call
 
   pub call : Call

@@ -1,5 +1,6 @@
 -- 14 to 17, each by what the paper says of it: what a step's search, its doubles, its sums and what it passes on have to be for each to come.
 -- Assumes nothing.
+use Rattle.std.specs.Prelude.{Option, Some, None}
 use Rattle.std.specs.Prelude.{◌≤◌, ◌<◌, ◌≡◌, ◌≢◌, ◌∷◌}
 use Rattle.whole.specs.Plain.{ℕ, zero, suc, refl, sym, ap, ◌∙◌, Bool, true, false, not, List, []}
 use Rattle.whole.specs.Plain.{leb, nat_abs, length, get_or, eqb-true, eq-eqb, leb-true, leb-false, le-leb, lt-leb}
@@ -10,7 +11,7 @@ use Rattle.paper.specs.Rows.{limit}
 use Rattle.paper.specs.Areas.{Net, fixed, free_of}
 use Rattle.paper.specs.Sources.{injected}
 use Rattle.paper.specs.Legs.{both_legs}
-use Rattle.paper.specs.Doubles.{Voltage, CheckedVoltage, Good, Refused, nearest_of}
+use Rattle.paper.specs.Doubles.{Voltage, nearest_of}
 use Rattle.paper.specs.Floating.{floating}
 use Rattle.paper.specs.Solve.{out_of_range, unbalanced, imbalance}
 use Rattle.paper.specs.Advance.{Memory}
@@ -28,62 +29,62 @@ use Rattle.laws_demands.specs.Balance.{imbalance_is}
 -- ---- the first that is out of range
 
 module _ where
-  abbrev Out : List CheckedVoltage → ℕ → Type 0
-  Out xs q = get_or xs q Refused ≡ Refused
+  abbrev Out : List (Option Voltage) → ℕ → Type 0
+  Out xs q = get_or xs q None ≡ None
 
-  good_not : {x : Voltage} → Good x ≡ Refused → ⊥
+  good_not : {x : Voltage} → Some x ≡ None → ⊥
   good_not e = let q : ◌≡◌ {A = ℕ} 0 1 = cc in omega arith
 
-  record OutFirst (ns : List ℕ) (xs : List CheckedVoltage) (n : ℕ) : Type 0 where
+  record OutFirst (ns : List ℕ) (xs : List (Option Voltage)) (n : ℕ) : Type 0 where
     place : ℕ
     inside : place < length ns
     node : n ≡ get_or ns place 0
     out : Out xs place
     before : (p : ℕ) → p < place → Out xs p → ⊥
 
-  out_next : (x : Voltage) (m : ℕ) (ns : List ℕ) (xs : List CheckedVoltage) (n : ℕ) → OutFirst ns xs n → OutFirst (m ∷ ns) (Good x ∷ xs) n
+  out_next : (x : Voltage) (m : ℕ) (ns : List ℕ) (xs : List (Option Voltage)) (n : ℕ) → OutFirst ns xs n → OutFirst (m ∷ ns) (Some x ∷ xs) n
   out_next x m ns xs n h = record { place = suc h.place; inside = omega (arith, h.inside); node = h.node; out = h.out; before = before }
     where
-      before : (p : ℕ) → p < suc h.place → Out (Good x ∷ xs) p → ⊥
+      before : (p : ℕ) → p < suc h.place → Out (Some x ∷ xs) p → ⊥
       before zero l e = good_not e
       before (suc p) l e = h.before p (omega arith) e
 
-  out_first : (ns : List ℕ) (xs : List CheckedVoltage) (n : ℕ) → length xs ≡ length ns → out_of_range ns xs ≡ suc n → OutFirst ns xs (suc n)
+  out_first : (ns : List ℕ) (xs : List (Option Voltage)) (n : ℕ) → length xs ≡ length ns → out_of_range ns xs ≡ suc n → OutFirst ns xs (suc n)
   unfolding out_of_range
   out_first [] xs n l e = absurd (omega arith)
   out_first (m ∷ ns) [] n l e = absurd (omega arith)
-  out_first (m ∷ ns) (Good x ∷ xs) n l e = out_next x m ns xs (suc n) (out_first ns xs n (omega arith) e)
-  out_first (m ∷ ns) (Refused ∷ xs) n l e = record { place = 0; inside = omega arith; node = sym e; out = refl; before = λ p h. absurd (omega arith) }
+  out_first (m ∷ ns) (Some x ∷ xs) n l e = out_next x m ns xs (suc n) (out_first ns xs n (omega arith) e)
+  out_first (m ∷ ns) (None ∷ xs) n l e = record { place = 0; inside = omega arith; node = sym e; out = refl; before = λ p h. absurd (omega arith) }
 
-  first_out : (ns : List ℕ) (xs : List CheckedVoltage) (n : ℕ) → length xs ≡ length ns → OutFirst ns xs n → out_of_range ns xs ≡ n
+  first_out : (ns : List ℕ) (xs : List (Option Voltage)) (n : ℕ) → length xs ≡ length ns → OutFirst ns xs n → out_of_range ns xs ≡ n
   unfolding out_of_range
   first_out [] xs n l h = absurd (omega (arith, h.inside))
   first_out (m ∷ ns) [] n l h = absurd (omega arith)
-  first_out (m ∷ ns) (Good x ∷ xs) n l h = go h.place h.inside h.node h.out h.before (first_out ns xs n (omega arith))
+  first_out (m ∷ ns) (Some x ∷ xs) n l h = go h.place h.inside h.node h.out h.before (first_out ns xs n (omega arith))
     where
-      go : (q : ℕ) → q < length (m ∷ ns) → n ≡ get_or (m ∷ ns) q 0 → Out (Good x ∷ xs) q → ((p : ℕ) → p < q → Out (Good x ∷ xs) p → ⊥) → (OutFirst ns xs n → out_of_range ns xs ≡ n) → out_of_range ns xs ≡ n
+      go : (q : ℕ) → q < length (m ∷ ns) → n ≡ get_or (m ∷ ns) q 0 → Out (Some x ∷ xs) q → ((p : ℕ) → p < q → Out (Some x ∷ xs) p → ⊥) → (OutFirst ns xs n → out_of_range ns xs ≡ n) → out_of_range ns xs ≡ n
       go zero i d o b ih = absurd (good_not o)
       go (suc q) i d o b ih = ih (record { place = q; inside = omega arith; node = d; out = o; before = λ p l e. b (suc p) (omega arith) e })
-  first_out (m ∷ ns) (Refused ∷ xs) n l h = go h.place h.node h.before
+  first_out (m ∷ ns) (None ∷ xs) n l h = go h.place h.node h.before
     where
-      go : (q : ℕ) → n ≡ get_or (m ∷ ns) q 0 → ((p : ℕ) → p < q → Out (Refused ∷ xs) p → ⊥) → m ≡ n
+      go : (q : ℕ) → n ≡ get_or (m ∷ ns) q 0 → ((p : ℕ) → p < q → Out (None ∷ xs) p → ⊥) → m ≡ n
       go zero d b = sym d
       go (suc q) d b = absurd (b 0 (omega arith) refl)
 
-  none_out : (ns : List ℕ) (xs : List CheckedVoltage) → length xs ≡ length ns → ((q : ℕ) → q < length ns → Out xs q → ⊥) → out_of_range ns xs ≡ 0
+  none_out : (ns : List ℕ) (xs : List (Option Voltage)) → length xs ≡ length ns → ((q : ℕ) → q < length ns → Out xs q → ⊥) → out_of_range ns xs ≡ 0
   unfolding out_of_range
   none_out [] xs l h = refl
   none_out (m ∷ ns) [] l h = refl
-  none_out (m ∷ ns) (Good x ∷ xs) l h = none_out ns xs (omega arith) (λ q i. h (suc q) (omega arith))
-  none_out (m ∷ ns) (Refused ∷ xs) l h = absurd (h 0 (omega arith) refl)
+  none_out (m ∷ ns) (Some x ∷ xs) l h = none_out ns xs (omega arith) (λ q i. h (suc q) (omega arith))
+  none_out (m ∷ ns) (None ∷ xs) l h = absurd (h 0 (omega arith) refl)
 
-  out_none : (b : ℕ) (ns : List ℕ) (xs : List CheckedVoltage) → Rising b ns → length xs ≡ length ns → out_of_range ns xs ≡ 0 → (q : ℕ) → q < length ns → Out xs q → ⊥
+  out_none : (b : ℕ) (ns : List ℕ) (xs : List (Option Voltage)) → Rising b ns → length xs ≡ length ns → out_of_range ns xs ≡ 0 → (q : ℕ) → q < length ns → Out xs q → ⊥
   unfolding out_of_range
   out_none b [] xs r l e q h = absurd (omega arith)
   out_none b (m ∷ ns) [] r l e q h = absurd (omega arith)
-  out_none b (m ∷ ns) (Good x ∷ xs) r l e zero h = λ o. good_not o
-  out_none b (m ∷ ns) (Good x ∷ xs) r l e (suc q) h = out_none m ns xs r.1 (omega arith) e q (omega arith)
-  out_none b (m ∷ ns) (Refused ∷ xs) r l e q h = absurd (omega (arith, r.0))
+  out_none b (m ∷ ns) (Some x ∷ xs) r l e zero h = λ o. good_not o
+  out_none b (m ∷ ns) (Some x ∷ xs) r l e (suc q) h = out_none m ns xs r.1 (omega arith) e q (omega arith)
+  out_none b (m ∷ ns) (None ∷ xs) r l e q h = absurd (omega (arith, r.0))
 
 -- ---- what each refusal says of a step
 
@@ -96,11 +97,11 @@ pub record OutOfRange (N : Net) (a k : ℕ) (m : Memory) (n : ℕ) : Type 0 wher
   pub place : ℕ
   pub inside : place < length (free_of N a)
   pub node : n ≡ get_or (free_of N a) place 0
-  pub out : nearest_of (get_or (solution N a k m) place nan) ≡ Refused
-  pub lowest : (q : ℕ) → q < place → nearest_of (get_or (solution N a k m) q nan) ≢ Refused
+  pub out : nearest_of (get_or (solution N a k m) place nan) ≡ None
+  pub lowest : (q : ℕ) → q < place → nearest_of (get_or (solution N a k m) q nan) ≢ None
 
 abbrev pub AllInRange : Net → ℕ → ℕ → Memory → Type 0
-AllInRange N a k m = (q : ℕ) → q < length (free_of N a) → nearest_of (get_or (solution N a k m) q nan) ≢ Refused
+AllInRange N a k m = (q : ℕ) → q < length (free_of N a) → nearest_of (get_or (solution N a k m) q nan) ≢ None
 
 -- 16 UNBALANCED: "the limit is passed at a node"; n is the lowest such free node
 pub record Unbalances (N : Net) (a k : ℕ) (m : Memory) (n : ℕ) : Type 0 where
@@ -128,7 +129,7 @@ module _ (N : Net) (a : ℕ) (m : Memory) (ok : Asked N a m) where
   same_length : length (rounded N a k (legs_now N a m)) ≡ length (free_of N a)
   same_length = rounded_length N ok.net a k (legs_now N a m)
 
-  at_place : (q : ℕ) → q < length (free_of N a) → get_or (rounded N a k (legs_now N a m)) q Refused ≡ nearest_of (get_or (solution N a k m) q nan)
+  at_place : (q : ℕ) → q < length (free_of N a) → get_or (rounded N a k (legs_now N a m)) q None ≡ nearest_of (get_or (solution N a k m) q nan)
   at_place = rounded_at N ok.net a k (legs_now N a m)
 
   pub outside_out : (n : ℕ) → outside N a k (legs_now N a m) ≡ suc n → OutOfRange N a k m (suc n)

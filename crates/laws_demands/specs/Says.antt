@@ -1,8 +1,9 @@
 -- When each answer to an advance of area a comes, in document 01's words. Definitions only, to be held beside the paper. Assumes nothing.
+use Rattle.std.specs.Prelude.{Ok, Err}
 use Rattle.std.specs.Prelude.{◌≤◌, ◌<◌, ◌≡◌}
 use Rattle.whole.specs.Plain.{ℕ, suc, true, false, length, Words}
-use Rattle.paper.specs.declared.Advance.{Advance}
-use Rattle.paper.specs.declared.Advance.TheVariants.{Took, Store, Network, State, Area, Done, Wait, Floating, Range, Unbalanced, History}
+use Rattle.paper.specs.Replies.{Advance}
+use Rattle.paper.specs.declared.Refusal.TheVariants.{Store, Network, State, Area, Done, Wait, Floating, Range, Unbalanced, History}
 use Rattle.paper.specs.Rows.{is_line, steps}
 use Rattle.paper.specs.Areas.{Net, branch_number}
 use Rattle.paper.specs.Network.{is_network}
@@ -47,24 +48,24 @@ module _ (net : Words) (a : ℕ) (m : Memory) where
   -- "Advancing: 9, 8, then 10 to 17"
   abbrev pub Says : Advance → Type 0
   -- 9 STORE: "a lent length wrong"
-  Says Store = fits net m ≡ false
+  Says (Err Store) = fits net m ≡ false
   -- 8 NETWORK: "lent network record not one the reader could write"
-  Says Network = (fits net m ≡ true) × (is_network net ≡ false)
+  Says (Err Network) = (fits net m ≡ true) × (is_network net ≡ false)
   -- 10 STATE: "records not well formed"
-  Says State = (fits net m ≡ true) × (is_network net ≡ true) × (well_formed N m.records m.froms m.tos ≡ false)
+  Says (Err State) = (fits net m ≡ true) × (is_network net ≡ true) × (well_formed N m.records m.froms m.tos ≡ false)
   -- 11 AREA: "no such area"
-  Says Area = Judged net m × (IsArea N a → ⊥)
+  Says (Err Area) = Judged net m × (IsArea N a → ⊥)
   -- 12 DONE: "the area has taken all steps"
-  Says Done = Judged net m × IsArea N a × (steps N.head ≤ count_of m.records a)
+  Says (Err Done) = Judged net m × IsArea N a × (steps N.head ≤ count_of m.records a)
   -- 13 WAIT: "a far area's count is below k - d"
-  Says (Wait b) = Next net a m × Late net a m b
+  Says (Err (Wait b)) = Next net a m × Late net a m b
   -- 14 FLOATING: "a free node has no path"
-  Says (Floating n) = Ready net a m × Floats N a k m.records n
+  Says (Err (Floating n)) = Ready net a m × Floats N a k m.records n
   -- 15 RANGE: "a proposed voltage out of range"
-  Says (Range n) = Ready net a m × AllPaths N a k m × OutOfRange N a k m n
+  Says (Err (Range n)) = Ready net a m × AllPaths N a k m × OutOfRange N a k m n
   -- 16 UNBALANCED: "the limit is passed at a node"
-  Says (Unbalanced n) = Ready net a m × AllPaths N a k m × AllInRange N a k m × Unbalances N a k m n
+  Says (Err (Unbalanced n)) = Ready net a m × AllPaths N a k m × AllInRange N a k m × Unbalances N a k m n
   -- 17 HISTORY: "a next history or sent value beyond 10^17"
-  Says (History b) = Ready net a m × AllPaths N a k m × AllInRange N a k m × AllBalanced N a k m × FirstExceeds N a k m b
+  Says (Err (History b)) = Ready net a m × AllPaths N a k m × AllInRange N a k m × AllBalanced N a k m × FirstExceeds N a k m b
   -- "an accepted advance answers the area's new count"
-  Says (Took x) = Ready net a m × (x ≡ k) × AllPaths N a k m × AllInRange N a k m × AllBalanced N a k m × AllWithin N a k m
+  Says (Ok x) = Ready net a m × (x ≡ k) × AllPaths N a k m × AllInRange N a k m × AllBalanced N a k m × AllWithin N a k m

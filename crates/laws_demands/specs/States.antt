@@ -1,7 +1,7 @@
 -- T-fresh, T-stays and T-local, of the calls themselves. Assumes nothing.
+use Rattle.std.specs.Prelude.{Ok}
 use Rattle.std.specs.Prelude.{◌≡◌}
 use Rattle.whole.specs.Plain.{ℕ, sym, ◌∙◌, true, length-replicate, eq-eqb, Words, z}
-use Rattle.paper.specs.declared.Resetting.TheVariants.{Reset}
 use Rattle.whole.specs.Folds.{both}
 use Rattle.paper.specs.Limits as Limits
 use Rattle.paper.specs.Network.{is_network}
@@ -26,7 +26,7 @@ pub fresh_long : Long fresh
 unfolding fresh
 fresh_long = record { records = length-replicate Limits.record_words z; froms = length-replicate Limits.store_words z; tos = length-replicate Limits.store_words z }
 
-pub reset_is : (net : Words) (lent : Memory) → fits net lent ≡ true → is_network net ≡ true → reset_of net lent ≡ reset_out Reset fresh
+pub reset_is : (net : Words) (lent : Memory) → fits net lent ≡ true → is_network net ≡ true → reset_of net lent ≡ reset_out (Ok tt) fresh
 unfolding reset_of
 reset_is net lent f e = rw (f, e)
 

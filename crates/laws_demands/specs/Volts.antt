@@ -1,4 +1,5 @@
 -- The voltages that a step proposes, node by node: ground's, a fixed node's, a free node's. Assumes nothing.
+use Rattle.std.specs.Prelude.{Option, Some, None}
 use Rattle.whole.specs.Plain.{ℕ, zero, suc, refl, sym, ap, ◌∙◌, inl, inr, Bool, true, false, cond}
 use Rattle.whole.specs.Plain.{not, true≢false, List, [], Mem-cases_cons, Mem-not_nil, eqb, ℤ, pos}
 use Rattle.whole.specs.Plain.{length, get_or, set, length-set, take, length-map, replicate, length-replicate}
@@ -15,7 +16,7 @@ use Rattle.paper.specs.Faults.{fixes}
 use Rattle.paper.specs.Areas.{Net, area_of, fixed, nodes_of, free_of}
 use Rattle.paper.specs.Sources.{source, injected}
 use Rattle.paper.specs.Legs.{Branch, both_legs}
-use Rattle.paper.specs.Doubles.{CheckedVoltage, Good, Refused, as_voltage, tenths_of, nearest_of}
+use Rattle.paper.specs.Doubles.{Voltage, as_voltage, tenths_of, nearest_of}
 use Rattle.paper.specs.Elimination.{System, voltages, solved, row_solved, eliminated}
 use Rattle.paper.specs.Solve.{system, proposed, settled, out_of_range, still_of}
 use Rattle.laws_facts.specs.Nets.{NetSound, row_at, held_is}
@@ -26,32 +27,32 @@ use Rattle.laws_local.specs.Outcome.{rounded, volts_of}
 
 -- ---- the free nodes' values, put in their places
 
-settled_other : (ns : List ℕ) (xs : List CheckedVoltage) (v : Words) (p : ℕ) → (Among p ns → ⊥) → word (settled ns xs v) p ≡ word v p
+settled_other : (ns : List ℕ) (xs : List (Option Voltage)) (v : Words) (p : ℕ) → (Among p ns → ⊥) → word (settled ns xs v) p ≡ word v p
 unfolding settled
 settled_other [] xs v p h = refl
 settled_other (n ∷ ns) [] v p h = refl
-settled_other (n ∷ ns) (Good x ∷ xs) v p h = settled_other ns xs (set v n x.tenths) p (λ q. h (below q)) ∙ get_or-set_other v n p x.tenths z (λ e. h (top e))
-settled_other (n ∷ ns) (Refused ∷ xs) v p h = settled_other ns xs v p (λ q. h (below q))
+settled_other (n ∷ ns) (Some x ∷ xs) v p h = settled_other ns xs (set v n x.tenths) p (λ q. h (below q)) ∙ get_or-set_other v n p x.tenths z (λ e. h (top e))
+settled_other (n ∷ ns) (None ∷ xs) v p h = settled_other ns xs v p (λ q. h (below q))
 
-settled_at : (b : ℕ) (ns : List ℕ) (xs : List CheckedVoltage) (v : Words) (q : ℕ) (x : ℤ) → Rising b ns → q < length ns → q < length xs → get_or xs q Refused ≡ as_voltage x
+settled_at : (b : ℕ) (ns : List ℕ) (xs : List (Option Voltage)) (v : Words) (q : ℕ) (x : ℤ) → Rising b ns → q < length ns → q < length xs → get_or xs q None ≡ as_voltage x
     → get_or ns q 0 < length v → word (settled ns xs v) (get_or ns q 0) ≡ x
 unfolding settled
 settled_at b [] xs v q x r h l e s = absurd (omega arith)
 settled_at b (n ∷ ns) [] v q x r h l e s = absurd (omega arith)
-settled_at b (n ∷ ns) (Good y ∷ xs) v zero x r h l e s =
+settled_at b (n ∷ ns) (Some y ∷ xs) v zero x r h l e s =
     settled_other ns xs (set v n y.tenths) n (λ i. omega (arith, rising_over n ns r.1 i)) ∙ get_or-set_same v n y.tenths z s ∙ tenths_of e
-settled_at b (n ∷ ns) (Refused ∷ xs) v zero x r h l e s = let q : ◌≡◌ {A = ℕ} 0 1 = cc in absurd (omega arith)
-settled_at b (n ∷ ns) (Good y ∷ xs) v (suc q) x r h l e s = settled_at n ns xs (set v n y.tenths) q x r.1 (omega arith) (omega arith) e (rw (length-set v n y.tenths) s)
-settled_at b (n ∷ ns) (Refused ∷ xs) v (suc q) x r h l e s = settled_at n ns xs v q x r.1 (omega arith) (omega arith) e s
+settled_at b (n ∷ ns) (None ∷ xs) v zero x r h l e s = let q : ◌≡◌ {A = ℕ} 0 1 = cc in absurd (omega arith)
+settled_at b (n ∷ ns) (Some y ∷ xs) v (suc q) x r h l e s = settled_at n ns xs (set v n y.tenths) q x r.1 (omega arith) (omega arith) e (rw (length-set v n y.tenths) s)
+settled_at b (n ∷ ns) (None ∷ xs) v (suc q) x r h l e s = settled_at n ns xs v q x r.1 (omega arith) (omega arith) e s
 
 -- no answer 15: each is a whole number
-in_range_lem : (ns : List ℕ) (xs : List CheckedVoltage) (b : ℕ) → Rising b ns → out_of_range ns xs ≡ 0 → (q : ℕ) → q < length ns → q < length xs → (x : ℤ) × (get_or xs q Refused ≡ as_voltage x)
+in_range_lem : (ns : List ℕ) (xs : List (Option Voltage)) (b : ℕ) → Rising b ns → out_of_range ns xs ≡ 0 → (q : ℕ) → q < length ns → q < length xs → (x : ℤ) × (get_or xs q None ≡ as_voltage x)
 unfolding out_of_range
 in_range_lem [] xs b r e q h l = absurd (omega arith)
 in_range_lem (n ∷ ns) [] b r e q h l = absurd (omega arith)
-in_range_lem (n ∷ ns) (Good x ∷ xs) b r e zero h l = (x.tenths, refl)
-in_range_lem (n ∷ ns) (Good x ∷ xs) b r e (suc q) h l = in_range_lem ns xs n r.1 e q (omega arith) (omega arith)
-in_range_lem (n ∷ ns) (Refused ∷ xs) b r e q h l = absurd (omega (arith, r.0))
+in_range_lem (n ∷ ns) (Some x ∷ xs) b r e zero h l = (x.tenths, refl)
+in_range_lem (n ∷ ns) (Some x ∷ xs) b r e (suc q) h l = in_range_lem ns xs n r.1 e q (omega arith) (omega arith)
+in_range_lem (n ∷ ns) (None ∷ xs) b r e q h l = absurd (omega (arith, r.0))
 
 -- ---- one that passes
 
@@ -91,10 +92,10 @@ module _ (N : Net) (s : NetSound N) (a k : ℕ) (bs : List Branch) where
   rounded_length = length-map (take (length (free_of N a)) x) nearest_of ∙ length-take-le (length (free_of N a)) x enough
 
   -- the free nodes' values are the doubles, rounded
-  pub rounded_at : (q : ℕ) → q < length (free_of N a) → get_or (rounded N a k bs) q Refused ≡ nearest_of (get_or x q nan)
+  pub rounded_at : (q : ℕ) → q < length (free_of N a) → get_or (rounded N a k bs) q None ≡ nearest_of (get_or x q nan)
   unfolding proposed
   rounded_at q h =
-      get_d_map nearest_of (take (length (free_of N a)) x) q nan Refused (rw (length-take-le (length (free_of N a)) x enough) h)
+      get_d_map nearest_of (take (length (free_of N a)) x) q nan None (rw (length-take-le (length (free_of N a)) x enough) h)
       ∙ ap nearest_of (get_or-take (length (free_of N a)) x q nan h)
 
   abbrev v : Words

@@ -1,11 +1,12 @@
 -- "Over two well-formed states, an advance depends on nothing but the network, its own area's records, the far counts and the far values it
 -- reads." Assumes nothing.
+use Rattle.std.specs.Prelude.{Err}
 use Rattle.std.specs.Prelude.{◌≤◌, ◌<◌, ◌≡◌, ◌&&◌, ◌||◌}
 use Rattle.whole.specs.Plain.{ℕ, zero, suc, refl, sym, ap, ◌∙◌, subst, inl, Bool, true, false}
 use Rattle.whole.specs.Plain.{cond, List, leb, ℤ, length, leb-true, eqb-true}
 use Rattle.whole.specs.Plain.{arith, Words, z, word, nat}
-use Rattle.paper.specs.declared.Advance.{Advance}
-use Rattle.paper.specs.declared.Advance.TheVariants.{Wait}
+use Rattle.paper.specs.Replies.{Advance}
+use Rattle.paper.specs.declared.Refusal.TheVariants.{Wait}
 use Rattle.whole.specs.Folds.{and_left, and_right}
 use Rattle.paper.specs.Rows.{Row, is_line, is_breaker, from, to, is_l, is_c}
 use Rattle.paper.specs.Areas.{Net, area_of, area_count, branch_number, row_area}
@@ -42,7 +43,7 @@ refused_both x m m' = record { answer = refl; records = λ j. inl (refl, refl); 
 finish_both : (N : Net) (a k : ℕ) (m m' : Memory) (s : Step) → 1 ≤ a → SameLengths m m' → ((j : ℕ) → owner_of N j ≡ a → word m.records j ≡ word m'.records j)
     → SameOut m m' (finish N a k m s) (finish N a k m' s)
 unfolding written
-finish_both N a k m m' (stop x) one l own = refused_both x m m'
+finish_both N a k m m' (stop x) one l own = refused_both (Err x) m m'
 finish_both N a k m m' (move bs v) one l own = record {
   answer = refl;
   records = λ j. records_touch N a k bs v m.records m'.records j one l.records own;
@@ -96,7 +97,7 @@ module _ (N : Net) (a : ℕ) (m m' : Memory) (f : Sound N) (l : SameLengths m m'
           (subst (λ (bs : List Branch). SameOut m m' (finish N a k m (solve N a k (legs_now N a m))) (finish N a k m' (solve N a k bs)))
           (legs_same N a k m.records m'.records _ same_held same_latch ∙ ap (legs_of N a k m'.records) (hears q r))
           (finish_both N a k m m' (solve N a k (legs_now N a m)) (first_area q) l own))
-      by_late (suc n) e q r = rw (good, good', q, r, ← same_count q, r, late q r, e) (refused_both (Wait (branch_number N (suc n))) m m')
+      by_late (suc n) e q r = rw (good, good', q, r, ← same_count q, r, late q r, e) (refused_both (Err (Wait (branch_number N (suc n)))) m m')
 
       by_done : (b : Bool) → is_done N a m ≡ b → is_area N a m ≡ true → SameOut m m' (on_net N a m) (on_net N a m')
       by_done true e q = rw (good, good', q, e, ← same_count q, e) (refused_both _ m m')

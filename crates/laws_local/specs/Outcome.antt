@@ -1,10 +1,13 @@
 -- What a call over a well-formed state comes to: 11, 12, 13, one of 14 to 17, or a step. Assumes nothing.
+use Rattle.std.specs.Prelude.{Ok, Err}
+use Rattle.std.specs.Prelude.{Option}
 use Rattle.std.specs.Prelude.{◌≤◌, ◌<◌, ◌≡◌, ◌&&◌}
 use Rattle.whole.specs.Plain.{ℕ, zero, suc, refl, sym, ap, ◌∙◌, Bool, true, false, true≢false}
 use Rattle.whole.specs.Plain.{List, leb, leb-true, leb-false, Words}
-use Rattle.paper.specs.declared.Advance.{Advance}
-use Rattle.paper.specs.declared.Advance.TheVariants.{Took, Area, Done, Wait, Floating, Range, Unbalanced, History}
-use Rattle.paper.specs.Doubles.{CheckedVoltage}
+use Rattle.paper.specs.Replies.{Advance}
+use Rattle.paper.specs.declared.Refusal.{Refusal}
+use Rattle.paper.specs.declared.Refusal.TheVariants.{Area, Done, Wait, Floating, Range, Unbalanced, History}
+use Rattle.paper.specs.Doubles.{Voltage}
 use Rattle.whole.specs.Folds.{and_left, and_right}
 use Rattle.paper.specs.Answers.{accepted}
 use Rattle.paper.specs.Rows.{steps, limit}
@@ -23,7 +26,7 @@ module _ (N : Net) (a k : ℕ) (bs : List Branch) where
   abbrev pub lone : ℕ
   lone = floating (fixed N) N.nodes (free_of N a) (both_legs bs)
 
-  abbrev pub rounded : List CheckedVoltage
+  abbrev pub rounded : List (Option Voltage)
   rounded = proposed (both_legs bs) (free_of N a) (still_of N a k) (injected N k)
 
   abbrev pub outside : ℕ
@@ -67,10 +70,10 @@ module _ (N : Net) (a k : ℕ) (bs : List Branch) where
 
 -- every refusal of a step is one of 14 to 17
 pub data StepRefusal : Advance → Type 0 where
-  floating14 : {n : ℕ} → StepRefusal (Floating n)
-  range15 : {n : ℕ} → StepRefusal (Range n)
-  unbalanced16 : {n : ℕ} → StepRefusal (Unbalanced n)
-  history17 : {b : ℕ} → StepRefusal (History b)
+  floating14 : {n : ℕ} → StepRefusal (Err (Floating n))
+  range15 : {n : ℕ} → StepRefusal (Err (Range n))
+  unbalanced16 : {n : ℕ} → StepRefusal (Err (Unbalanced n))
+  history17 : {b : ℕ} → StepRefusal (Err (History b))
 
 -- ---- the call
 
@@ -92,12 +95,12 @@ module _ (N : Net) (a : ℕ) (m : Memory) where
   is_done = leb (steps N.head) (count_of m.records a)
 
   pub data Outcome : Type 0 where
-    no_area : is_area ≡ false → on_net N a m ≡ advanced Area m → Outcome
-    done : is_area ≡ true → is_done ≡ true → on_net N a m ≡ advanced Done m → Outcome
-    waits : (r : ℕ) → is_area ≡ true → is_done ≡ false → late_now ≡ suc r → on_net N a m ≡ advanced (Wait (branch_number N (suc r))) m → Outcome
-    stops : (x : Advance) → StepRefusal x → is_area ≡ true → is_done ≡ false → late_now ≡ 0 → solve N a step_of legs_now ≡ stop x → on_net N a m ≡ advanced x m → Outcome
+    no_area : is_area ≡ false → on_net N a m ≡ advanced (Err Area) m → Outcome
+    done : is_area ≡ true → is_done ≡ true → on_net N a m ≡ advanced (Err Done) m → Outcome
+    waits : (r : ℕ) → is_area ≡ true → is_done ≡ false → late_now ≡ suc r → on_net N a m ≡ advanced (Err (Wait (branch_number N (suc r)))) m → Outcome
+    stops : (x : Refusal) → StepRefusal (Err x) → is_area ≡ true → is_done ≡ false → late_now ≡ 0 → solve N a step_of legs_now ≡ stop x → on_net N a m ≡ advanced (Err x) m → Outcome
     takes : is_area ≡ true → is_done ≡ false → late_now ≡ 0 → solve N a step_of legs_now ≡ move legs_now (volts_of N a step_of legs_now)
-        → on_net N a m ≡ advanced (Took step_of) (written N a step_of legs_now (volts_of N a step_of legs_now) m) → Outcome
+        → on_net N a m ≡ advanced (Ok step_of) (written N a step_of legs_now (volts_of N a step_of legs_now) m) → Outcome
 
   module _ (good : well_formed N m.records m.froms m.tos ≡ true) where
     pub outcome : Outcome
@@ -130,25 +133,19 @@ module _ (N : Net) (a : ℕ) (m : Memory) where
       pub undone : count_of m.records a < steps N.head
       pub free : late_now ≡ 0
       pub solved : solve N a step_of legs_now ≡ move legs_now (volts_of N a step_of legs_now)
-      pub is : on_net N a m ≡ advanced (Took step_of) (written N a step_of legs_now (volts_of N a step_of legs_now) m)
+      pub is : on_net N a m ≡ advanced (Ok step_of) (written N a step_of legs_now (volts_of N a step_of legs_now) m)
 
     refused_not : (x : Advance) → accepted x ≡ false → on_net N a m ≡ advanced x m → accepted (on_net N a m).answer ≡ true → ⊥
     refused_not x f e t = true≢false (sym t ∙ ap (λ (r : Advanced). accepted r.answer) e ∙ f)
-
-    stop_refused : {x : Advance} → StepRefusal x → accepted x ≡ false
-    stop_refused floating14 = refl
-    stop_refused range15 = refl
-    stop_refused unbalanced16 = refl
-    stop_refused history17 = refl
 
     pub taken : accepted (on_net N a m).answer ≡ true → Taken
     taken t = go outcome
       where
         go : Outcome → Taken
-        go (no_area e x) = absurd (refused_not Area refl x t)
-        go (done e d x) = absurd (refused_not Done refl x t)
-        go (waits r e d l x) = absurd (refused_not (Wait (branch_number N (suc r))) refl x t)
-        go (stops y s e d l v x) = absurd (refused_not y (stop_refused s) x t)
+        go (no_area e x) = absurd (refused_not (Err Area) refl x t)
+        go (done e d x) = absurd (refused_not (Err Done) refl x t)
+        go (waits r e d l x) = absurd (refused_not (Err (Wait (branch_number N (suc r)))) refl x t)
+        go (stops y s e d l v x) = absurd (refused_not (Err y) refl x t)
         go (takes e d l v x) = record {
           one = leb-true 1 a (and_left (leb 1 a) (leb a (area_count N)) e);
           most = leb-true a (area_count N) (and_right (leb 1 a) (leb a (area_count N)) e);

@@ -1,7 +1,7 @@
 -- T-ends and T-reach of runs that mix the two calls. Assumes nothing.
 use Rattle.std.specs.Prelude.{◌≡◌}
 use Rattle.whole.specs.Plain.{ℕ, sym, ◌∙◌, List, Words}
-use Rattle.paper.specs.declared.Advance.{Advance}
+use Rattle.paper.specs.Replies.{Advance}
 use Rattle.paper.specs.Rows.{steps}
 use Rattle.paper.specs.Records.{count_of}
 use Rattle.paper.specs.Advance.{Memory, advance_of}

@@ -1,4 +1,6 @@
 -- What a call of `list` leaves in lent memory is what the advances that it makes leave: those that are accepted, in their order. Assumes nothing.
+use Rattle.std.specs.Prelude.{Ok, Err}
+use Rattle.paper.specs.Replies.{Advance}
 use Rattle.std.specs.Prelude.{◌+◌, ◌≡◌, ◌||◌, ◌∷◌, ◌++◌}
 use Rattle.whole.specs.Plain.{ℕ, suc, refl, sym, ap, ◌∙◌, subst, Bool, true, false, not, List, [], leb}
 use Rattle.whole.specs.Plain.{ltb, length, Words}
@@ -9,7 +11,7 @@ use Rattle.paper.specs.Areas.{Net, net_of, area_count}
 use Rattle.paper.specs.Records.{well_formed}
 use Rattle.paper.specs.Rows.{steps}
 use Rattle.paper.specs.Answers.{accepted}
-use Rattle.paper.specs.Advance.{Memory, Advanced, fits, advance_of}
+use Rattle.paper.specs.Advance.{Memory, fits, advance_of}
 use Rattle.paper.proofs.Kept.{either, advance_refused}
 use Rattle.paper.specs.Pieces.{Listed, Piece, writing, ended, went_on, area_piece, full_step, step_piece, if_room, turn_piece, closing, level, steps_taken, piece_of, on_level, list_of}
 use Rattle.laws_runs.specs.Runs.{after}
@@ -54,14 +56,14 @@ module _ (net : Words) where
     }
     one_more n a false e p = subst (Made net m) (sym (advance_refused net a n e)) p
 
-    went_made : (k a : ℕ) (out : List ℕ) (r : Advanced) (b : Bool) → Made net m r.after → Made net m (left (went_on k a out r b))
-    went_made k a out r true p = p
-    went_made k a out r false p = p
+    went_made : (k a : ℕ) (out : List ℕ) (n : Memory) (x : Advance) → Made net m n → Made net m (left (went_on k a out n x))
+    went_made k a out n (Ok c) p = p
+    went_made k a out n (Err x) p = p
 
     area_made : (k a : ℕ) (s : Piece) → Made net m (left s) → Made net m (left (area_piece net k a s))
     unfolding area_piece
     area_made k a (writing n out) p =
-        went_made k a out (advance_of net a n) (accepted (advance_of net a n).answer) (one_more n a (accepted (advance_of net a n).answer) refl p)
+        went_made k a out (advance_of net a n).after (advance_of net a n).answer (one_more n a (accepted (advance_of net a n).answer) refl p)
     area_made k a (ended l) p = p
 
     full_made : (N : Net) (k : ℕ) (s : Piece) → Made net m (left s) → Made net m (left (full_step N k s))

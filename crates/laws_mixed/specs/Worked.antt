@@ -1,8 +1,9 @@
 -- Two studies worked to their end, in several orders. Assumes nothing.
+use Rattle.std.specs.Prelude.{Err}
 use Rattle.std.specs.Prelude.{◌≡◌, ◌∷◌}
 use Rattle.whole.specs.Plain.{ℕ, refl, List, [], map, length, replicate, z, numbers}
-use Rattle.paper.specs.declared.Advance.{Advance}
-use Rattle.paper.specs.declared.Advance.TheVariants.{Done, Wait, Floating}
+use Rattle.paper.specs.Replies.{Advance}
+use Rattle.paper.specs.declared.Refusal.TheVariants.{Done, Wait, Floating}
 use Rattle.paper.specs.Limits as Limits
 use Rattle.paper.specs.Reading.{read_of}
 use Rattle.paper.specs.Resetting.{fresh}
@@ -24,15 +25,15 @@ Ends text order counts said =
 abbrev pub tied : List ℕ
 tied = lines ("study 1000 6 0" ∷ "VS 1 1000 1 0" ∷ "SW 1 2 2000 1 3" ∷ "LINE 1 3 400000 1000" ∷ "VS 4 7 1 0" ∷ "R 4 0 1000" ∷ [])
 
-pub in_rounds : Ends tied (1 ∷ 2 ∷ 3 ∷ 1 ∷ 2 ∷ 3 ∷ 1 ∷ 2 ∷ 3 ∷ 1 ∷ 2 ∷ 3 ∷ 3 ∷ 3 ∷ []) (2 ∷ 3 ∷ 6 ∷ []) (Floating 2 ∷ Wait 2 ∷ Done ∷ [])
+pub in_rounds : Ends tied (1 ∷ 2 ∷ 3 ∷ 1 ∷ 2 ∷ 3 ∷ 1 ∷ 2 ∷ 3 ∷ 1 ∷ 2 ∷ 3 ∷ 3 ∷ 3 ∷ []) (2 ∷ 3 ∷ 6 ∷ []) ((Err (Floating 2)) ∷ (Err (Wait 2)) ∷ (Err Done) ∷ [])
 unfolding computing lines tabbed after Ends numbers
 in_rounds = (refl, refl)
 
-pub in_bursts : Ends tied (3 ∷ 3 ∷ 3 ∷ 3 ∷ 3 ∷ 3 ∷ 2 ∷ 2 ∷ 1 ∷ 1 ∷ 1 ∷ 2 ∷ 2 ∷ 2 ∷ []) (2 ∷ 3 ∷ 6 ∷ []) (Floating 2 ∷ Wait 2 ∷ Done ∷ [])
+pub in_bursts : Ends tied (3 ∷ 3 ∷ 3 ∷ 3 ∷ 3 ∷ 3 ∷ 2 ∷ 2 ∷ 1 ∷ 1 ∷ 1 ∷ 2 ∷ 2 ∷ 2 ∷ []) (2 ∷ 3 ∷ 6 ∷ []) ((Err (Floating 2)) ∷ (Err (Wait 2)) ∷ (Err Done) ∷ [])
 unfolding computing lines tabbed after Ends numbers
 in_bursts = (refl, refl)
 
 -- two areas and nothing that stops either
-pub unstopped : Ends (lines ("study 1000 3 0" ∷ "VS 1 1000 1 0" ∷ "LINE 1 2 400000 1000" ∷ [])) (2 ∷ 2 ∷ 1 ∷ 1 ∷ 1 ∷ 2 ∷ 1 ∷ 2 ∷ []) (3 ∷ 3 ∷ []) (Done ∷ Done ∷ [])
+pub unstopped : Ends (lines ("study 1000 3 0" ∷ "VS 1 1000 1 0" ∷ "LINE 1 2 400000 1000" ∷ [])) (2 ∷ 2 ∷ 1 ∷ 1 ∷ 1 ∷ 2 ∷ 1 ∷ 2 ∷ []) (3 ∷ 3 ∷ []) ((Err Done) ∷ (Err Done) ∷ [])
 unfolding computing lines tabbed after Ends numbers
 unstopped = (refl, refl)

@@ -1,10 +1,10 @@
 -- T-peak: over every run from a reset, a node's peak and its step "equal the maximum over all accepted steps of that node's area and its first place;
 -- before any step both are 0". Assumes nothing.
+use Rattle.std.specs.Prelude.{Ok}
 use Rattle.std.specs.Prelude.{◌≤◌, ◌<◌, ◌≡◌, ◌≢◌, ◌⊎◌, ◌||◌, ◌∷◌, ◌++◌}
 use Rattle.whole.specs.Plain.{ℕ, suc, refl, sym, ap, ◌∙◌, subst, inl, inr, Bool, true, false, cond}
 use Rattle.whole.specs.Plain.{true≢false, List, [], eqb, ℤ, pos, negsuc, nat_abs, lt_z, non_neg, length}
 use Rattle.whole.specs.Plain.{length-append, eqb-true, eqb-false, ltb-true, ltb-false, arith, Words, z, word, nat}
-use Rattle.paper.specs.declared.Advance.TheVariants.{Took}
 use Rattle.paper.specs.Limits as Limits
 use Rattle.paper.specs.Areas.{area_of}
 use Rattle.paper.specs.Records.{count_at, peak_at, peak_step_at, count_of, outdone, new_peak, new_peak_step}
@@ -151,7 +151,7 @@ module _ (net : Words) (lent : Memory) (ok : Lent net lent) (n : ℕ) (low : 1 �
     by_step Q before it x t = go (which net lent ok a area w a x t)
       where
         same : t.before ≡ w → k ≡ x
-        same q = let e : Took k ≡ Took x = sym o.answer ∙ subst (λ (u : List ℕ). (advance_of net a (at u)).answer ≡ Took x) q t.answer in cc
+        same q = let e : Ok k ≡ Ok x = sym o.answer ∙ subst (λ (u : List ℕ). (advance_of net a (at u)).answer ≡ Ok x) q t.answer in cc
 
         go : Which net lent ok a area w a x t.before → Q x (size t.before)
         go (older u q) = subst (λ (b : List ℕ). Q x (size b)) q (before x u)

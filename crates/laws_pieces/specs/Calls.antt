@@ -1,10 +1,12 @@
 -- T-pieces: the pieces that repeated calls list, one after another, are the listing, whatever the lengths of the buffers. Assumes nothing.
+use Rattle.std.specs.Prelude.{Ok, Err}
 use Rattle.std.specs.Prelude.{◌+◌, ◌-◌, ◌≤◌, ◌<◌, ◌≡◌, ◌++◌}
 use Rattle.whole.specs.Plain.{ℕ, zero, suc, refl, sym, ap, ◌∙◌, true, List, [], length}
 use Rattle.whole.specs.Plain.{le-leb, lt-leb, dec_le, arith, Words}
 use Rattle.std.proofs.Common.{add-one}
-use Rattle.paper.specs.declared.Listing.{Listing}
-use Rattle.paper.specs.declared.Listing.TheVariants.{More, Done, Stopped, Network, Store, State}
+use Rattle.paper.specs.Replies.{Listing}
+use Rattle.paper.specs.declared.Pause.TheVariants.{More, Done, Stopped}
+use Rattle.paper.specs.declared.Unlisted.TheVariants.{Network, Store, State}
 use Rattle.whole.specs.Turns.{turns, turns_more, turns_done}
 use Rattle.whole.specs.TurnLaws.{turns_keeps}
 use Rattle.paper.specs.Limits as Limits
@@ -23,12 +25,12 @@ use Rattle.laws_pieces.specs.Runs.{as_run, step_as, run_from, run_from_lem}
 
 -- what follows a piece: the next one where more is to list, nothing otherwise
 abbrev pub onward : Listing → List ℕ → List ℕ
-onward More rest = rest
-onward Done rest = []
-onward (Stopped a x) rest = []
-onward Network rest = []
-onward Store rest = []
-onward State rest = []
+onward (Ok More) rest = rest
+onward (Ok Done) rest = []
+onward (Ok (Stopped a x)) rest = []
+onward (Err Network) rest = []
+onward (Err Store) rest = []
+onward (Err State) rest = []
 
 -- what has ended stays so
 pub turns_ended : (net : Words) (N : Net) (room i n : ℕ) (l : Listed) → turns i n (turn_piece net N room) (ended l) ≡ ended l
@@ -60,7 +62,7 @@ module _ (net : Words) (network : is_network net ≡ true) where
 
   -- a last piece: all steps are taken, or after some lines an area was refused its step
   pub data Over (l : Listed) : Type 0 where
-    all_done : l.answer ≡ Done → Over l
+    all_done : l.answer ≡ Ok Done → Over l
     refused : (k : ℕ) (left : k < steps N.head) (lines : List ℕ) → Refusal net network k left lines l → Over l
 
   pub none_follow : {l : Listed} → Over l → (rest : List ℕ) → onward l.answer rest ≡ []
@@ -70,7 +72,7 @@ module _ (net : Words) (network : is_network net ≡ true) where
   module _ (room : ℕ) where
     -- what a piece from k steps on comes to, after the bytes `out`
     pub data Ends (k : ℕ) (m : Memory) (out : List ℕ) (l : Listed) : Type 0 where
-      more : (k' : ℕ) → l.answer ≡ More → Level net network k' l.after → k ≤ k' → k' < steps N.head → (length out + Limits.step_bytes ≤ room → k < k')
+      more : (k' : ℕ) → l.answer ≡ Ok More → Level net network k' l.after → k ≤ k' → k' < steps N.head → (length out + Limits.step_bytes ≤ room → k < k')
           → l.written ++ run_from net N k' l.after ≡ out ++ run_from net N k m → Ends k m out l
       whole : Over l → l.written ≡ out ++ run_from net N k m → Ends k m out l
 
@@ -89,7 +91,7 @@ module _ (net : Words) (network : is_network net ≡ true) where
         let t = turns_more (suc k) last (turn_piece net N room) (writing m out) (omega arith) in
         rw (rw (add-one (suc k)) at t)
         (elim (dec_le (length out + Limits.step_bytes) room) [
-          | no x ↦ rw (lt-leb (length out + Limits.step_bytes) room (omega arith), turns_ended net N room (suc (suc k)) last (listed More out m))
+          | no x ↦ rw (lt-leb (length out + Limits.step_bytes) room (omega arith), turns_ended net N room (suc (suc k)) last (listed (Ok More) out m))
               (more k refl v (omega arith) (omega arith) (λ q. absurd (x q)) refl)
           | yes x ↦ rw (le-leb (length out + Limits.step_bytes) room x) (elim (stepped net network k (omega arith) out m v) [
             | full m' q v' ↦ rw q (after_step (sym (run_from_lem net N (suc k) m' _) ∙ further k m out _ (omega arith) q) (ends d (suc k) m' _ (omega arith) v'))

@@ -4,7 +4,7 @@ use Rattle.whole.specs.Plain.{ℕ, suc, refl, sym, ap, ◌∙◌, Bool, true, fa
 use Rattle.whole.specs.Plain.{arith, Words, numbers}
 use Rattle.whole.specs.Turns.{turns_done}
 use Rattle.whole.specs.TurnLaws.{turns_keeps}
-use Rattle.paper.specs.Rows.{kind, is_branch, is_source, at, steps}
+use Rattle.paper.specs.Rows.{kind, is_branch, is_source, steps}
 use Rattle.paper.specs.Classes.{one_sort}
 use Rattle.paper.specs.Areas.{Net, area_count}
 use Rattle.paper.specs.Advance.{Memory}

@@ -1,28 +1,30 @@
 -- T-kept, of listing: a call refused with 8, 9 or 10 writes nothing and leaves all lent memory as it was. Assumes nothing.
+use Rattle.paper.specs.Replies.{Advance}
+use Rattle.std.specs.Prelude.{Ok, Err}
 use Rattle.std.specs.Prelude.{◌+◌, ◌≡◌, ◌||◌}
 use Rattle.whole.specs.Plain.{ℕ, suc, refl, sym, ◌∙◌, Bool, true, false, not, true≢false, List, [], leb}
 use Rattle.whole.specs.Plain.{ltb, length, arith, Words}
-use Rattle.paper.specs.declared.Listing.{Listing}
-use Rattle.paper.specs.declared.Listing.TheVariants.{More, Done, Stopped, Network, Store, State}
+use Rattle.paper.specs.Replies.{Listing}
+use Rattle.paper.specs.declared.Pause.TheVariants.{More, Done, Stopped}
+use Rattle.paper.specs.declared.Unlisted.TheVariants.{Network, Store, State}
 use Rattle.whole.specs.TurnLaws.{turns_keeps}
 use Rattle.paper.specs.Limits as Limits
 use Rattle.paper.specs.Network.{is_network, table_of}
 use Rattle.paper.specs.Areas.{Net, net_of, area_count}
 use Rattle.paper.specs.Records.{well_formed}
 use Rattle.paper.specs.Rows.{steps}
-use Rattle.paper.specs.Answers.{accepted}
-use Rattle.paper.specs.Advance.{Memory, Advanced, fits, advance_of}
+use Rattle.paper.specs.Advance.{Memory, fits, advance_of}
 use Rattle.paper.proofs.Kept.{either}
 use Rattle.paper.specs.Pieces.{Listed, Piece, writing, ended, went_on, area_piece, full_step, step_piece, if_room, turn_piece, closing, level, steps_taken, piece_of, on_level, list_of}
 
 -- an answer of a call that ran
 abbrev pub ran : Listing → Bool
-ran More = true
-ran Done = true
-ran (Stopped a x) = true
-ran Network = false
-ran Store = false
-ran State = false
+ran (Ok More) = true
+ran (Ok Done) = true
+ran (Ok (Stopped a x)) = true
+ran (Err Network) = false
+ran (Err Store) = false
+ran (Err State) = false
 
 record Ran (s : Piece) : Type 0 where
   ran_so : (l : Listed) → s ≡ ended l → ran l.answer ≡ true
@@ -33,13 +35,13 @@ goes_on m out = record { ran_so = λ l e. let z : ◌≡◌ {A = ℕ} 0 1 = cc i
 has_ended : (l : Listed) → ran l.answer ≡ true → Ran (ended l)
 has_ended l h = record { ran_so = λ k e. let q : l ≡ k = cc in rw (← q) h }
 
-went : (k a : ℕ) (out : List ℕ) (r : Advanced) (b : Bool) → Ran (went_on k a out r b)
-went k a out r true = goes_on r.after out
-went k a out r false = has_ended _ refl
+went : (k a : ℕ) (out : List ℕ) (m : Memory) (x : Advance) → Ran (went_on k a out m x)
+went k a out m (Ok c) = goes_on m out
+went k a out m (Err x) = has_ended _ refl
 
 area_ran : (net : Words) (k a : ℕ) (s : Piece) → Ran s → Ran (area_piece net k a s)
 unfolding area_piece
-area_ran net k a (writing m out) h = went k a out (advance_of net a m) (accepted (advance_of net a m).answer)
+area_ran net k a (writing m out) h = went k a out (advance_of net a m).after (advance_of net a m).answer
 area_ran net k a (ended l) h = h
 
 full_ran : (N : Net) (k : ℕ) (s : Piece) → Ran s → Ran (full_step N k s)

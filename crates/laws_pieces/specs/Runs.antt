@@ -1,13 +1,14 @@
 -- A piece as a part of the paper's run, and a run with some bytes before it. Assumes nothing.
-use Rattle.std.specs.Prelude.{◌+◌, ◌≡◌, ◌∷◌, ◌++◌}
-use Rattle.whole.specs.Plain.{ℕ, suc, refl, sym, ap, ◌∙◌, Bool, true, false, List, []}
+use Rattle.std.specs.Prelude.{Ok, Err}
+use Rattle.paper.specs.Replies.{Advance}
+use Rattle.std.specs.Prelude.{◌≡◌, ◌∷◌, ◌++◌}
+use Rattle.whole.specs.Plain.{ℕ, suc, refl, sym, ap, ◌∙◌, List, []}
 use Rattle.whole.specs.Plain.{append_assoc, append-nil, pos, Words}
 use Rattle.whole.specs.Turns.{turns}
 use Rattle.whole.specs.TurnLaws.{turns_view}
 use Rattle.paper.specs.Rows.{bytes, steps}
 use Rattle.paper.specs.Areas.{Net, area_count}
-use Rattle.paper.specs.Answers.{accepted}
-use Rattle.paper.specs.Advance.{Memory, Advanced, advance_of}
+use Rattle.paper.specs.Advance.{Memory, advance_of}
 use Rattle.paper.specs.Listing.{Run, going, went, area_run, listed, step_run, closing, step_lines, stop_line, line_of}
 use Rattle.paper.specs.Listing as Listing
 use Rattle.paper.specs.Pieces.{Piece, writing, ended, went_on, area_piece, full_step, step_piece}
@@ -16,13 +17,13 @@ abbrev pub as_run : Piece → Run
 as_run (writing m out) = going m out
 as_run (ended l) = Listing.ended l.written
 
-went_as : (k a : ℕ) (out : List ℕ) (r : Advanced) (b : Bool) → as_run (went_on k a out r b) ≡ went k a out r b
-went_as k a out r true = refl
-went_as k a out r false = refl
+went_as : (k a : ℕ) (out : List ℕ) (m : Memory) (x : Advance) → as_run (went_on k a out m x) ≡ went k a out m x
+went_as k a out m (Ok c) = refl
+went_as k a out m (Err x) = refl
 
 area_as : (net : Words) (k a : ℕ) (s : Piece) → as_run (area_piece net k a s) ≡ area_run net k a (as_run s)
 unfolding area_piece area_run Listing.went_on
-area_as net k a (writing m out) = went_as k a out (advance_of net a m) (accepted (advance_of net a m).answer)
+area_as net k a (writing m out) = went_as k a out (advance_of net a m).after (advance_of net a m).answer
 area_as net k a (ended l) = refl
 
 full_as : (N : Net) (k : ℕ) (s : Piece) → as_run (full_step N k s) ≡ listed N k (as_run s)
@@ -41,13 +42,13 @@ abbrev pub before : List ℕ → Run → Run
 before p (going m out) = going m (p ++ out)
 before p (Listing.ended out) = Listing.ended (p ++ out)
 
-went_before : (p : List ℕ) (k a : ℕ) (out : List ℕ) (r : Advanced) (b : Bool) → went k a (p ++ out) r b ≡ before p (went k a out r b)
-went_before p k a out r true = refl
-went_before p k a out r false = ap Listing.ended (append_assoc p out (stop_line k a r.answer))
+went_before : (p : List ℕ) (k a : ℕ) (out : List ℕ) (m : Memory) (x : Advance) → went k a (p ++ out) m x ≡ before p (went k a out m x)
+went_before p k a out m (Ok c) = refl
+went_before p k a out m (Err x) = ap Listing.ended (append_assoc p out (stop_line k a x))
 
 area_before : (p : List ℕ) (net : Words) (k a : ℕ) (s : Run) → area_run net k a (before p s) ≡ before p (area_run net k a s)
 unfolding area_run Listing.went_on
-area_before p net k a (going m out) = went_before p k a out (advance_of net a m) (accepted (advance_of net a m).answer)
+area_before p net k a (going m out) = went_before p k a out (advance_of net a m).after (advance_of net a m).answer
 area_before p net k a (Listing.ended out) = refl
 
 listed_before : (p : List ℕ) (N : Net) (k : ℕ) (s : Run) → listed N k (before p s) ≡ before p (listed N k s)

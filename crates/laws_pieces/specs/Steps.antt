@@ -1,8 +1,10 @@
 -- A full step from a state in step: all areas take it and its lines are listed, or a refused area ends the piece. Assumes nothing.
+use Rattle.std.specs.Prelude.{Ok, Err}
 use Rattle.std.specs.Prelude.{◌+◌, ◌-◌, ◌≤◌, ◌<◌, ◌≡◌, ◌++◌}
-use Rattle.whole.specs.Plain.{ℕ, zero, suc, refl, ap, ◌∙◌, true, false, List, arith}
+use Rattle.whole.specs.Plain.{ℕ, zero, suc, refl, ap, ◌∙◌, true, List, arith}
 use Rattle.whole.specs.Plain.{Words}
-use Rattle.paper.specs.declared.Listing.TheVariants.{Stopped}
+use Rattle.paper.specs.declared.Refusal as Paper
+use Rattle.paper.specs.declared.Pause.TheVariants.{Stopped}
 use Rattle.whole.specs.Turns.{run, turns}
 use Rattle.paper.specs.Rows.{steps}
 use Rattle.paper.specs.Network.{is_network}
@@ -32,8 +34,9 @@ module _ (net : Words) (network : is_network net ≡ true) where
       pub least : 1 ≤ area
       pub most : area ≤ area_count N
       pub part : Partway net network k area now
-      pub refused : accepted (advance_of net area now).answer ≡ false
-      pub is : let r = advance_of net area now in l ≡ listed (Stopped area r.answer) (out ++ stop_line (suc k) area r.answer) r.after
+      pub why : Paper.Refusal
+      pub refused : (advance_of net area now).answer ≡ Err why
+      pub is : l ≡ listed (Ok (Stopped area why)) (out ++ stop_line (suc k) area why) (advance_of net area now).after
 
     -- the areas' turns
     pub data Turned (s : Piece) : Type 0 where
@@ -44,10 +47,10 @@ module _ (net : Words) (network : is_network net ≡ true) where
     unfolding run area_piece
     turned zero a m p one e = let q : a ≡ suc (area_count N) = omega arith in all_took m refl (level_end net network (rw q at p))
     turned (suc d) a m p one e =
-        elim (accepted (advance_of net a m).answer) as (λ b. accepted (advance_of net a m).answer ≡ b → Turned (run d (suc a) (area_piece net (suc k)) (went_on (suc k) a out (advance_of net a m) b))) [
-          | true ↦ λ x. turned d (suc a) (advance_of net a m).after (leads_on net network k a m p one (omega arith) x) (omega arith) (omega arith)
-          | false ↦ λ x. one_refused _ (run_ended (area_piece net (suc k)) (λ j x. refl) d (suc a) _)
-              (record { area = a; now = m; least = one; most = omega arith; part = p; refused = x; is = refl })
+        elim (advance_of net a m).answer as (λ y. (advance_of net a m).answer ≡ y → Turned (run d (suc a) (area_piece net (suc k)) (went_on (suc k) a out (advance_of net a m).after y))) [
+          | Ok c ↦ λ x. turned d (suc a) (advance_of net a m).after (leads_on net network k a m p one (omega arith) (ap accepted x)) (omega arith) (omega arith)
+          | Err y ↦ λ x. one_refused _ (run_ended (area_piece net (suc k)) (λ j x. refl) d (suc a) _)
+              (record { area = a; now = m; least = one; most = omega arith; part = p; why = y; refused = x; is = refl })
         ] refl
 
     -- the whole step

@@ -1,12 +1,14 @@
 -- T-pieces, of a whole run: from a reset, the pieces of at most as many calls as the study has steps are the listing. Assumes nothing.
+use Rattle.std.specs.Prelude.{Ok, Err}
 use Rattle.std.specs.Prelude.{◌+◌, ◌-◌, ◌≤◌, ◌<◌, ◌≡◌, ◌∷◌, ◌++◌}
 use Rattle.whole.specs.Plain.{ℕ, refl, sym, ap, ◌∙◌, Bool, true, cond, not, List, []}
 use Rattle.whole.specs.Plain.{append-nil, leb, eqb, pos, length, replicate, eq-eqb, ne_eqb, le-ltb, leb-true, le_trans}
 use Rattle.whole.specs.Plain.{ℕ_discrete, arith, Words, z, nat, every, numbers}
-use Rattle.paper.specs.declared.Reading.{Reading}
-use Rattle.paper.specs.declared.Reading.TheVariants.{Read, Form, Node, Value, Travel, Double, Full, Size}
-use Rattle.paper.specs.declared.Reading.TheVariants as R
-use Rattle.paper.specs.declared.Listing.TheVariants.{State}
+use Rattle.paper.specs.Replies.{Reading}
+use Rattle.paper.specs.declared.Fault.TheVariants.{Form, Node, Value, Travel, Double, Full}
+use Rattle.paper.specs.declared.Unread.TheVariants.{Line, Size}
+use Rattle.paper.specs.declared.Unlisted.TheVariants.{State}
+use Rattle.paper.specs.declared.Unread.TheVariants as R
 use Rattle.whole.specs.Folds.{and_left, and_right, every_if, get_d_numbers, length_numbers}
 use Rattle.paper.specs.Limits as Limits
 use Rattle.paper.specs.Rows.{bytes, steps}
@@ -67,7 +69,7 @@ module _ (net : Words) (network : is_network net ≡ true) where
       rw (get_d_numbers 1 (area_count N) i 0 n, e) (eq-eqb _ k (v.counts (1 + i) (omega arith) (omega arith))))
 
   -- what is left to judge of a well-formed state: whether its areas are in step
-  pub list_by : (t : Bool) (m : Memory) (room : ℕ) → Inv net network m → Limits.step_bytes ≤ room → level N m.records ≡ t → list_of net m room ≡ cond (not t) (listed State [] m) (piece_of net N m room)
+  pub list_by : (t : Bool) (m : Memory) (room : ℕ) → Inv net network m → Limits.step_bytes ≤ room → level N m.records ≡ t → list_of net m room ≡ cond (not t) (listed (Err State) [] m) (piece_of net N m room)
   unfolding list_of on_level
   list_by t m room v h e = rw (long_fits net m network v.long, le-ltb room Limits.step_bytes h, network, v.good, e)
 
@@ -111,16 +113,16 @@ module _ (net : Words) (network : is_network net ≡ true) where
 
 -- ---- reading, resetting, and listing until it ends
 
-read_only : (x : Reading) → reading_number x ≡ 0 → x ≡ Read
-read_only Read e = refl
-read_only (Form l) e = absurd (omega arith)
-read_only (Node l) e = absurd (omega arith)
-read_only (Value l) e = absurd (omega arith)
-read_only (Travel l) e = absurd (omega arith)
-read_only (Double l) e = absurd (omega arith)
-read_only (Full l) e = absurd (omega arith)
-read_only Size e = absurd (omega arith)
-read_only R.Store e = absurd (omega arith)
+read_only : (x : Reading) → reading_number x ≡ 0 → x ≡ Ok tt
+read_only (Ok tt) e = refl
+read_only (Err (Line l Form)) e = absurd (omega arith)
+read_only (Err (Line l Node)) e = absurd (omega arith)
+read_only (Err (Line l Value)) e = absurd (omega arith)
+read_only (Err (Line l Travel)) e = absurd (omega arith)
+read_only (Err (Line l Double)) e = absurd (omega arith)
+read_only (Err (Line l Full)) e = absurd (omega arith)
+read_only (Err Size) e = absurd (omega arith)
+read_only (Err R.Store) e = absurd (omega arith)
 
 -- what a program lists of a text: a `bad` line, or the pieces from a reset
 abbrev pub program : List ℕ → List ℕ → List ℕ

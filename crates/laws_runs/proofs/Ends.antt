@@ -1,11 +1,12 @@
 -- T-ends and T-reach: any two orders that go on until every area answers DONE, WAIT or one of 14 to 17 end alike; and an area that no chain of lines
 -- ties to a stopped one has then taken all its steps. Assumes nothing.
+use Rattle.std.specs.Prelude.{Err}
 use Rattle.std.specs.Prelude.{◌≤◌, ◌<◌, ◌≡◌}
 use Rattle.whole.specs.Plain.{ℕ, zero, suc, refl, sym, ◌∙◌, inl, inr, Bool, true, false, true≢false, List}
 use Rattle.whole.specs.Plain.{length, zero-add, arith, Words}
 use Rattle.std.proofs.Common.{le_antisymm}
-use Rattle.paper.specs.declared.Advance.{Advance}
-use Rattle.paper.specs.declared.Advance.TheVariants.{Done, Wait}
+use Rattle.paper.specs.Replies.{Advance}
+use Rattle.paper.specs.declared.Refusal.TheVariants.{Done, Wait}
 use Rattle.paper.specs.Answers.{accepted}
 use Rattle.paper.specs.Rows.{is_line, from, to, steps}
 use Rattle.paper.specs.Records.{count_at, count_of, end_of}
@@ -88,8 +89,8 @@ module _ (net : Words) (lent : Memory) (ok : Lent net lent) where
                 let q = more (area_at N from_side i) (omega (arith, p.1, f.travels i l)) (is_area_lem from_side i l) (line toSide i t there l p.0) in omega (arith, p.1)
 
             by : Quits (answers b w) → ((c : ℕ) → count c w < n → IsArea N c → Tied N a c → steps N.head ≤ count c w) → steps N.head ≤ count b w
-            by (all_taken e) more = ((exactly net b (at w) Done).0 e).2
-            by (waiting r e) more = let q = ((exactly net b (at w) (Wait r)).0 e).1 in behind q.row q.there q.line q.behind more
+            by (all_taken e) more = ((exactly net b (at w) (Err Done)).0 e).2
+            by (waiting r e) more = let q = ((exactly net b (at w) (Err (Wait r))).0 e).1 in behind q.row q.there q.line q.behind more
             by (stopped s) more = absurd (free b t s)
 
         g : Formed N (at w)

@@ -1,10 +1,10 @@
 -- T-received: what a line end hears at its area's accepted step k is what it receives of what the far end sent at its own accepted steps of that run:
 -- at k - q, where the travel time lies between steps also at k - q - 1, and 0 before step 1; and there is one such step. Assumes nothing.
+use Rattle.std.specs.Prelude.{Ok}
 use Rattle.std.specs.Prelude.{◌+◌, ◌≤◌, ◌<◌, ◌≡◌, ◌⊎◌, ◌&&◌, ◌∷◌, ◌++◌}
 use Rattle.whole.specs.Plain.{ℕ, suc, refl, sym, ap, ◌∙◌, inl, inr, Bool, true, false}
 use Rattle.whole.specs.Plain.{List, [], eqb, length, eq-eqb, arith, Words, word}
-use Rattle.paper.specs.declared.Advance.{Advance}
-use Rattle.paper.specs.declared.Advance.TheVariants.{Took}
+use Rattle.paper.specs.Replies.{Advance}
 use Rattle.paper.specs.Answers.{accepted}
 use Rattle.paper.specs.Rows.{is_line}
 use Rattle.paper.specs.Faults.{depth}
@@ -37,16 +37,16 @@ module _ (net : Words) (lent : Memory) (ok : Lent net lent) where
   abbrev count : ℕ → List ℕ → ℕ
   count a w = count_of (at w).records a
 
-  took_accepted : (a : ℕ) (m : Memory) (k : ℕ) → (advance_of net a m).answer ≡ Took k → accepted (advance_of net a m).answer ≡ true
+  took_accepted : (a : ℕ) (m : Memory) (k : ℕ) → (advance_of net a m).answer ≡ Ok k → accepted (advance_of net a m).answer ≡ true
   took_accepted a m k e = rw e
 
   -- an accepted step is the next one
-  step_is : (a : ℕ) (w : List ℕ) (k : ℕ) → (advance_of net a (at w)).answer ≡ Took k → k ≡ suc (count a w)
+  step_is : (a : ℕ) (w : List ℕ) (k : ℕ) → (advance_of net a (at w)).answer ≡ Ok k → k ≡ suc (count a w)
   step_is a w k e =
-      let q : ◌≡◌ {A = Advance} (Took k) (Took (step_of N a (at w))) = sym e ∙ ap (λ (r : Advanced). r.answer) (call_is net ok.network a (at w) (run_inv net lent ok w) (took_accepted a (at w) k e)) in
+      let q : ◌≡◌ {A = Advance} (Ok k) (Ok (step_of N a (at w))) = sym e ∙ ap (λ (r : Advanced). r.answer) (call_is net ok.network a (at w) (run_inv net lent ok w) (took_accepted a (at w) k e)) in
       cc
 
-  module _ (a : ℕ) (w : List ℕ) (k : ℕ) (e : (advance_of net a (at w)).answer ≡ Took k) (i : ℕ) (there : i < length N.rows) (line : is_line (row_at N i) ≡ true) where
+  module _ (a : ℕ) (w : List ℕ) (k : ℕ) (e : (advance_of net a (at w)).answer ≡ Ok k) (i : ℕ) (there : i < length N.rows) (line : is_line (row_at N i) ≡ true) where
     abbrev d : ℕ
     d = delay_at N i
 
@@ -106,12 +106,12 @@ module _ (net : Words) (lent : Memory) (ok : Lent net lent) where
 
   -- a later accepted step of the same area is a larger one
   module _ (b : ℕ) (x : ℕ) where
-    grown : (u t : List ℕ) (m : Memory) → (advance_of net b (after net u m)).answer ≡ Took x → suc (taken net b u m) ≤ taken net b (u ++ (b ∷ t)) m
+    grown : (u t : List ℕ) (m : Memory) → (advance_of net b (after net u m)).answer ≡ Ok x → suc (taken net b u m) ≤ taken net b (u ++ (b ∷ t)) m
     unfolding after accepts
     grown [] t m e = rw (e, eq-eqb b b refl) (omega arith)
     grown (c ∷ u) t m e = put_grows (accepted (advance_of net c m).answer && eqb b c) _ _ _ (grown u t (advance_of net c m).after e)
 
-    later_steps : (u t : List ℕ) → (advance_of net b (at u)).answer ≡ Took x → x ≤ count b (u ++ (b ∷ t))
+    later_steps : (u t : List ℕ) → (advance_of net b (at u)).answer ≡ Ok x → x ≤ count b (u ++ (b ∷ t))
     later_steps u t e =
         let h : IsArea N b = area_of_accepted net lent ok b (at u) (run_inv net lent ok u) (took_accepted b (at u) x e) in
         let p : count b u ≡ taken net b u start = counts_are net lent ok b h u in
@@ -123,7 +123,7 @@ module _ (net : Words) (lent : Memory) (ok : Lent net lent) where
     pub once : (w : List ℕ) (p q : StepIn net start w b x) → p.before ≡ q.before
     once w p q = go (two_places b p.before q.before p.behind q.behind (sym p.calls ∙ q.calls))
       where
-        no : (u v t : List ℕ) → v ≡ u ++ (b ∷ t) → (advance_of net b (at u)).answer ≡ Took x → (advance_of net b (at v)).answer ≡ Took x → ⊥
+        no : (u v t : List ℕ) → v ≡ u ++ (b ∷ t) → (advance_of net b (at u)).answer ≡ Ok x → (advance_of net b (at v)).answer ≡ Ok x → ⊥
         no u v t e p q = let g : x ≤ count b v = rw e (later_steps u t p) in omega (arith, step_is b v x q)
 
         go : Apart b p.before q.before → p.before ≡ q.before

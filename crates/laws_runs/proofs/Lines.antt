@@ -1,9 +1,9 @@
 -- T-received in voltages and currents alone: at an accepted step k of a run, the current of a line's end is g·v and what it receives of what the far
 -- end's g·v and current came to at its own accepted steps of that run, with a minus. No store is spoken of. Assumes nothing.
+use Rattle.std.specs.Prelude.{Ok}
 use Rattle.std.specs.Prelude.{◌<◌, ◌≡◌, ◌+ℤ◌}
 use Rattle.whole.specs.Plain.{ℕ, refl, sym, ap, ◌∙◌, true, List, ℤ, length}
 use Rattle.whole.specs.Plain.{Words, word}
-use Rattle.paper.specs.declared.Advance.TheVariants.{Took}
 use Rattle.paper.specs.Rows.{is_line}
 use Rattle.paper.specs.Areas.{Net}
 use Rattle.paper.specs.Legs.{sent_to, received}
@@ -22,7 +22,7 @@ sent_by : Net → Memory → Side → ℕ → ℕ → ℤ
 sent_by N m from_side i x = from_sent N m i x
 sent_by N m toSide i x = to_sent N m i x
 
-module _ (net : Words) (lent : Memory) (ok : Lent net lent) (a : ℕ) (w : List ℕ) (k : ℕ) (e : (advance_of net a ((from_reset net lent).at w)).answer ≡ Took k) where
+module _ (net : Words) (lent : Memory) (ok : Lent net lent) (a : ℕ) (w : List ℕ) (k : ℕ) (e : (advance_of net a ((from_reset net lent).at w)).answer ≡ Ok k) where
   open from_reset net lent use {N, start, at}
 
   abbrev m : Memory
@@ -34,7 +34,7 @@ module _ (net : Words) (lent : Memory) (ok : Lent net lent) (a : ℕ) (w : List 
   abbrev EndOf : Memory → ℕ → Memory → Side → ℕ → Type 0
   EndOf before x now s i = EndObeys N x i (node_at s (row_at N i)) now (current_at now s i) (sent_by N now s i x) (sent_by N before (far s) i)
 
-  end_law : (before : Memory) (b x : ℕ) → (advance_of net b before).answer ≡ Took x → (s : Side) (i : ℕ) → i < length N.rows → is_line (row_at N i) ≡ true → area_at N s i ≡ b
+  end_law : (before : Memory) (b x : ℕ) → (advance_of net b before).answer ≡ Ok x → (s : Side) (i : ℕ) → i < length N.rows → is_line (row_at N i) ≡ true → area_at N s i ≡ b
       → EndOf before x (advance_of net b before).after s i
   unfolding sent_by
   end_law before b x q from_side i h l o = (step net b before x q).offered.from_end i h l o

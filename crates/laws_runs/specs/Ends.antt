@@ -1,10 +1,11 @@
 -- T-ends and T-reach: any two orders that go on until every area answers DONE, WAIT or one of 14 to 17 end alike; and an area that no chain of lines
 -- ties to a stopped one has then taken all its steps. Assumes nothing.
+use Rattle.std.specs.Prelude.{Err}
 use Rattle.std.specs.Prelude.{◌<◌, ◌≡◌}
 use Rattle.whole.specs.Plain.{ℕ, true, List}
 use Rattle.whole.specs.Plain.{length, Words}
-use Rattle.paper.specs.declared.Advance.{Advance}
-use Rattle.paper.specs.declared.Advance.TheVariants.{Done, Wait}
+use Rattle.paper.specs.Replies.{Advance}
+use Rattle.paper.specs.declared.Refusal.TheVariants.{Done, Wait}
 use Rattle.paper.specs.Rows.{is_line}
 use Rattle.paper.specs.Areas.{Net}
 use Rattle.paper.specs.Advance.{Memory, advance_of}
@@ -16,8 +17,8 @@ use Rattle.laws_runs.specs.Received.{Side, far, area_at}
 
 -- "DONE, WAIT or one of 14 to 17"
 pub data Quits (x : Advance) : Type 0 where
-  all_taken : x ≡ Done → Quits x
-  waiting : (b : ℕ) → x ≡ Wait b → Quits x
+  all_taken : x ≡ Err Done → Quits x
+  waiting : (b : ℕ) → x ≡ Err (Wait b) → Quits x
   stopped : StepRefusal x → Quits x
 
 -- "tied by a chain of lines"; an area is tied to itself

@@ -1,9 +1,9 @@
 -- What an area lives through in a run: only its own accepted steps change its words. So what holds of them is shown by a fold over these steps: at the
 -- reset, at a call that is refused or of another area, and at each accepted step. Assumes nothing.
+use Rattle.std.specs.Prelude.{Ok}
 use Rattle.std.specs.Prelude.{◌≡◌, ◌≢◌, ◌∷◌, ◌++◌}
 use Rattle.whole.specs.Plain.{ℕ, refl, sym, ap, ◌∙◌, subst, Bool, true, false, true≢false, List, []}
 use Rattle.whole.specs.Plain.{append_assoc, append-nil, length, length-append, append_snoc, ℕ_discrete, arith, Words, nat}
-use Rattle.paper.specs.declared.Advance.TheVariants.{Took}
 use Rattle.paper.specs.Answers.{accepted}
 use Rattle.paper.specs.Records.{count_at, count_of}
 use Rattle.paper.specs.Advance.{Memory, Advanced, advance_of}
@@ -74,14 +74,14 @@ module _ (net : Words) (lent : Memory) (ok : Lent net lent) (a : ℕ) (area : Is
 
   -- its accepted step k
   pub record OwnStep (w : List ℕ) (k : ℕ) : Type 0 where
-    pub answer : (advance_of net a (at w)).answer ≡ Took k
+    pub answer : (advance_of net a (at w)).answer ≡ Ok k
     pub stepped : Stepped N a k (at w) (at (w ++ (a ∷ [])))
 
   counted : owner_in N (record_word (count_at a)) ≡ a
   counted = own_count N a area.one (omega (arith, area.most, (sound N (net_sound net ok.network)).areas)) area.most
 
   idle : (w : List ℕ) (c : ℕ) → ((x : Cell) → owner_in N x ≡ a → Moves.at (advance_of net c (at w)).after x ≡ Moves.at (at w) x)
-      → ((x : ℕ) → c ≡ a → (advance_of net a (at w)).answer ≡ Took x → ⊥) → Idle w c
+      → ((x : ℕ) → c ≡ a → (advance_of net a (at w)).answer ≡ Ok x → ⊥) → Idle w c
   idle w c same none = record { words = words; count = ap nat (words (record_word (count_at a)) counted); steps = λ x s. go x s (which w c x s) }
     where
       words : (x : Cell) → owner_in N x ≡ a → Moves.at (at (w ++ (c ∷ []))) x ≡ Moves.at (at w) x
@@ -89,7 +89,7 @@ module _ (net : Words) (lent : Memory) (ok : Lent net lent) (a : ℕ) (area : Is
 
       go : (x : ℕ) (s : StepIn net start (w ++ (c ∷ [])) a x) → Which w c x s.before → (t : StepIn net start w a x) × (t.before ≡ s.before)
       go x s (older t q) = (t, q)
-      go x s (newest e p) = absurd (none x e (subst (λ (u : List ℕ). (advance_of net a (after net u start)).answer ≡ Took x) p s.answer))
+      go x s (newest e p) = absurd (none x e (subst (λ (u : List ℕ). (advance_of net a (after net u start)).answer ≡ Ok x) p s.answer))
 
   refused_idle : (w : List ℕ) (c : ℕ) → accepted (advance_of net c (at w)).answer ≡ false → Idle w c
   refused_idle w c e =
@@ -102,7 +102,7 @@ module _ (net : Words) (lent : Memory) (ok : Lent net lent) (a : ℕ) (area : Is
   own_step : (w : List ℕ) → accepted (advance_of net a (at w)).answer ≡ true → OwnStep w (step_of N a (at w))
   own_step w e =
       let k = step_of N a (at w) in
-      let q : (advance_of net a (at w)).answer ≡ Took k = ap (λ (r : Advanced). r.answer) (call_is net ok.network a (at w) (run_inv net lent ok w) e) in
+      let q : (advance_of net a (at w)).answer ≡ Ok k = ap (λ (r : Advanced). r.answer) (call_is net ok.network a (at w) (run_inv net lent ok w) e) in
       record { answer = q; stepped = subst (λ (n : Memory). Stepped N a k (at w) n) (sym (after_snoc net w a start)) (step net a (at w) k q) }
 
   -- the fold

@@ -1,10 +1,11 @@
 -- The calls of an area as moves that do not disturb one another: each writes only its own words, reads only those and what it hears, and what
 -- another is about to hear is left alone. Assumes nothing.
+use Rattle.std.specs.Prelude.{Ok, Err}
 use Rattle.std.specs.Prelude.{◌≤◌, ◌≡◌, ◌≢◌, ◌&&◌}
 use Rattle.whole.specs.Plain.{ℕ, suc, refl, sym, ap, ◌∙◌, true, false, cond, not, true≢false, List}
 use Rattle.whole.specs.Plain.{[], leb, ℤ, ext_get_or, leb-true, ℕ_discrete, arith, Words, z, word}
-use Rattle.paper.specs.declared.Advance.{Advance}
-use Rattle.paper.specs.declared.Advance.TheVariants.{Took, Network, Store, State, Area, Done, Wait, Floating, Range, Unbalanced, History}
+use Rattle.paper.specs.Replies.{Advance}
+use Rattle.paper.specs.declared.Refusal.TheVariants.{Network, Store, State, Area, Done, Wait, Floating, Range, Unbalanced, History}
 use Rattle.whole.specs.Folds.{and_left, and_right}
 use Rattle.paper.specs.Answers.{accepted}
 use Rattle.paper.specs.Rows.{from, to}
@@ -41,17 +42,17 @@ at m (fromWord j) = word m.froms j
 at m (toWord j) = word m.tos j
 
 pub acc_firm : (x : Advance) → accepted x ≡ true → firm x ≡ true
-acc_firm (Took k) e = refl
-acc_firm Network e = refl
-acc_firm Store e = refl
-acc_firm State e = refl
-acc_firm Area e = refl
-acc_firm Done e = refl
-acc_firm (Wait b) e = absurd (true≢false (sym e))
-acc_firm (Floating n) e = refl
-acc_firm (Range n) e = refl
-acc_firm (Unbalanced n) e = refl
-acc_firm (History b) e = refl
+acc_firm (Ok k) e = refl
+acc_firm (Err Network) e = refl
+acc_firm (Err Store) e = refl
+acc_firm (Err State) e = refl
+acc_firm (Err Area) e = refl
+acc_firm (Err Done) e = refl
+acc_firm (Err (Wait b)) e = absurd (true≢false (sym e))
+acc_firm (Err (Floating n)) e = refl
+acc_firm (Err (Range n)) e = refl
+acc_firm (Err (Unbalanced n)) e = refl
+acc_firm (Err (History b)) e = refl
 
 pub step_firm : {x : Advance} → StepRefusal x → (firm x ≡ true) × (accepted x ≡ false)
 step_firm floating14 = (refl, refl)
@@ -245,7 +246,7 @@ module _ (net : Words) (network : is_network net ≡ true) where
     pub took : Taken N a m i.good
     took = Outcome.taken N a m i.good (rw (called a m i) at ok)
 
-    pub call_is : advance_of net a m ≡ advanced (Took (step_of N a m)) (next a m i took)
+    pub call_is : advance_of net a m ≡ advanced (Ok (step_of N a m)) (next a m i took)
     call_is = called a m i ∙ took.is
 
     pub moved : (advance_of net a m).after ≡ next a m i took

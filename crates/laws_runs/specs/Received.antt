@@ -1,10 +1,10 @@
 -- What a line end sent in a run: of the steps that its area has taken, the last are in their slots, each as it stood right after that accepted step.
 -- Assumes nothing.
+use Rattle.std.specs.Prelude.{Ok}
 use Rattle.std.specs.Prelude.{◌+◌, ◌%◌, ◌≤◌, ◌<◌, ◌≡◌, ◌≢◌, ◌∷◌, ◌++◌}
 use Rattle.whole.specs.Plain.{ℕ, suc, refl, sym, ap, ◌∙◌, subst, Bool, true, false}
 use Rattle.whole.specs.Plain.{List, [], append_assoc, append-nil, ℤ, length, append_snoc, mod-lt, ℕ_discrete}
 use Rattle.whole.specs.Plain.{arith, Words, word}
-use Rattle.paper.specs.declared.Advance.TheVariants.{Took}
 use Rattle.whole.specs.Folds.{and_left}
 use Rattle.paper.specs.Answers.{accepted}
 use Rattle.paper.specs.Rows.{Row, is_line, from, to}
@@ -54,7 +54,7 @@ pub record StepIn (net : Words) (m : Memory) (w : List ℕ) (b x : ℕ) : Type 0
   pub before : List ℕ
   pub behind : List ℕ
   pub calls : w ≡ before ++ (b ∷ behind)
-  pub answer : (advance_of net b (after net before m)).answer ≡ Took x
+  pub answer : (advance_of net b (after net before m)).answer ≡ Ok x
 
 -- the memory right after it
 abbrev pub right_after : (net : Words) (m : Memory) (w : List ℕ) (b x : ℕ) → StepIn net m w b x → Memory
@@ -165,7 +165,7 @@ module _ (net : Words) (lent : Memory) (ok : Lent net lent) where
           let k = suc (count_of m.records b) in
           let is : step_of N c m ≡ k = ap (λ (a : ℕ). suc (count_of m.records a)) d in
           let q : count_of n.records b ≡ k = ap (λ (m : Memory). count_of m.records b) mv ∙ subst (λ (a : ℕ). count_of (next net ok.network c m (inv w) t).records a ≡ step_of N c m) d (own_count net ok.network c m (inv w) t) ∙ is in
-          let took_it : (advance_of net b m).answer ≡ Took k = rw d at (ap (λ (r : Advanced). r.answer) (call_is net ok.network c m (inv w) e)) in
+          let took_it : (advance_of net b m).answer ≡ Ok k = rw d at (ap (λ (r : Advanced). r.answer) (call_is net ok.network c m (inv w) e)) in
           let new : Sent' k (slot (store_of s n) (offset N i) (slots_at N i) k) = record {
             step = record { before = w; behind = []; calls = ap (λ (a : ℕ). w ++ (a ∷ [])) d; answer = took_it };
             value = ap (λ (a : ℕ). word (store_of s (advance_of net a m).after) (slot_of N i k)) d;

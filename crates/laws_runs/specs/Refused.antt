@@ -3,7 +3,7 @@
 use Rattle.std.specs.Prelude.{◌+◌, ◌≤◌, ◌≡◌, ◌≢◌, ◌&&◌, ◌∷◌}
 use Rattle.whole.specs.Plain.{ℕ, suc, refl, sym, ap, ◌∙◌, subst, Bool, true, false, List, []}
 use Rattle.whole.specs.Plain.{eqb, length, eqb-true, eqb-false, arith, Words, nat}
-use Rattle.paper.specs.declared.Advance.{Advance}
+use Rattle.paper.specs.Replies.{Advance}
 use Rattle.paper.specs.Limits as Limits
 use Rattle.paper.specs.Answers.{accepted, advance_number}
 use Rattle.paper.specs.Rows.{from, to}

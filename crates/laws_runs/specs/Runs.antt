@@ -1,7 +1,7 @@
 -- A run: any list of area numbers, called one after the other from a reset, refused calls among them. Assumes nothing.
 use Rattle.std.specs.Prelude.{◌≡◌, ◌&&◌, ◌∷◌}
 use Rattle.whole.specs.Plain.{ℕ, Bool, true, not, List, [], eqb, length, Words}
-use Rattle.paper.specs.declared.Advance.{Advance}
+use Rattle.paper.specs.Replies.{Advance}
 use Rattle.paper.specs.Answers.{accepted, advance_number}
 use Rattle.paper.specs.Network.{is_network}
 use Rattle.paper.specs.Areas.{Net}

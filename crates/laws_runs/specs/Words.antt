@@ -3,7 +3,7 @@
 use Rattle.std.specs.Prelude.{◌≡◌, ◌&&◌, ◌∷◌}
 use Rattle.whole.specs.Plain.{ℕ, suc, refl, sym, ap, ◌∙◌, fun_ext, Bool, true, false, cond, List, []}
 use Rattle.whole.specs.Plain.{eqb, ℤ, length, eqb-true, Words, z}
-use Rattle.paper.specs.declared.Advance.{Advance}
+use Rattle.paper.specs.Replies.{Advance}
 use Rattle.paper.specs.Answers.{accepted}
 use Rattle.paper.specs.Network.{is_network}
 use Rattle.paper.specs.Legs.{Heard}

@@ -1,4 +1,5 @@
 -- T-network: a record passes the check of refusal 8 exactly when some text is read to it. Assumes nothing.
+use Rattle.std.specs.Prelude.{Ok, Err}
 use Rattle.std.specs.Prelude.{◌+◌, ◌*◌, ◌≤◌, ◌<◌, ◌≡◌, ◌≢◌, ◌↔◌, ◌&&◌, ◌∷◌, ◌++◌}
 use Rattle.whole.specs.Plain.{ℕ, zero, suc, refl, sym, ap, ◌∙◌, subst, Bool, true}
 use Rattle.whole.specs.Plain.{false, cond, not, bool_beq, true≢false, List, [], map, append_assoc}
@@ -6,7 +7,7 @@ use Rattle.whole.specs.Plain.{append-nil, eqb, leb, ltb, length, get_or, take, d
 use Rattle.whole.specs.Plain.{length-take, length-map, length-replicate, eqb-true, eq-eqb, le-ltb, le-leb, ℕ_discrete}
 use Rattle.whole.specs.Plain.{arith, Words, z, nat, every, empty, fold}
 use Rattle.whole.specs.Folds.{and_right, both, every_append, every_map, every_if}
-use Rattle.paper.specs.declared.Reading.TheVariants.{Read, Size, Store}
+use Rattle.paper.specs.declared.Unread.TheVariants.{Size, Store}
 use Rattle.paper.specs.Limits as Limits
 use Rattle.paper.specs.Rows.{Row, no_kind, fields_of, kind, is_study}
 use Rattle.paper.specs.Faults.{row_fault}
@@ -126,11 +127,11 @@ module _ (net : Words) (e : is_network net ≡ true) where
   lines_of_lem = spelling_read (head ∷ rows) (spell_text (head ∷ rows)) (record { some = omega arith; lines = said; is = refl }) ∙ replayed_read [] (head ∷ rows) pass
 
   -- whatever stands in the record that is lent, reading the spelling of the network's own lines writes the network
-  pub network_read : (lent : Words) → length lent ≡ Limits.network_words → read_of (spell_text (table_of net)) lent ≡ read_out Read net
+  pub network_read : (lent : Words) → length lent ≡ Limits.network_words → read_of (spell_text (table_of net)) lent ≡ read_out (Ok tt) net
   unfolding read_of table_of
   network_read lent h =
       rw (eq-eqb (length lent) Limits.network_words h, le-ltb Limits.text_end (length (spell_text (head ∷ rows))) (omega (arith, text_fits)), lines_of_lem)
-      (ap (read_out Read) (sym (recorded net e).written))
+      (ap (read_out (Ok tt)) (sym (recorded net e).written))
 
 -- ---- both ways
 
@@ -138,7 +139,7 @@ module _ (net : Words) (e : is_network net ≡ true) where
 pub record ReadFrom (net : Words) : Type 0 where
   pub text : List ℕ
   pub lent : Words
-  pub reads : read_of text lent ≡ read_out Read net
+  pub reads : read_of text lent ≡ read_out (Ok tt) net
 
 faulty_number : (l f : ℕ) → reading_number (faulty l f) ≢ 0
 unfolding faulty
@@ -150,17 +151,17 @@ pub record Took (text : List ℕ) (net : Words) : Type 0 where
   pub lines : lines_of text ≡ good table
   pub is : net ≡ network_of table
 
-pub read_took : (text : List ℕ) (lent net : Words) → read_of text lent ≡ read_out Read net → Took text net
+pub read_took : (text : List ℕ) (lent net : Words) → read_of text lent ≡ read_out (Ok tt) net → Took text net
 unfolding read_of
 read_took text lent net e = go (not (eqb (length lent) Limits.network_words)) (ltb Limits.text_end (length text)) (lines_of text) refl e
   where
-    go : (a b : Bool) (l : Lines) → lines_of text ≡ l → cond a (read_out Store lent) (cond b (read_out Size lent) (read_end lent l)) ≡ read_out Read net → Took text net
+    go : (a b : Bool) (l : Lines) → lines_of text ≡ l → cond a (read_out (Err Store) lent) (cond b (read_out (Err Size) lent) (read_end lent l)) ≡ read_out (Ok tt) net → Took text net
     go true b l q h = let x : ◌≡◌ {A = ℕ} 9 0 = ap (λ (r : Read-out). reading_number r.answer) h in absurd (omega arith)
     go false true l q h = let x : ◌≡◌ {A = ℕ} 7 0 = ap (λ (r : Read-out). reading_number r.answer) h in absurd (omega arith)
     go false false (good t) q h = record { table = t; lines = q; is = sym (ap (λ (r : Read-out). r.network) h) }
     go false false (bad l f) q h = absurd (faulty_number l f (ap (λ (r : Read-out). reading_number r.answer) h))
 
-pub read_network : (text : List ℕ) (lent net : Words) → read_of text lent ≡ read_out Read net → is_network net ≡ true
+pub read_network : (text : List ℕ) (lent net : Words) → read_of text lent ≡ read_out (Ok tt) net → is_network net ≡ true
 read_network text lent net e = let w = read_took text lent net e in subst (λ (x : Words). is_network x ≡ true) (sym w.is) (lines_network text w.table w.lines)
 
 pub network_exactly : (net : Words) → (is_network net ≡ true) ↔ ReadFrom net

@@ -4,10 +4,11 @@ use Rattle.whole.specs.Plain.{ℕ, zero, suc, refl, sym, ap, ◌∙◌, Bool, tr
 use Rattle.whole.specs.Plain.{bool_beq, true≢false, List, [], map, tail, append_assoc, append-nil, eqb, ltb}
 use Rattle.whole.specs.Plain.{lit≤, length, get_or, ne_eqb, arith, Words, empty, lead, final, fold}
 use Rattle.whole.specs.Folds.{both, fold_keeps}
-use Rattle.paper.specs.declared.Reading.{Reading}
-use Rattle.paper.specs.declared.Reading.TheVariants.{Double, Full}
+use Rattle.paper.specs.declared.Fault.{Fault}
+use Rattle.paper.specs.declared.Fault.TheVariants.{Double, Full}
 use Rattle.paper.specs.Limits as Limits
 use Rattle.paper.specs.Rows.{Row, is_study}
+use Rattle.paper.specs.Faulted.{fault_number}
 use Rattle.paper.specs.Faults.{node_fault, value_fault, travel_fault, double_fault, full_fault, line_fault, row_fault}
 use Rattle.paper.specs.Text.{LF, split, formed, row_of}
 use Rattle.paper.specs.Network.{Table}
@@ -125,15 +126,15 @@ taken_spelt text t e =
 
 -- ---- no FORM in a spelling
 
-fault_number : (b : Bool) (n m : ℕ) → m ≢ 1 → cond b (suc (suc n)) m ≢ 1
-fault_number b n m h = either (λ (f : ℕ). f ≢ 1) b (suc (suc n)) m (λ e. omega arith) h
+row_fault_number : (b : Bool) (n m : ℕ) → m ≢ 1 → cond b (suc (suc n)) m ≢ 1
+row_fault_number b n m h = either (λ (f : ℕ). f ≢ 1) b (suc (suc n)) m (λ e. omega arith) h
 
 row_no_form : (seen : Table) (r : Row) → row_fault seen r ≢ 1
 unfolding row_fault line_fault
 row_no_form seen r =
     let head = get_or seen 0 [] in
-    fault_number (node_fault r) 0 _
-    (fault_number (value_fault head r) 1 _ (fault_number (travel_fault head r) 2 _ (fault_number (double_fault (tail seen) r) 3 _ (fault_number (full_fault head (tail seen) r) 4 0 (λ e. omega arith)))))
+    row_fault_number (node_fault r) 0 _
+    (row_fault_number (value_fault head r) 1 _ (row_fault_number (travel_fault head r) 2 _ (row_fault_number (double_fault (tail seen) r) 3 _ (row_fault_number (full_fault head (tail seen) r) 4 0 (λ e. omega arith)))))
 
 OtherThanForm : Lines → Type 0
 OtherThanForm (good t) = Unit {0}
@@ -147,8 +148,8 @@ read_other (bad l f) r p = p
 pub faulty_other : (l f : ℕ) → f ≢ 1 → 2 ≤ reading_number (faulty l f)
 unfolding faulty
 faulty_other l f h =
-    let P : Reading → Type 0 = λ x. 2 ≤ reading_number x in
-    rw (ne_eqb f 1 h) (either P (eqb f 2) _ _ (lit≤ tt) (either P (eqb f 3) _ _ (lit≤ tt) (either P (eqb f 4) _ _ (lit≤ tt) (either P (eqb f 5) (Double l) (Full l) (lit≤ tt) (lit≤ tt)))))
+    let P : Fault → Type 0 = λ x. 2 ≤ fault_number x in
+    rw (ne_eqb f 1 h) (either P (eqb f 2) _ _ (lit≤ tt) (either P (eqb f 3) _ _ (lit≤ tt) (either P (eqb f 4) _ _ (lit≤ tt) (either P (eqb f 5) Double Full (lit≤ tt) (lit≤ tt)))))
 
 end_other : (net : Words) (x : Lines) → OtherThanForm x → reading_number (read_end net x).answer ≢ 1
 unfolding OtherThanForm

@@ -1,12 +1,12 @@
 -- T-write, K1: "Reading what it wrote gives the same record, and writing what was read gives the same bytes, since the text has one spelling for each
 -- network." Assumes nothing.
+use Rattle.std.specs.Prelude.{Ok, Err}
 use Rattle.std.specs.Prelude.{◌≤◌, ◌≡◌, ◌||◌, ◌∷◌, ◌++◌}
 use Rattle.whole.specs.Plain.{ℕ, refl, sym, ap, ◌∙◌, Bool, true, false, cond, not, List, []}
 use Rattle.whole.specs.Plain.{map, tail, append_assoc, eqb, ltb, ℤ, nat_abs, length, take, drop, take_at, length-append}
 use Rattle.whole.specs.Plain.{eq-eqb, le-ltb, leb-true, arith, Words, every}
 use Rattle.whole.specs.Folds.{and_left, and_right}
-use Rattle.paper.specs.declared.Reading.TheVariants.{Read}
-use Rattle.paper.specs.declared.Writing.TheVariants.{Wrote, Network, Store}
+use Rattle.paper.specs.declared.Unfit.TheVariants.{Network, Store}
 use Rattle.paper.specs.Limits as Limits
 use Rattle.paper.specs.Rows.{Row, kind, word_of}
 use Rattle.paper.specs.Text.{LF, TAB}
@@ -61,7 +61,7 @@ module _ (net : Words) (e : is_network net ≡ true) where
   pub written_fits : length (text_of (table_of net)) ≤ Limits.study_bytes
   written_fits = rw text_spelt (text_fits net e)
 
-  written_read : (lent : Words) → length lent ≡ Limits.network_words → read_of (text_of (table_of net)) lent ≡ read_out Read net
+  written_read : (lent : Words) → length lent ≡ Limits.network_words → read_of (text_of (table_of net)) lent ≡ read_out (Ok tt) net
   written_read lent h = rw text_spelt (network_read net e lent h)
 
   pub write_takes : (out : List ℕ) → Limits.study_bytes ≤ length out → write_of net out ≡ over (text_of (table_of net)) out
@@ -69,7 +69,7 @@ module _ (net : Words) (e : is_network net ≡ true) where
   write_takes out h = rw (eq-eqb (length net) Limits.network_words (network_length net e), le-ltb (length out) Limits.study_bytes h, e)
 
 -- the text that a network is read from is the one that is written
-pub read_text : (text : List ℕ) (lent net : Words) → read_of text lent ≡ read_out Read net → text_of (table_of net) ≡ text
+pub read_text : (text : List ℕ) (lent net : Words) → read_of text lent ≡ read_out (Ok tt) net → text_of (table_of net) ≡ text
 read_text text lent net e =
     let w = read_took text lent net e in
     let t = taken_spelt text w.table w.lines in
@@ -86,19 +86,19 @@ pub record Accepted (net : Words) (out : List ℕ) (n : ℕ) : Type 0 where
   pub count : n ≡ length (text_of (table_of net))
   pub is : write_of net out ≡ over (text_of (table_of net)) out
 
-pub write_accepted : (net : Words) (out : List ℕ) (n : ℕ) → (write_of net out).answer ≡ Wrote n → Accepted net out n
+pub write_accepted : (net : Words) (out : List ℕ) (n : ℕ) → (write_of net out).answer ≡ Ok n → Accepted net out n
 unfolding write_of
 write_accepted net out n e = go _ _ refl refl e
   where
     go : (a b : Bool) → (not (eqb (length net) Limits.network_words) || ltb (length out) Limits.study_bytes) ≡ a → is_network net ≡ b
-        → (cond a (written_out Store out) (cond (not b) (written_out Network out) (over (text_of (table_of net)) out))).answer ≡ Wrote n → Accepted net out n
+        → (cond a (written_out (Err Store) out) (cond (not b) (written_out (Err Network) out) (over (text_of (table_of net)) out))).answer ≡ Ok n → Accepted net out n
     go true b p q h = let x : ◌≡◌ {A = ℕ} 9 0 = ap writing_number h in absurd (omega arith)
     go false false p q h = let x : ◌≡◌ {A = ℕ} 8 0 = ap writing_number h in absurd (omega arith)
     go false true p q h = record { network = q; count = cc; is = rw (p, q) }
 
 -- "Reading what it wrote gives the same record", whatever the area and the record that is read into held before
-pub write_read : (net : Words) (out : List ℕ) (n : ℕ) (lent : Words) → (write_of net out).answer ≡ Wrote n → length lent ≡ Limits.network_words
-    → read_of (take n (write_of net out).out) lent ≡ read_out Read net
+pub write_read : (net : Words) (out : List ℕ) (n : ℕ) (lent : Words) → (write_of net out).answer ≡ Ok n → length lent ≡ Limits.network_words
+    → read_of (take n (write_of net out).out) lent ≡ read_out (Ok tt) net
 write_read net out n lent e h =
     let w = write_accepted net out n e in
     let t = text_of (table_of net) in
@@ -106,11 +106,11 @@ write_read net out n lent e h =
     rw b (written_read net w.network lent h)
 
 -- "writing what was read gives the same bytes": all of them, and behind them what stood there
-pub read_write : (text : List ℕ) (lent net : Words) (out : List ℕ) → read_of text lent ≡ read_out Read net → Limits.study_bytes ≤ length out
+pub read_write : (text : List ℕ) (lent net : Words) (out : List ℕ) → read_of text lent ≡ read_out (Ok tt) net → Limits.study_bytes ≤ length out
     → write_of net out ≡ over text out
 read_write text lent net out e h =
     write_takes net (read_network text lent net e) out h ∙ ap (λ (t : List ℕ). over t out) (read_text text lent net e)
 
 -- "the text has one spelling for each network"
-pub one_text : (text text' : List ℕ) (lent lent' net : Words) → read_of text lent ≡ read_out Read net → read_of text' lent' ≡ read_out Read net → text ≡ text'
+pub one_text : (text text' : List ℕ) (lent lent' net : Words) → read_of text lent ≡ read_out (Ok tt) net → read_of text' lent' ≡ read_out (Ok tt) net → text ≡ text'
 one_text text text' lent lent' net e f = sym (read_text text lent net e) ∙ read_text text' lent' net f

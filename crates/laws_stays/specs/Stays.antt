@@ -2,7 +2,7 @@
 use Rattle.std.specs.Prelude.{◌+◌, ◌≤◌, ◌<◌, ◌≡◌, ◌≢◌, ◌||◌}
 use Rattle.whole.specs.Plain.{ℕ, zero, suc, max, refl, sym, ap, Bool, true, false, cond, List}
 use Rattle.whole.specs.Plain.{true≢false, eqb, ℤ, pos, negsuc, nat_abs, lt_z, non_neg, length, replicate, ltb-false, ℕ_discrete, arith, Words, z, word, nat}
-use Rattle.paper.specs.declared.Advance.{Advance}
+use Rattle.paper.specs.declared.Refusal.{Refusal}
 use Rattle.paper.specs.Limits as Limits
 use Rattle.paper.specs.Rows.{is_breaker, from, to}
 use Rattle.paper.specs.Areas.{Net, area_of, area_count, row_area}
@@ -142,5 +142,5 @@ module _ (N : Net) (f : Sound N) (m : Memory) (long : Long m) (a k : ℕ) (one :
 
 -- ---- the step
 
-pub stop_move : {x : Advance} {bs : List Branch} {v : Words} → stop x ≡ move bs v → ⊥
+pub stop_move : {x : Refusal} {bs : List Branch} {v : Words} → stop x ≡ move bs v → ⊥
 stop_move e = let z : ◌≡◌ {A = ℕ} 0 1 = cc in omega arith

@@ -1,12 +1,12 @@
 -- "Check it against versions that refuse all calls, give one fixed voltage, write nothing, advance properly once and then repeat step 1, or raise
 -- the count unearned: demand 2 shuts out each". Assumes nothing.
+use Rattle.std.specs.Prelude.{Ok}
 use Rattle.std.specs.Prelude.{◌+◌, ◌-◌, ◌≤◌, ◌<◌, ◌≡◌, ◌∷◌, ◌++◌}
 use Rattle.whole.specs.Plain.{ℕ, suc, refl, sym, ap, ◌∙◌, Bool, true, false, not, true≢false, List, []}
 use Rattle.whole.specs.Plain.{map, eqb, ℤ, pos, nat_abs, get_or, take, drop, replicate, get_or-take, get_or-drop, eq-eqb}
 use Rattle.whole.specs.Plain.{not-true, arith, Words, z, word, every, numbers}
 use Rattle.whole.specs.Folds.{every_at, get_d_numbers, length_numbers}
-use Rattle.paper.specs.declared.Advance.{Advance}
-use Rattle.paper.specs.declared.Advance.TheVariants.{Took}
+use Rattle.paper.specs.Replies.{Advance}
 use Rattle.paper.specs.Answers.{accepted}
 use Rattle.paper.specs.Rows.{Row}
 use Rattle.paper.specs.Network.{network_of}
@@ -39,11 +39,11 @@ twice = (advance_of (joined 1) 1 once).after
 abbrev other : Memory
 other = (advance_of (joined 17) 17 fresh).after
 
-first_step : (advance_of (joined 1) 1 fresh).answer ≡ Took 1
+first_step : (advance_of (joined 1) 1 fresh).answer ≡ Ok 1
 unfolding computing
 first_step = refl
 
-other_step : (advance_of (joined 17) 17 fresh).answer ≡ Took 1
+other_step : (advance_of (joined 17) 17 fresh).answer ≡ Ok 1
 unfolding computing
 other_step = refl
 
@@ -107,26 +107,26 @@ refuse_all_not F none M = true≢false (sym (ap accepted (answers F M (joined 1)
 
 -- some word of the voltages is the same after every call that it accepts
 pub fixed_voltage_not : (F : Version) (p : ℕ) (c : ℤ) → 1 ≤ p → p ≤ 32
-    → ((net : Words) (a : ℕ) (m : Memory) (x : ℕ) → (F net a m).answer ≡ Took x → word (F net a m).after.records (volt_at (net_in net) p) ≡ c) → Meets F → ⊥
+    → ((net : Words) (a : ℕ) (m : Memory) (x : ℕ) → (F net a m).answer ≡ Ok x → word (F net a m).after.records (volt_at (net_in net) p) ≡ c) → Meets F → ⊥
 fixed_voltage_not F p c one most same M =
     let e : word front (p - 1) ≡ word back (p - 1) = held (joined 1) 1 front first_step first_volts ∙ sym (held (joined 17) 17 back other_step other_volts) in
     true≢false (sym (eq-eqb _ _ (ap nat_abs e)) ∙ not-true _ (differ (p - 1) (omega arith)))
   where
-    held : (net : Words) (a : ℕ) (v : Words) → (advance_of net a fresh).answer ≡ Took 1 → volts (advance_of net a fresh).after ≡ v → word v (p - 1) ≡ c
+    held : (net : Words) (a : ℕ) (v : Words) → (advance_of net a fresh).answer ≡ Ok 1 → volts (advance_of net a fresh).after ≡ v → word v (p - 1) ≡ c
     held net a v e q =
         let at : 32 + (p - 1) ≡ volt_at (net_in net) p = omega arith in
         rw (← q, get_or-take 32 (drop 32 (advance_of net a fresh).after.records) (p - 1) z (omega arith), get_or-drop, at, ← leaves F M net a fresh)
         (same net a fresh 1 (answers F M net a fresh e))
 
 -- it writes nothing where it accepts
-pub write_nothing_not : (F : Version) → ((net : Words) (a : ℕ) (m : Memory) (x : ℕ) → (F net a m).answer ≡ Took x → (F net a m).after ≡ m) → Meets F → ⊥
+pub write_nothing_not : (F : Version) → ((net : Words) (a : ℕ) (m : Memory) (x : ℕ) → (F net a m).answer ≡ Ok x → (F net a m).after ≡ m) → Meets F → ⊥
 write_nothing_not F none M =
     let e : once ≡ fresh = sym (leaves F M (joined 1) 1 fresh) ∙ none (joined 1) 1 fresh 1 (answers F M (joined 1) 1 fresh first_step) in
     let q : ◌≡◌ {A = ℕ} 1 0 = sym first_count ∙ ap (λ (m : Memory). count_of m.records 1) e ∙ no_count in
     omega arith
 
 -- once it has taken an area's step 1 from a reset, its next call leaves what step 1 left
-pub repeat_first_not : (F : Version) → ((net : Words) (a : ℕ) → (F net a fresh).answer ≡ Took 1 → (F net a (F net a fresh).after).after ≡ (F net a fresh).after) → Meets F → ⊥
+pub repeat_first_not : (F : Version) → ((net : Words) (a : ℕ) → (F net a fresh).answer ≡ Ok 1 → (F net a (F net a fresh).after).after ≡ (F net a fresh).after) → Meets F → ⊥
 repeat_first_not F again M =
     let e : twice ≡ once = sym (leaves F M (joined 1) 1 once) ∙ rw (leaves F M (joined 1) 1 fresh) at (again (joined 1) 1 (answers F M (joined 1) 1 fresh first_step)) in
     let q : ◌≡◌ {A = ℕ} 2 1 = sym second_count ∙ ap (λ (m : Memory). count_of m.records 1) e ∙ first_count in

@@ -1,10 +1,10 @@
 -- K3: peaks while running, worked. Assumes nothing.
+use Rattle.std.specs.Prelude.{Ok, Err}
 use Rattle.std.specs.Prelude.{◌≡◌, ◌∷◌}
 use Rattle.whole.specs.Plain.{ℕ, refl, List, [], map, pos, negsuc, replicate, set, Words, z}
-use Rattle.paper.specs.declared.Reading.TheVariants.{Read}
-use Rattle.paper.specs.declared.Advance.TheVariants.{Took, State, Wait}
-use Rattle.paper.specs.declared.Looking.{Looking}
-use Rattle.paper.specs.declared.Looking.TheVariants as Look
+use Rattle.paper.specs.declared.Refusal.TheVariants.{State, Wait}
+use Rattle.paper.specs.Replies.{Looking, told_of}
+use Rattle.paper.specs.declared.Unlooked.TheVariants as Look
 use Rattle.paper.specs.Limits as Limits
 use Rattle.paper.specs.Reading.{read_of}
 use Rattle.paper.specs.Resetting.{fresh}
@@ -17,28 +17,28 @@ use Rattle.paper.proofs.Cases.{Lending, lends, in_records, put_on, lent_again, p
 
 -- areas 1 and 2 at a step, and the peak of node 2 after the second
 abbrev both : ℕ → ℕ → ℕ → List Call → List Call
-both k p s rest = call 1 (Took k) (peaks 1 (pos 1000) (pos 1) ∷ []) ∷ call 2 (Took k) (peaks 2 (pos p) (pos s) ∷ []) ∷ rest
+both k p s rest = call 1 (Ok k) (peaks 1 (pos 1000) (pos 1) ∷ []) ∷ call 2 (Ok k) (peaks 2 (pos p) (pos s) ∷ []) ∷ rest
 
 -- areas 1 to 3 at a step
 abbrev all : ℕ → List Call → List Call
-all k rest = call 1 (Took k) [] ∷ call 2 (Took k) [] ∷ call 3 (Took k) [] ∷ rest
+all k rest = call 1 (Ok k) [] ∷ call 2 (Ok k) [] ∷ call 3 (Ok k) [] ∷ rest
 
 unfoldable pub peak_cases : List Example
 peak_cases =
     -- E5: node 2 is 2000 from step 3 to 6 and 0 after them
-    runs (lines ("study 1000 8 0" ∷ "VS 1 1000 1 0" ∷ "LINE 1 2 400000 2000" ∷ [])) Read
+    runs (lines ("study 1000 8 0" ∷ "VS 1 1000 1 0" ∷ "LINE 1 2 400000 2000" ∷ [])) (Ok tt)
     (both 1 0 1 (both 2 0 1 (both 3 2000 3 (both 4 2000 3 (both 5 2000 3 (both 6 2000 3 (both 7 2000 3 (both 8 2000 3 []))))))))
     -- a magnitude has no sign, and a node at rest has its peak of 0 at step 1
-    ∷ runs (lines ("study 1000 4 0" ∷ "VS 1 -300 2 3" ∷ "R 1 0 1000000" ∷ [])) Read
-    (call 1 (Took 1) (peaks 1 z (pos 1) ∷ []) ∷ call 1 (Took 2) (peaks 1 z (pos 1) ∷ [])
-    ∷ call 1 (Took 3) (peaks 1 (pos 100) (pos 3) ∷ []) ∷ call 1 (Took 4) (peaks 1 (pos 200) (pos 4) ∷ []) ∷ [])
+    ∷ runs (lines ("study 1000 4 0" ∷ "VS 1 -300 2 3" ∷ "R 1 0 1000000" ∷ [])) (Ok tt)
+    (call 1 (Ok 1) (peaks 1 z (pos 1) ∷ []) ∷ call 1 (Ok 2) (peaks 1 z (pos 1) ∷ [])
+    ∷ call 1 (Ok 3) (peaks 1 (pos 100) (pos 3) ∷ []) ∷ call 1 (Ok 4) (peaks 1 (pos 200) (pos 4) ∷ []) ∷ [])
     -- a peak stays where the voltage has fallen again, and one area's step leaves the others' peaks
-    ∷ runs (lines ("study 1000 6 0" ∷ "VS 1 1000 1 0" ∷ "LINE 1 2 400000 1000" ∷ "LINE 2 3 400000 1000" ∷ [])) Read
-    (all 1 (all 2 (all 3 (all 4 (all 5 (call 1 (Took 6) [] ∷ call 2 (Took 6) (volts 2 (pos 1000) ∷ []) ∷ call 3 (Took 6)
+    ∷ runs (lines ("study 1000 6 0" ∷ "VS 1 1000 1 0" ∷ "LINE 1 2 400000 1000" ∷ "LINE 2 3 400000 1000" ∷ [])) (Ok tt)
+    (all 1 (all 2 (all 3 (all 4 (all 5 (call 1 (Ok 6) [] ∷ call 2 (Ok 6) (volts 2 (pos 1000) ∷ []) ∷ call 3 (Ok 6)
     (peaks 1 (pos 1000) (pos 1) ∷ peaks 2 (pos 2000) (pos 4) ∷ peaks 3 (pos 2000) (pos 3) ∷ []) ∷ []))))))
     -- "before any step both are 0", and a refused step changes none
-    ∷ runs (lines ("study 1000 8 0" ∷ "VS 1 1000 1 0" ∷ "LINE 1 2 400000 2000" ∷ [])) Read
-    (call 1 (Took 1) (peaks 2 z z ∷ []) ∷ call 1 (Took 2) [] ∷ call 1 (Wait 1) (peaks 1 (pos 1000) (pos 1) ∷ peaks 2 z z ∷ []) ∷ [])
+    ∷ runs (lines ("study 1000 8 0" ∷ "VS 1 1000 1 0" ∷ "LINE 1 2 400000 2000" ∷ [])) (Ok tt)
+    (call 1 (Ok 1) (peaks 2 z z ∷ []) ∷ call 1 (Ok 2) [] ∷ call 1 (Err (Wait 1)) (peaks 1 (pos 1000) (pos 1) ∷ peaks 2 z z ∷ []) ∷ [])
     ∷ []
 
 pub peaks_hold : map replay peak_cases ≡ peak_cases
@@ -49,19 +49,19 @@ peaks_hold = refl
 -- peak's step, and word 0 its area's count
 unfoldable pub peak_lendings : List Lending
 peak_lendings =
-    lends plain (in_records 304 (pos 20000000) ∷ []) 1 (Took 1) ∷ lends plain (in_records 304 (pos 20000001) ∷ []) 1 State
-    ∷ lends plain (in_records 304 (negsuc 0) ∷ []) 1 State
-    ∷ lends plain (in_records 32 (negsuc 4) ∷ in_records 304 (pos 5) ∷ []) 1 (Took 1)
-    ∷ lends plain (in_records 32 (negsuc 4) ∷ in_records 304 (pos 4) ∷ []) 1 State ∷ lends plain (in_records 32 (pos 5) ∷ in_records 304 (pos 4) ∷ []) 1 State
-    ∷ lends plain (in_records 0 (pos 8) ∷ in_records 336 (pos 8) ∷ []) 1 (Took 9) ∷ lends plain (in_records 0 (pos 8) ∷ in_records 336 (pos 9) ∷ []) 1 State
-    ∷ lends plain (in_records 0 (pos 8) ∷ in_records 336 (negsuc 0) ∷ []) 1 State
+    lends plain (in_records 304 (pos 20000000) ∷ []) 1 (Ok 1) ∷ lends plain (in_records 304 (pos 20000001) ∷ []) 1 (Err State)
+    ∷ lends plain (in_records 304 (negsuc 0) ∷ []) 1 (Err State)
+    ∷ lends plain (in_records 32 (negsuc 4) ∷ in_records 304 (pos 5) ∷ []) 1 (Ok 1)
+    ∷ lends plain (in_records 32 (negsuc 4) ∷ in_records 304 (pos 4) ∷ []) 1 (Err State) ∷ lends plain (in_records 32 (pos 5) ∷ in_records 304 (pos 4) ∷ []) 1 (Err State)
+    ∷ lends plain (in_records 0 (pos 8) ∷ in_records 336 (pos 8) ∷ []) 1 (Ok 9) ∷ lends plain (in_records 0 (pos 8) ∷ in_records 336 (pos 9) ∷ []) 1 (Err State)
+    ∷ lends plain (in_records 0 (pos 8) ∷ in_records 336 (negsuc 0) ∷ []) 1 (Err State)
     -- a step of 0 beside a count passes
-    ∷ lends plain (in_records 0 (pos 8) ∷ in_records 304 (pos 7) ∷ []) 1 (Took 9)
+    ∷ lends plain (in_records 0 (pos 8) ∷ in_records 304 (pos 7) ∷ []) 1 (Ok 9)
     -- the count is that of the node's area
-    ∷ lends wired (in_records 1 (pos 2) ∷ in_records 337 (pos 2) ∷ []) 1 (Took 1) ∷ lends wired (in_records 1 (pos 2) ∷ in_records 336 (pos 2) ∷ []) 1 State
+    ∷ lends wired (in_records 1 (pos 2) ∷ in_records 337 (pos 2) ∷ []) 1 (Ok 1) ∷ lends wired (in_records 1 (pos 2) ∷ in_records 336 (pos 2) ∷ []) 1 (Err State)
     -- a peak and a step of no node, and the words past the last section
-    ∷ lends plain (in_records 305 (pos 1) ∷ []) 1 State ∷ lends plain (in_records 337 (pos 1) ∷ []) 1 State
-    ∷ lends plain (in_records 448 (pos 1) ∷ []) 1 State ∷ lends plain (in_records 1023 (pos 1) ∷ []) 1 State
+    ∷ lends plain (in_records 305 (pos 1) ∷ []) 1 (Err State) ∷ lends plain (in_records 337 (pos 1) ∷ []) 1 (Err State)
+    ∷ lends plain (in_records 448 (pos 1) ∷ []) 1 (Err State) ∷ lends plain (in_records 1023 (pos 1) ∷ []) 1 (Err State)
     ∷ []
 
 pub peak_lendings_hold : map lent_again peak_lendings ≡ peak_lendings
@@ -72,7 +72,7 @@ peak_lendings_hold = refl
 unfoldable pub asked_of : List ℕ → Words → ℕ → Looking
 asked_of text recs n = look_of (read_of text (replicate Limits.network_words z)).network recs n
 
-pub asked_hold : map (asked_of plain fresh.records) (0 ∷ 1 ∷ 2 ∷ []) ≡ (Look.Node ∷ Look.Told z 0 0 ∷ Look.Node ∷ [])
+pub asked_hold : map (asked_of plain fresh.records) (0 ∷ 1 ∷ 2 ∷ []) ≡ ((Err Look.Node) ∷ (Ok (told_of z 0 0)) ∷ (Err Look.Node) ∷ [])
 unfolding computing asked_of tabbed lines plain
 asked_hold = refl
 
@@ -80,7 +80,7 @@ asked_hold = refl
 unfoldable pub kept : Words
 kept = set (set (set (set fresh.records 1 (pos 2)) 33 (negsuc 4)) 305 (pos 7)) 337 (pos 1)
 
-pub asked_told : map (asked_of wired kept) (1 ∷ 2 ∷ 3 ∷ []) ≡ (Look.Told z 0 0 ∷ Look.Told (negsuc 4) 7 1 ∷ Look.Node ∷ [])
+pub asked_told : map (asked_of wired kept) (1 ∷ 2 ∷ 3 ∷ []) ≡ (Ok (told_of z 0 0) ∷ (Ok (told_of (negsuc 4) 7 1)) ∷ (Err Look.Node) ∷ [])
 unfolding computing asked_of tabbed lines wired kept
 asked_told = refl
 

@@ -1,15 +1,43 @@
 #![tactic(auto)]
 
-// The lines of a listing, put into a lent buffer from a place on; each function answers the next place.
-ghost use Rattle.std.specs.Prelude.{◌≡◌, [], ◌∷◌, ◌++◌, ◌+◌, ◌≤◌, pos, length};
+// The lines of a text or a listing, put into a lent buffer from a place on; each function answers the next place.
+ghost use Rattle.std.specs.Prelude.{◌≡◌, [], ◌∷◌, ◌+◌, ◌≤◌, ℤ, pos, length, map};
 ghost use Rattle.paper.specs.Rows.{bytes};
-ghost use Rattle.paper.specs.Listing.{shown_all, line_of};
+ghost use Rattle.paper.specs.Listing.{shown, shown_all, line_of};
 ghost use Rattle.list_digits.specs.Puts.{Puts};
-ghost use Rattle.list_ends.specs.Parts.{field, counts_of};
+ghost use Rattle.list_digits.specs.Pairs.{all_pairs};
+
+use list_digits::Pairs;
 
 // ---- parts of a line
 
-pub fn put_byte(out: &mut [u8], at: usize, byte: u8) -> usize
+// A number as a line has it, with a sign or without.
+pub trait Number: Copy {
+    ghost number: { Self → ℤ };
+
+    fn put(self, pairs: &Pairs, out: &mut [u8], at: usize) -> usize
+        requires { (pairs.now ≡ all_pairs) × (at + length (shown (number self)) ≤ length out.old) }
+        ensures { Puts out.old at (shown (number self)) result out.new };
+}
+
+impl Number for u64 {
+    ghost number = { pos };
+
+    #[tactic(auto, unfolding(paper::specs::Listing::shown))]
+    fn put(self, pairs: &Pairs, out: &mut [u8], at: usize) -> usize {
+        list_numerals::put_natural_by(pairs, out, at, self)
+    }
+}
+
+impl Number for i64 {
+    ghost number = { λ x. x };
+
+    fn put(self, pairs: &Pairs, out: &mut [u8], at: usize) -> usize {
+        list_numerals::put_number_by(pairs, out, at, self)
+    }
+}
+
+fn put_byte(out: &mut [u8], at: usize, byte: u8) -> usize
     requires { at + 1 ≤ length out.old }
     ensures { Puts out.old at (byte ∷ []) result out.new }
 {
@@ -17,86 +45,80 @@ pub fn put_byte(out: &mut [u8], at: usize, byte: u8) -> usize
     at + 1
 }
 
-pub fn put_word(out: &mut [u8], at: usize, word: &[u8]) -> usize
+fn put_word(out: &mut [u8], at: usize, word: &[u8]) -> usize
     requires { at + length word.now ≤ length out.old }
     ensures { Puts out.old at word.now result out.new }
 {
-    let mut i = 0;
-    while i < word.len() {
-        out[at + i] = word[i];
-        i += 1;
+    let end = at + word.len();
+    out[at..end].copy_from_slice(word);
+    end
+}
+
+// all numbers of a line, a tab before each, and its end
+fn put_numbers<N: Number>(pairs: &Pairs, numbers: &[N], out: &mut [u8], at: usize) -> usize
+    requires { (pairs.now ≡ all_pairs) × (at + length (shown_all (map N.number numbers.now)) ≤ length out.old) }
+    ensures { Puts out.old at (shown_all (map N.number numbers.now)) result out.new }
+{
+    let mut next = at;
+    for number in numbers {
+        next = put_byte(out, next, b'\t');
+        next = number.put(pairs, out, next);
     }
-    at + i
-}
-
-fn put_count(out: &mut [u8], at: usize, n: u64) -> usize
-    requires { at + length (field (pos n)) ≤ length out.old }
-    ensures { Puts out.old at (field (pos n)) result out.new }
-{
-    let next = put_byte(out, at, b'\t');
-    list_numerals::put_natural(out, next, n)
-}
-
-fn put_counts(out: &mut [u8], at: usize, a: u64, b: u64) -> usize
-    requires { at + length (counts_of a b) ≤ length out.old }
-    ensures { Puts out.old at (counts_of a b) result out.new }
-{
-    let next = put_count(out, at, a);
-    put_count(out, next, b)
-}
-
-fn put_last_count(out: &mut [u8], at: usize, n: u64) -> usize
-    requires { at + length (shown_all (pos n ∷ [])) ≤ length out.old }
-    ensures { Puts out.old at (shown_all (pos n ∷ [])) result out.new }
-{
-    let next = put_count(out, at, n);
     put_byte(out, next, b'\n')
-}
-
-fn put_last_counts(out: &mut [u8], at: usize, a: u64, b: u64) -> usize
-    requires { at + length (shown_all (pos a ∷ pos b ∷ [])) ≤ length out.old }
-    ensures { Puts out.old at (shown_all (pos a ∷ pos b ∷ [])) result out.new }
-{
-    let next = put_count(out, at, a);
-    put_last_count(out, next, b)
 }
 
 // ---- whole lines
 
+// a word and its numbers
+pub fn put_line<N: Number>(
+    pairs: &Pairs,
+    word: &[u8],
+    numbers: &[N],
+    out: &mut [u8],
+    at: usize,
+) -> usize
+    requires { (pairs.now ≡ all_pairs) × (at + length (line_of word.now (map N.number numbers.now)) ≤ length out.old) }
+    ensures { Puts out.old at (line_of word.now (map N.number numbers.now)) result out.new }
+{
+    let next = put_word(out, at, word);
+    put_numbers(pairs, numbers, out, next)
+}
+
+// a word and its counts, once
+fn put_counts(out: &mut [u8], at: usize, word: &[u8], counts: &[u64]) -> usize
+    requires { at + length (line_of word.now (map pos counts.now)) ≤ length out.old }
+    ensures { Puts out.old at (line_of word.now (map pos counts.now)) result out.new }
+{
+    let pairs = list_digits::pairs();
+    put_line(&pairs, word, counts, out, at)
+}
+
 // "It ends with `done` and the step count"
+#[tactic(auto, unfolding(paper::specs::Rows::bytes))]
 pub fn put_done(out: &mut [u8], at: usize, steps: u64) -> usize
     requires { at + length (line_of (bytes "done") (pos steps ∷ [])) ≤ length out.old }
     ensures { Puts out.old at (line_of (bytes "done") (pos steps ∷ [])) result out.new }
 {
-    let next = put_word(out, at, b"done");
-    put_last_count(out, next, steps)
-}
-
-fn put_last_four(out: &mut [u8], at: usize, a: u64, b: u64, c: u64, d: u64) -> usize
-    requires { at + length (shown_all (pos a ∷ pos b ∷ pos c ∷ pos d ∷ [])) ≤ length out.old }
-    ensures { Puts out.old at (shown_all (pos a ∷ pos b ∷ pos c ∷ pos d ∷ [])) result out.new }
-{
-    let next = put_counts(out, at, a, b);
-    put_last_counts(out, next, c, d)
+    put_counts(out, at, b"done", &[steps])
 }
 
 // "or `stop`, step, area, number, node-or-branch"
+#[tactic(auto, unfolding(paper::specs::Rows::bytes))]
 pub fn put_stop(out: &mut [u8], at: usize, step: u64, area: u64, number: u64, place: u64) -> usize
     requires { at + length (line_of (bytes "stop") (pos step ∷ pos area ∷ pos number ∷ pos place ∷ [])) ≤ length
         out.old }
     ensures { Puts out.old at
         (line_of (bytes "stop") (pos step ∷ pos area ∷ pos number ∷ pos place ∷ [])) result out.new }
 {
-    let next = put_word(out, at, b"stop");
-    put_last_four(out, next, step, area, number, place)
+    put_counts(out, at, b"stop", &[step, area, number, place])
 }
 
 // "a refused text gives `bad`, line, number"
+#[tactic(auto, unfolding(paper::specs::Rows::bytes))]
 pub fn put_bad(out: &mut [u8], at: usize, line: u64, number: u64) -> usize
     requires { at + length (line_of (bytes "bad") (pos line ∷ pos number ∷ [])) ≤ length out.old }
     ensures { Puts out.old at (line_of (bytes "bad") (pos line ∷ pos number ∷ [])) result
         out.new }
 {
-    let next = put_word(out, at, b"bad");
-    put_last_counts(out, next, line, number)
+    put_counts(out, at, b"bad", &[line, number])
 }

@@ -9,7 +9,7 @@ use Rattle.paper.specs.Listing.{shown_nat}
 use Rattle.list_digits.specs.Puts.{Puts, puts_length}
 use Rattle.list_digits.specs.Decimal.{shown_least, shown_length}
 use Rattle.list_line.specs.declared.Head.{Head}
-use Rattle.list_line.specs.Quads.{quad_bytes, four_of, four_of_lem, four_of_take, set_sets, sets_over}
+use Rattle.list_line.specs.Quads.{four_of, four_of_lem, four_of_take, set_sets, sets_over}
 
 -- behind the letter
 abbrev pub step_text : ℕ → List ℕ
@@ -26,12 +26,12 @@ pub record Headed (h : Head) : Type 0 where
   pub turns : h.turn ≤ 4
   pub least : h.turn + 4 ≤ h.size
   pub most : h.size ≤ h.turn + 8
-  pub first : quad_bytes h.first ≡ take 4 (text_of h)
-  pub middle : quad_bytes h.middle ≡ take 4 (drop h.turn (text_of h))
-  pub last : quad_bytes h.last ≡ take 4 (drop (h.size - 4) (text_of h))
+  pub first : h.first ≡ take 4 (text_of h)
+  pub middle : h.middle ≡ take 4 (drop h.turn (text_of h))
+  pub last : h.last ≡ take 4 (drop (h.size - 4) (text_of h))
 
 pub head_put : {h : Head} → Headed h → (l : List ℕ) (at : ℕ)
-    → sets (sets (sets l at (quad_bytes h.first)) (at + h.turn) (quad_bytes h.middle)) (at + h.size - 4) (quad_bytes h.last) ≡ sets l at (text_of h)
+    → sets (sets (sets l at h.first) (at + h.turn) h.middle) (at + h.size - 4) h.last ≡ sets l at (text_of h)
 head_put {h} d l at =
     let t = text_of h in
     let e : at + h.size - 4 ≡ at + (h.size - 4) = omega (arith, d.least) in
@@ -83,8 +83,8 @@ module _ {text : List ℕ} {k size : ℕ} (s : Spelt text k size) (letter : ℕ)
   pub spelt_four : (j : ℕ) → j + 4 ≤ size → four_of (set text 0 letter) j ≡ take 4 (drop j (head_text letter k))
   spelt_four j h = sym (four_of_take (set text 0 letter) size j h) ∙ ap (λ (t : List ℕ). four_of t j) (s.is letter) ∙ four_of_lem (head_text letter k) j (rw long h)
 
-  pub headed : {first middle last : ℕ} → quad_bytes first ≡ four_of (set text 0 letter) 0 → quad_bytes middle ≡ four_of (set text 0 letter) ((size - 4) / 2)
-      → quad_bytes last ≡ four_of (set text 0 letter) (size - 4)
+  pub headed : {first middle last : List ℕ} → first ≡ four_of (set text 0 letter) 0 → middle ≡ four_of (set text 0 letter) ((size - 4) / 2)
+      → last ≡ four_of (set text 0 letter) (size - 4)
       → Headed (record { letter = letter; step = k; size = size; turn = (size - 4) / 2; first = first; middle = middle; last = last })
   headed a b c =
       record {

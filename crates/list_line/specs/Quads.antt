@@ -1,38 +1,11 @@
--- Four bytes as one number, and a text put four bytes at a time, some of them twice. Assumes nothing.
-use Rattle.std.specs.Prelude.{◌+◌, ◌*◌, ◌-◌, ◌/◌, ◌%◌, ◌≤◌, ◌<◌, ◌≡◌, ◌∷◌}
+-- A text put four bytes at a time, some of them twice. Assumes nothing.
+use Rattle.std.specs.Prelude.{◌+◌, ◌-◌, ◌≤◌, ◌<◌, ◌≡◌, ◌∷◌}
 use Rattle.whole.specs.Plain.{ℕ, suc, refl, sym, ap, ◌∙◌, List, [], length}
 use Rattle.whole.specs.Plain.{get_or, set, take, drop, length-take, sets, set-set, set_comm, drop-cons, take-add}
-use Rattle.whole.specs.Plain.{length-take-le, get_or-take, div-div-eq-div-mul, arith}
+use Rattle.whole.specs.Plain.{length-take-le, get_or-take, arith}
 use Rattle.list_digits.specs.Puts.{sets_append}
 
--- the first byte counts least
-unfoldable pub quad_bytes : ℕ → List ℕ
-quad_bytes w = w % 256 ∷ w / 256 % 256 ∷ w / 65536 % 256 ∷ w / 16777216 ∷ []
-
-byte : (a x : ℕ) → a < 256 → ((a + 256 * x) % 256 ≡ a) × ((a + 256 * x) / 256 ≡ x)
-byte a x h = (omega arith, omega arith)
-
-pub quad_bytes_lem : (a b c d : ℕ) → a < 256 → b < 256 → c < 256 → quad_bytes (a + 256 * b + 65536 * c + 16777216 * d) ≡ a ∷ b ∷ c ∷ d ∷ []
-unfolding quad_bytes
-quad_bytes_lem a b c d i j k =
-    let x = c + 256 * d in
-    let w = a + 256 * (b + 256 * x) in
-    let e : a + 256 * b + 65536 * c + 16777216 * d ≡ w = omega arith in
-    let p = byte a (b + 256 * x) i in
-    let q = byte b x j in
-    let f : w / 65536 ≡ x = sym (div-div-eq-div-mul w 256 256) ∙ ap (λ (n : ℕ). n / 256) p.1 ∙ q.1 in
-    let g : w / 16777216 ≡ d = sym (div-div-eq-div-mul w 65536 256) ∙ ap (λ (n : ℕ). n / 256) f ∙ (byte c d k).1 in
-    rw (e, p.0, p.1, q.0, f, (byte c d k).0, g)
-
-pub quad_put : (l : List ℕ) (at w : ℕ) → set (set (set (set l at (w % 256)) (at + 1) (w / 256 % 256)) (at + 2) (w / 65536 % 256)) (at + 3) (w / 16777216) ≡ sets l at (quad_bytes w)
-unfolding quad_bytes
-quad_put l at w =
-    let a : at + 1 ≡ suc at = omega arith in
-    let b : at + 2 ≡ suc (suc at) = omega arith in
-    let c : at + 3 ≡ suc (suc (suc at)) = omega arith in
-    rw (a, b, c)
-
--- those from j on
+-- the four from j on
 abbrev pub four_of : List ℕ → ℕ → List ℕ
 four_of l j = get_or l j 0 ∷ get_or l (j + 1) 0 ∷ get_or l (j + 2) 0 ∷ get_or l (j + 3) 0 ∷ []
 

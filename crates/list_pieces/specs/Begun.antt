@@ -1,8 +1,8 @@
 -- What a piece begins from: a study in step, and the tables of its areas, with nothing prepared for any; and how far it has come. Assumes nothing.
-use Rattle.whole.specs.Plain.{ℕ, suc, sym, ap, ◌∙◌, List, length, arith, Words}
+use Rattle.whole.specs.Plain.{ℕ, suc, refl, sym, ap, ◌∙◌, List, length, arith, Words}
 use Rattle.std.proofs.Common.{add-one}
-use Rattle.std.specs.Prelude.{Float, ◌+◌, ◌≤◌, ◌<◌, ◌≡◌}
-use Rattle.paper.specs.declared.Listing.{Listing}
+use Rattle.std.specs.Prelude.{Float, Ok, ◌+◌, ◌≤◌, ◌<◌, ◌≡◌}
+use Rattle.paper.specs.Replies.{Listing}
 use Rattle.paper.specs.Limits as Limits
 use Rattle.paper.specs.Rows.{steps}
 use Rattle.paper.specs.Advance.{Memory, memory}
@@ -18,33 +18,35 @@ use Rattle.call_state.specs.Judged.{Long}
 use Rattle.call_state.specs.Facts.{formed_counts, taken_end}
 use Rattle.list_digits.specs.Puts.{Puts}
 use Rattle.list_round.specs.declared.Step.{Step}
-use Rattle.list_round.specs.declared.Round.{Round}
-use Rattle.list_round.specs.declared.Round.TheVariants.{Full}
-use Rattle.list_round.specs.Round.{InStep, AllTables, Starts, Ran, Runs}
+use Rattle.list_round.specs.Round.{Round, InStep, AllTables, Starts, Ran, Runs}
 use Rattle.list_turn.specs.Turned.{round_bytes, small, Listable, Turned, turned}
 use Rattle.list_pieces.specs.Sofar.{Gives, Sofar, sofar_none, sofar_step}
+use Rattle.plan_rows.specs.declared.Row.{Row}
+use Rattle.plan_own.specs.declared.Own.{Own}
+use Rattle.step_legs.specs.declared.Wire.{Wire}
+use Rattle.step_legs.specs.declared.Source.{Source}
 
 -- the step that follows k of them
 abbrev pub step_of : Totals → ℕ → Step
 step_of t k = record { taken = k; areas = t.areas; limit = t.limit }
 
 -- the tables serve whatever the factors' table holds
-pub record Begins (net : Words) (plan : List (List ℕ)) (totals : Totals) (owns : List (List ℕ)) (legs : List Words) (nodes : List ℕ) (sources : List Words) (m : Memory) : Type 0 where
+pub record Begins (net : Words) (plan : List Row) (totals : Totals) (owns : List Own) (legs : List Wire) (nodes : List ℕ) (sources : List Source) (m : Memory) : Type 0 where
   pub of : Of (net_in net) plan totals
   pub tables : (f : List (List Float)) → Square f → AllTables net 1 m.records plan owns legs nodes sources f
   pub level : InStep net (steps_taken (net_in net) m.records) m
 
 -- of some network
-pub record Beginning (plan : List (List ℕ)) (totals : Totals) (owns : List (List ℕ)) (legs : List Words) (nodes : List ℕ) (sources : List Words) (recs froms tos : Words) : Type 0 where
+pub record Beginning (plan : List Row) (totals : Totals) (owns : List Own) (legs : List Wire) (nodes : List ℕ) (sources : List Source) (recs froms tos : Words) : Type 0 where
   pub net : Words
   pub begins : Begins net plan totals owns legs nodes sources (memory recs froms tos)
 
 -- of every network
-pub record Pieces (plan : List (List ℕ)) (totals : Totals) (owns : List (List ℕ)) (legs : List Words) (nodes : List ℕ) (sources : List Words) (m : Memory) (out : List ℕ) (x : Listing) (count : ℕ) (b : List ℕ) (after : Memory) : Type 0 where
+pub record Pieces (plan : List Row) (totals : Totals) (owns : List Own) (legs : List Wire) (nodes : List ℕ) (sources : List Source) (m : Memory) (out : List ℕ) (x : Listing) (count : ℕ) (b : List ℕ) (after : Memory) : Type 0 where
   pub of : (net : Words) → Begins net plan totals owns legs nodes sources m → Gives (piece_of net (net_in net) m (length out)) out x count b after
 
 -- k steps are taken, and what is listed of them stands in the buffer
-pub record Along (net : Words) (plan : List (List ℕ)) (nodes : List ℕ) (sources : List Words) (m : Memory) (out : List ℕ) (owns : List (List ℕ)) (legs : List Words) (f : List (List Float)) (now : Memory) (at k : ℕ) (b : List ℕ) : Type 0 where
+pub record Along (net : Words) (plan : List Row) (nodes : List ℕ) (sources : List Source) (m : Memory) (out : List ℕ) (owns : List Own) (legs : List Wire) (f : List (List Float)) (now : Memory) (at k : ℕ) (b : List ℕ) : Type 0 where
   pub tables : AllTables net (suc k) now.records plan owns legs nodes sources f
   pub level : InStep net k now
   pub sofar : Sofar net (piece_of net (net_in net) m (length out)) out k now at b
@@ -54,7 +56,7 @@ pub record Along (net : Words) (plan : List (List ℕ)) (nodes : List ℕ) (sour
 pub lent_long : {net : Words} {k : ℕ} {m : Memory} → InStep net k m → Long m.records m.froms m.tos
 lent_long v = let l = v.level.inv.long in record { records_long = l.records; froms_long = l.froms; tos_long = l.tos }
 
-module _ {net : Words} {plan owns : List (List ℕ)} {totals : Totals} {legs : List Words} {nodes : List ℕ} {sources : List Words} {m : Memory} (b : Begins net plan totals owns legs nodes sources m) where
+module _ {net : Words} {plan : List Row} {owns : List Own} {totals : Totals} {legs : List Wire} {nodes : List ℕ} {sources : List Source} {m : Memory} (b : Begins net plan totals owns legs nodes sources m) where
   pub all_steps : totals.steps ≡ steps (net_in net).head
   all_steps = ap (λ (t : Totals). t.steps) b.of.counts
 
@@ -71,7 +73,7 @@ module _ {net : Words} {plan owns : List (List ℕ)} {totals : Totals} {legs : L
       let t = taken_is b.of m.records ∙ sym e in
       record { tables = tables_later (suc k) (omega arith) (b.tables f q); level = rw t at b.level; sofar = sofar_none net m out k t h }
 
-  module _ {out c : List ℕ} {owns' : List (List ℕ)} {legs' : List Words} {f : List (List Float)} {now : Memory} {at k : ℕ} (a : Along net plan nodes sources m out owns' legs' f now at k c) (h : k < totals.steps) where
+  module _ {out c : List ℕ} {owns' : List Own} {legs' : List Wire} {f : List (List Float)} {now : Memory} {at k : ℕ} (a : Along net plan nodes sources m out owns' legs' f now at k c) (h : k < totals.steps) where
     pub left : k < steps (net_in net).head
     left = omega (arith, all_steps)
 
@@ -86,11 +88,11 @@ module _ {net : Words} {plan owns : List (List ℕ)} {totals : Totals} {legs : L
           limit = ap (λ (t : Totals). t.limit) b.of.counts;
         })
 
-    pub ran : {t : Step} {q : Round} {owns'' : List (List ℕ)} {legs'' : List Words} {f' : List (List Float)} {m' : Memory} → t ≡ step_of totals k
+    pub ran : {t : Step} {q : Round} {owns'' : List Own} {legs'' : List Wire} {f' : List (List Float)} {m' : Memory} → t ≡ step_of totals k
         → Runs t plan nodes sources owns' legs' f now q owns'' legs'' f' m' → Ran net k plan nodes sources now q owns'' legs'' f' m'
     ran e d = rw e at (d.of net (starts e))
 
-    module _ {q : Round} {owns'' : List (List ℕ)} {legs'' : List Words} {f' : List (List Float)} {m' : Memory} (r : Ran net k plan nodes sources now q owns'' legs'' f' m') where
+    module _ {q : Round} {owns'' : List Own} {legs'' : List Wire} {f' : List (List Float)} {m' : Memory} (r : Ran net k plan nodes sources now q owns'' legs'' f' m') where
       pub listable : length m'.records ≡ Limits.record_words → Listable plan totals m'.records k q
       listable l = record { net = net_in net; of = b.of; long = l; left = left; small = λ e. rw b.of.counts (small (r.rounds.on e)) }
 
@@ -98,11 +100,11 @@ module _ {net : Words} {plan owns : List (List ℕ)} {totals : Totals} {legs : L
         pub turned_so : Turned net k now q m' c at n c'
         turned_so = turned b.of.sound left r.rounds p
 
-        pub along_next : at + Limits.step_bytes ≤ length out → q ≡ Full → Along net plan nodes sources m out owns'' legs'' f' m' n (k + 1) c'
+        pub along_next : at + Limits.step_bytes ≤ length out → q ≡ Ok tt → Along net plan nodes sources m out owns'' legs'' f' m' n (k + 1) c'
         along_next i e =
             rw (add-one k)
             (record {
               tables = tables_later (suc (suc k)) (omega arith) r.tables;
-              level = turned_so.on e;
+              level = turned_so.on (rw e refl);
               sofar = sofar_step net _ out a.sofar left i e turned_so;
             })

@@ -1,2 +1,3 @@
 pub mod Sofar
 pub mod Begun
+pub mod Answered

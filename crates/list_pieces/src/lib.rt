@@ -1,29 +1,23 @@
 #![tactic(auto)]
 
 // The listing by pieces: full step after full step into a lent buffer, until the next might not fit, an area is refused or the study is done.
-ghost use Rattle.std.specs.Prelude.{◌≤◌, ◌≡◌};
+ghost use Rattle.std.specs.Prelude.{◌≤◌, ◌≡◌, Ok};
 ghost use Rattle.whole.specs.Plain.{length};
 ghost use Rattle.paper.specs.Limits as Limits;
 ghost use Rattle.paper.specs.Advance.{memory};
 ghost use Rattle.list_pieces.specs.Begun.{step_of, Beginning, Pieces};
 
-use list_round::{Round, Step};
-use paper::{Listing, Node, Room};
+use list_round::{Step, Stopped};
+use paper::{Node, Pause, Room};
 use plan_own::Owns;
 use plan_rows::{Table, Totals};
-use step_legs::{Line, SourceLine};
+use step_legs::{Source, Wire};
 
-// What a call answers, and how many bytes it wrote.
+// Where the listing leaves off, and how many bytes of it stand in the buffer.
 #[derive(Clone, Copy)]
 pub struct Piece {
-    pub answer: Listing,
+    pub pause: Pause,
     pub count: usize,
-}
-
-fn ended(answer: Listing, count: usize) -> Piece
-    ensures { result ≡ record { answer = answer; count = count } }
-{
-    Piece { answer, count }
 }
 
 // The step that follows the `taken` ones.
@@ -42,9 +36,9 @@ pub fn steps_on(
     plan: &Table,
     totals: Totals,
     owns: &mut Owns,
-    legs: &mut [Line],
+    legs: &mut [Wire],
     nodes: &[usize],
-    sources: &[SourceLine],
+    sources: &[Source],
     records: &mut [i64],
     froms: &mut [i64],
     tos: &mut [i64],
@@ -54,15 +48,18 @@ pub fn steps_on(
         tos.old }
     requires in_bounds { Limits.step_bytes ≤ length out.old }
     ensures { Pieces plan.now totals owns.old legs.old nodes.now sources.now (memory records.old froms.old tos.old)
-        out.old result.answer result.count out.new (memory records.new froms.new tos.new) }
+        out.old (Ok result.pause) result.count out.new (memory records.new froms.new tos.new) }
 {
     let pairs = list_digits::pairs();
     let mut factors = [[0.0; Node::MAX as usize]; Node::MAX as usize];
     let mut at = 0;
-    let mut k = call_counts::steps_taken(records, totals.areas, totals.steps);
-    while k < totals.steps {
+    let taken = call_counts::steps_taken(records, totals.areas, totals.steps);
+    for k in taken..totals.steps {
         if out.len() - at < Room::STEP_BYTES {
-            return ended(Listing::More, at);
+            return Piece {
+                pause: Pause::More,
+                count: at,
+            };
         }
         let step = step_of(totals, k);
         let round = list_round::all_areas(
@@ -77,13 +74,17 @@ pub fn steps_on(
             tos,
             step,
         );
-        let next = list_turn::put_turn(&pairs, plan, totals, records, k, round, out, at);
-        if let Round::Refused(area, answer) = round {
-            return ended(Listing::Stopped(area, answer), next);
+        at = list_turn::put_turn(&pairs, plan, totals, records, k, round, out, at);
+        if let Err(Stopped { area, refusal }) = round {
+            return Piece {
+                pause: Pause::Stopped(area, refusal),
+                count: at,
+            };
         }
-        at = next;
-        k += 1;
     }
-    let end = list_ends::put_done(out, at, totals.steps as u64);
-    ended(Listing::Done, end)
+    let count = list_ends::put_done(out, at, totals.steps as u64);
+    Piece {
+        pause: Pause::Done,
+        count,
+    }
 }

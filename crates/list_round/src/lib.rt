@@ -6,18 +6,18 @@ ghost use Rattle.paper.specs.Limits as Limits;
 ghost use Rattle.paper.specs.Advance.{memory};
 ghost use Rattle.list_round.specs.Round.{turn_of, Startable, Runs};
 
-use paper::Advance;
+use paper::Refusal;
 use plan_own::Owns;
 use plan_rows::Table;
 use step_factors::Matrix;
-use step_legs::{Line, SourceLine};
+use step_legs::{Source, Wire};
 use step_take::Turn;
 
-// All areas took the step; or the first that did not, and its answer.
+// The first area that did not take a step, and why.
 #[derive(Clone, Copy)]
-pub enum Round {
-    Full,
-    Refused(u64, Advance),
+pub struct Stopped {
+    pub area: u64,
+    pub refusal: Refusal,
 }
 
 // Which step, by those that all areas have taken; how many areas there are; and the limit of what may be out of balance.
@@ -44,30 +44,29 @@ fn turn_of(step: Step, area: usize) -> Turn
 pub fn all_areas(
     plan: &Table,
     owns: &mut Owns,
-    legs: &mut [Line],
+    legs: &mut [Wire],
     nodes: &[usize],
-    sources: &[SourceLine],
+    sources: &[Source],
     factors: &mut Matrix,
     records: &mut [i64],
     froms: &mut [i64],
     tos: &mut [i64],
     step: Step,
-) -> Round
+) -> Result<(), Stopped>
     requires { Startable step plan.now owns.old legs.old nodes.now sources.now factors.old records.old
         froms.old tos.old }
     ensures { Runs step plan.now nodes.now sources.now owns.old legs.old factors.old
         (memory records.old froms.old tos.old) result owns.new legs.new factors.new (memory records.new froms.new tos.new) }
 {
-    let mut area = 1;
-    while area <= step.areas {
+    for area in 1..=step.areas {
         let turn = turn_of(step, area);
         let answer = step_area::ready(
             plan, owns, legs, nodes, sources, factors, records, froms, tos, turn,
         );
-        if !step_try::took(answer) {
-            return Round::Refused(area as u64, answer);
+        if let Err(refusal) = answer {
+            let area = area as u64;
+            return Err(Stopped { area, refusal });
         }
-        area += 1;
     }
-    Round::Full
+    Ok(())
 }

@@ -4,14 +4,14 @@ use Rattle.whole.specs.Plain.{ℕ, zero, suc, refl, sym, ap, Bool, true, false, 
 use Rattle.whole.specs.Plain.{true≢false, List, [], ℤ, pos, nat_abs, length, length-append, arith, Words}
 use Rattle.whole.specs.Plain.{word, numbers}
 use Rattle.std.proofs.Common.{add-one}
-use Rattle.paper.specs.declared.Advance.{Advance}
+use Rattle.paper.specs.declared.Refusal.{Refusal}
 use Rattle.paper.specs.Limits as Limits
 use Rattle.paper.specs.Rows.{bytes, is_branch, is_line}
 use Rattle.paper.specs.Classes.{line_branch}
 use Rattle.paper.specs.Areas.{Net, branch_number}
 use Rattle.paper.specs.Records.{voltages, current_at, to_current_at}
 use Rattle.paper.specs.Listing.{shown, shown_all, line_of, volt_lines, current_line, current_lines, step_lines, stop_line}
-use Rattle.paper.specs.Answers.{advance_number, advance_place}
+use Rattle.paper.specs.Answers.{refusal_number, refusal_place}
 use Rattle.laws_facts.specs.Nets.{NetSound, row_at, branch_number_most}
 use Rattle.list_digits.specs.Decimal.{shown_most, shown_length, whole_length}
 use Rattle.plan_rows.specs.Laws.{number_next}
@@ -37,9 +37,9 @@ pub done_short : (n : ℕ) → length (line_of (bytes "done") (pos n ∷ [])) �
 unfolding shown_all shown bytes
 done_short n = simp length-append (omega (arith, shown_most n))
 
-pub stop_short : (k a : ℕ) (x : Advance) → length (stop_line k a x) ≤ 89
+pub stop_short : (k a : ℕ) (x : Refusal) → length (stop_line k a x) ≤ 89
 unfolding shown bytes
-stop_short k a x = rw line_five (omega (arith, shown_most k, shown_most a, shown_most (advance_number x), shown_most (advance_place x)))
+stop_short k a x = rw line_five (omega (arith, shown_most k, shown_most a, shown_most (refusal_number x), shown_most (refusal_place x)))
 
 -- ---- all lines
 module _ {N : Net} (s : NetSound N) {recs : Words} (f : Small N.nodes (length N.rows) recs) (k : ℕ) (h : k ≤ Limits.steps_end) where

@@ -11,7 +11,7 @@ use Rattle.list_digits.specs.Puts.{Parts}
 use Rattle.plan_rows.specs.declared.Row.{Row}
 use Rattle.plan_rows.specs.declared.Totals.{Totals}
 use Rattle.paper.specs.Rows.{branch_kind}
-use Rattle.plan_rows.specs.Planned.{row_in, row_of}
+use Rattle.plan_rows.specs.Planned.{Plan, row_in, row_of}
 use Rattle.plan_net.specs.Of.{Of}
 use Rattle.list_step.specs.Joined.{joined, joined_same, volts_text, volts_joined, currents_joined}
 
@@ -22,15 +22,15 @@ plain_line b recs k i = line_of (bytes "i") (pos k ∷ pos b ∷ word recs (curr
 abbrev pub two_ended : ℕ → Words → ℕ → ℕ → List ℕ
 two_ended b recs k i = line_of (bytes "i") (pos k ∷ pos b ∷ word recs (current_at i) ∷ word recs (to_current_at i) ∷ [])
 
-unfoldable pub current_line_by : List (List ℕ) → Words → ℕ → ℕ → List ℕ
+unfoldable pub current_line_by : Plan → Words → ℕ → ℕ → List ℕ
 current_line_by plan recs k i =
     let r = row_in plan i in
     cond (eqb r.kind 4) (two_ended r.number recs k i) (cond (branch_kind r.kind) (plain_line r.number recs k i) [])
 
-abbrev pub currents_text : List (List ℕ) → Words → ℕ → ℕ → List ℕ
+abbrev pub currents_text : Plan → Words → ℕ → ℕ → List ℕ
 currents_text plan recs k rows = joined (current_line_by plan recs k) (numbers 0 rows)
 
-module _ (plan : List (List ℕ)) (recs : Words) (k i : ℕ) where
+module _ (plan : Plan) (recs : Words) (k i : ℕ) where
   pub line_of_line : (row_in plan i).kind ≡ 4 → current_line_by plan recs k i ≡ two_ended (row_in plan i).number recs k i
   unfolding current_line_by
   line_of_line e = rw e
@@ -44,12 +44,12 @@ module _ (plan : List (List ℕ)) (recs : Words) (k i : ℕ) where
   line_of_source n b = rw (ne_eqb (row_in plan i).kind 4 n, b)
 
 -- a row's number is one of two digits
-pub record Numbered (plan : List (List ℕ)) (rows : ℕ) : Type 0 where
+pub record Numbered (plan : Plan) (rows : ℕ) : Type 0 where
   pub few : rows ≤ 80
   pub small : (i : ℕ) → i < rows → (row_in plan i).number < 100
 
 -- ---- of a network that the plan is of
-module _ {N : Net} {plan : List (List ℕ)} {totals : Totals} (o : Of N plan totals) where
+module _ {N : Net} {plan : Plan} {totals : Totals} (o : Of N plan totals) where
   pub rows_are : totals.rows ≡ length N.rows
   rows_are = ap (λ (t : Totals). t.rows) o.counts
 

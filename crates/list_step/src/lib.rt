@@ -10,101 +10,71 @@ ghost use Rattle.list_digits.specs.Puts.{Puts};
 ghost use Rattle.list_digits.specs.Pairs.{all_pairs};
 ghost use Rattle.plan_rows.specs.Planned.{row_in};
 ghost use Rattle.plan_net.specs.Of.{Of, OfSome};
-ghost use Rattle.list_line.specs.Heads.{Headed};
 ghost use Rattle.list_step.specs.Joined.{volts_text};
 ghost use Rattle.list_step.specs.ByPlan.{current_line_by, currents_text, Numbered};
 ghost use Rattle.list_step.specs.Bounds.{Small};
 
 use list_digits::Pairs;
-use list_line::Head;
+use list_line::Lines;
 use paper::{kinds, sections};
 use plan_rows::{Table, Totals};
 
-fn put_volts(
-    pairs: &Pairs,
-    head: Head,
-    records: &[i64],
-    nodes: usize,
-    out: &mut [u8],
-    at: usize,
-) -> usize
-    requires pairs_value { (pairs.now ≡ all_pairs) × Headed head × (head.letter ≡ 118) }
+fn put_volts(lines: Lines<'_>, records: &[i64], nodes: usize, out: &mut [u8], at: usize) -> usize
+    requires letter { lines.head.letter ≡ 118 }
     requires nodes_bound { (nodes ≤ Limits.node_end) × (length records.now ≡ Limits.record_words) }
-    requires nodes_in_bounds { at + length (volts_text records.now head.step nodes) ≤ length out.old }
-    ensures { Puts out.old at (volts_text records.now head.step nodes) result out.new }
+    requires nodes_in_bounds { at + length (volts_text records.now lines.head.step nodes) ≤ length out.old }
+    ensures { Puts out.old at (volts_text records.now lines.entry.head.step nodes) result out.new }
 {
     let mut next = at;
-    let mut i = 0;
-    while i < nodes {
-        let node = 1 + i;
-        next = list_line::put_row(
-            pairs,
-            head,
-            node as u64,
-            records[sections::VOLTS + node - 1],
-            out,
-            next,
-        );
-        i += 1;
+    for node in 1..=nodes {
+        next = lines.put_row(node as u64, records[sections::VOLTS + node - 1], out, next);
     }
     next
 }
 
 // row i's line; a source has none
 fn put_current(
-    pairs: &Pairs,
-    head: Head,
+    lines: Lines<'_>,
     plan: &Table,
     records: &[i64],
     i: usize,
     out: &mut [u8],
     at: usize,
 ) -> usize
-    requires pairs_value { (pairs.now ≡ all_pairs) × Headed head × (head.letter ≡ 105) }
+    requires letter { lines.head.letter ≡ 105 }
     requires i_bound { (i < Limits.row_end) × ((row_in plan.now i).number < 10 ^ 2)
         × (length records.now ≡ Limits.record_words) }
-    requires i_in_bounds { at + length (current_line_by plan.now records.now head.step i) ≤ length out.old }
-    ensures { Puts out.old at (current_line_by plan.now records.now head.step i) result out.new }
+    requires i_in_bounds { at + length (current_line_by plan.now records.now lines.head.step i) ≤ length out.old }
+    ensures { Puts out.old at (current_line_by plan.now records.now lines.entry.head.step i) result out.new }
 {
-    let r = plan_rows::row_at(plan, i);
+    let r = plan[i];
     let number = r.number as u64;
     let from = records[sections::CURRENTS + i];
     if r.kind == kinds::LINE {
-        return list_line::put_line_row(
-            pairs,
-            head,
-            number,
-            from,
-            records[sections::TO_CURRENTS + i],
-            out,
-            at,
-        );
+        return lines.put_line_row(number, from, records[sections::TO_CURRENTS + i], out, at);
     }
     if kinds::is_branch(r.kind) {
-        return list_line::put_row(pairs, head, number, from, out, at);
+        return lines.put_row(number, from, out, at);
     }
     at
 }
 
 fn put_currents(
-    pairs: &Pairs,
-    head: Head,
+    lines: Lines<'_>,
     plan: &Table,
     records: &[i64],
     rows: usize,
     out: &mut [u8],
     at: usize,
 ) -> usize
-    requires pairs_value { (pairs.now ≡ all_pairs) × Headed head × (head.letter ≡ 105) }
+    requires letter { lines.head.letter ≡ 105 }
     requires numbered { Numbered plan.now rows × (length records.now ≡ Limits.record_words) }
-    requires rows_in_bounds { at + length (currents_text plan.now records.now head.step rows) ≤ length out.old }
-    ensures { Puts out.old at (currents_text plan.now records.now head.step rows) result out.new }
+    requires rows_in_bounds { at + length (currents_text plan.now records.now lines.head.step rows) ≤ length out.old }
+    ensures { Puts out.old at (currents_text plan.now records.now lines.entry.head.step rows) result out.new }
 {
     let mut next = at;
-    let mut i = 0;
-    while i < rows {
-        next = put_current(pairs, head, plan, records, i, out, next);
-        i += 1;
+    for i in 0..rows {
+        next = put_current(lines, plan, records, i, out, next);
     }
     next
 }
@@ -128,7 +98,12 @@ pub fn put_step_by(
     let mut text = [0; 16];
     let size = list_line::spell(pairs, step, &mut text);
     let volts = list_line::head_of(&mut text, b'v', step, size);
-    let next = put_volts(pairs, volts, records, totals.nodes, out, at);
+    let lines = Lines { pairs, head: volts };
+    let next = put_volts(lines, records, totals.nodes, out, at);
     let currents = list_line::head_of(&mut text, b'i', step, size);
-    put_currents(pairs, currents, plan, records, totals.rows, out, next)
+    let lines = Lines {
+        pairs,
+        head: currents,
+    };
+    put_currents(lines, plan, records, totals.rows, out, next)
 }

@@ -1,8 +1,8 @@
 -- A step of all areas and what it lists: its lines, or the stop line. Assumes nothing.
-use Rattle.std.specs.Prelude.{◌+◌, ◌-◌, ◌≤◌, ◌<◌, ◌≡◌, ◌++◌}
+use Rattle.std.specs.Prelude.{Ok, Err, IsOk, ◌+◌, ◌-◌, ◌≤◌, ◌<◌, ◌≡◌, ◌++◌}
 use Rattle.whole.specs.Plain.{ℕ, suc, refl, ap, ◌∙◌, List, lit≤, length, le_trans}
 use Rattle.whole.specs.Plain.{arith, Words}
-use Rattle.paper.specs.declared.Listing.TheVariants.{Stopped}
+use Rattle.paper.specs.declared.Pause.TheVariants.{Stopped}
 use Rattle.paper.specs.Limits as Limits
 use Rattle.paper.specs.Rows.{steps}
 use Rattle.paper.specs.Areas.{Net}
@@ -17,9 +17,8 @@ use Rattle.list_digits.specs.Puts.{Puts}
 use Rattle.plan_rows.specs.declared.Totals.{Totals}
 use Rattle.plan_net.specs.Of.{Of}
 use Rattle.list_step.specs.Bounds.{Small, stop_short, lines_short}
-use Rattle.list_round.specs.Round.{InStep, round_piece, Rounds}
-use Rattle.list_round.specs.declared.Round.{Round}
-use Rattle.list_round.specs.declared.Round.TheVariants.{Full, Refused}
+use Rattle.list_round.specs.Round.{InStep, Round, round_piece, Rounds}
+use Rattle.plan_rows.specs.declared.Row.{Row}
 
 -- ---- a state in step has its words in range
 
@@ -40,41 +39,41 @@ small {net} {k} {m} v =
 
 -- at step k
 abbrev pub round_bytes : Net → ℕ → Words → Round → List ℕ
-round_bytes N k recs Full = step_lines N recs k
-round_bytes N k recs (Refused a x) = stop_line k a x
+round_bytes N k recs (Ok u) = step_lines N recs k
+round_bytes N k recs (Err s) = stop_line k s.area s.refusal
 
 -- where all areas took the step, the words that are listed are in range
-pub record Listable (plan : List (List ℕ)) (totals : Totals) (recs : Words) (k : ℕ) (r : Round) : Type 0 where
+pub record Listable (plan : List Row) (totals : Totals) (recs : Words) (k : ℕ) (r : Round) : Type 0 where
   pub net : Net
   pub of : Of net plan totals
   pub long : length recs ≡ Limits.record_words
   pub left : k < steps net.head
-  pub small : r ≡ Full → Small totals.nodes totals.rows recs
+  pub small : IsOk r → Small totals.nodes totals.rows recs
 
 -- ---- the step's outcome
 
 abbrev pub turn_piece : Round → Memory → List ℕ → Piece
-turn_piece Full m out = writing m out
-turn_piece (Refused a x) m out = ended (listed (Stopped a x) out m)
+turn_piece (Ok u) m out = writing m out
+turn_piece (Err s) m out = ended (listed (Ok (Stopped s.area s.refusal)) out m)
 
 pub record Turned (net : Words) (k : ℕ) (m : Memory) (r : Round) (after : Memory) (l : List ℕ) (at n : ℕ) (l' : List ℕ) : Type 0 where
   pub bytes : List ℕ
   pub puts : Puts l at bytes n l'
   pub short : length bytes ≤ 4128
   pub is : (out : List ℕ) → step_piece net (net_in net) (suc k) (writing m out) ≡ turn_piece r after (out ++ bytes)
-  pub on : r ≡ Full → InStep net (suc k) after
+  pub on : IsOk r → InStep net (suc k) after
 
 -- in either case it is short
-bytes_short : {N : Net} → NetSound N → {recs : Words} {k : ℕ} → k < steps N.head → (r : Round) → (r ≡ Full → Small N.nodes (length N.rows) recs) → length (round_bytes N (suc k) recs r) ≤ 4128
-bytes_short s {recs} {k} h Full f = lines_short s (f refl) (suc k) (le_trans h s.study.steps_in.most)
-bytes_short s {recs} {k} h (Refused a x) f = le_trans (stop_short (suc k) a x) (lit≤ tt)
+bytes_short : {N : Net} → NetSound N → {recs : Words} {k : ℕ} → k < steps N.head → (r : Round) → (IsOk r → Small N.nodes (length N.rows) recs) → length (round_bytes N (suc k) recs r) ≤ 4128
+bytes_short s {recs} {k} h (Ok u) f = lines_short s (f refl) (suc k) (le_trans h s.study.steps_in.most)
+bytes_short s {recs} {k} h (Err x) f = le_trans (stop_short (suc k) x.area x.refusal) (lit≤ tt)
 
 -- ---- from the areas' turns and what was put
 
 lists : (N : Net) (k : ℕ) (out : List ℕ) (m : Memory) (r : Round) → full_step N k (round_piece k out m r) ≡ turn_piece r m (out ++ round_bytes N k m.records r)
 unfolding full_step
-lists N k out m Full = refl
-lists N k out m (Refused a x) = refl
+lists N k out m (Ok u) = refl
+lists N k out m (Err x) = refl
 
 pub turned : {net : Words} {k : ℕ} {m m' : Memory} {r : Round} {l l' : List ℕ} {at n : ℕ} → NetSound (net_in net) → k < steps (net_in net).head → Rounds net k m r m'
     → Puts l at (round_bytes (net_in net) (suc k) m'.records r) n l' → Turned net k m r m' l at n l'

@@ -11,7 +11,7 @@ ghost use Rattle.plan_net.specs.Of.{Of};
 ghost use Rattle.list_turn.specs.Turned.{round_bytes, Listable};
 
 use list_digits::Pairs;
-use list_round::Round;
+use list_round::Stopped;
 use plan_rows::{Table, Totals};
 
 // After the step that follows the `taken` ones; with the digits to look up. Answers the next place in the buffer.
@@ -21,7 +21,7 @@ pub fn put_turn(
     totals: Totals,
     records: &[i64],
     taken: usize,
-    round: Round,
+    round: Result<(), Stopped>,
     out: &mut [u8],
     at: usize,
 ) -> usize
@@ -32,11 +32,11 @@ pub fn put_turn(
 {
     let step = (taken + 1) as u64;
     match round {
-        Round::Full => list_step::put_step_by(pairs, plan, totals, records, step, out, at),
-        Round::Refused(area, answer) => {
-            let number = call_answers::advance_number(answer);
-            let place = call_answers::advance_place(answer);
-            list_ends::put_stop(out, at, step, area, number, place)
+        Ok(()) => list_step::put_step_by(pairs, plan, totals, records, step, out, at),
+        Err(stopped) => {
+            let number = call_answers::refusal_number(stopped.refusal);
+            let place = call_answers::refusal_place(stopped.refusal);
+            list_ends::put_stop(out, at, step, stopped.area, number, place)
         }
     }
 }

@@ -5,7 +5,6 @@ ghost use Rattle.std.specs.Prelude.{◌≡◌};
 ghost use Rattle.paper.specs.Doubles.{double, nearest_of};
 ghost use Rattle.num_c.specs.Outcomes.{words_judged, quotient_of, part_of, out, rounded, solution};
 
-use num_quantity::CheckedVoltage;
 use paper::Node;
 use step_factors::{ByFree, Matrix};
 
@@ -53,12 +52,12 @@ pub extern "C" fn numbers_nearest(x: f64, whole: &mut i64) -> bool
 {
     let r = num_double::nearest(x);
     match r {
-        CheckedVoltage::Good(good) => {
+        Some(good) => {
             let v = good.tenths;
             *whole = v;
             true
         }
-        CheckedVoltage::Refused => false,
+        None => false,
     }
 }
 

@@ -9,7 +9,7 @@ ghost use Rattle.paper.specs.Doubles.{double, in_range, whole_of, nearest_of};
 ghost use Rattle.paper.specs.Limits.{voltage_end};
 ghost use Rattle.num_double.specs.Halves.{UpTo};
 
-use num_quantity::{CheckedVoltage, Voltage};
+use num_quantity::Voltage;
 
 // "the double of q, times 2^32, plus the double of r": both casts and the product are exact, and the sum is rounded.
 pub fn to_double(x: i64) -> f64
@@ -38,16 +38,16 @@ fn to_whole(x: f64) -> i64
 }
 
 // A double as a voltage: x to the nearest whole number, halves away from zero, and refused where it is outside the voltage range.
-pub fn nearest(x: f64) -> CheckedVoltage
+pub fn nearest(x: f64) -> Option<Voltage>
     ensures { result ≡ nearest_of x }
 {
     let most = Voltage::MAX as f64;
     if -most <= x {
         if x <= most {
-            return CheckedVoltage::Good(Voltage {
+            return Some(Voltage {
                 tenths: to_whole(x),
             });
         }
     }
-    CheckedVoltage::Refused
+    None
 }

@@ -2,19 +2,13 @@
 
 // "The limits belong to the quantity they limit and are named once": each quantity of document 01 with its unit and its ends. What is worked out becomes a
 // quantity by a constructor that refuses a number outside them; a voltage, which is worked out in doubles, does so by `num_double::nearest`.
-ghost use Rattle.std.specs.Prelude.{◌≡◌, ◌&&◌};
+ghost use Rattle.std.specs.Prelude.{Some, None, ◌≡◌, ◌&&◌};
 ghost use Rattle.whole.specs.Plain.{cond, leb, between};
 
 // 0.1 V
 #[derive(Clone, Copy)]
 pub struct Voltage {
     pub tenths: i64,
-}
-
-#[derive(Clone, Copy)]
-pub enum CheckedVoltage {
-    Good(Voltage),
-    Refused,
 }
 
 impl Voltage {
@@ -29,25 +23,19 @@ pub struct Conductance {
     pub nanos: u64,
 }
 
-#[derive(Clone, Copy)]
-pub enum CheckedConductance {
-    Good(Conductance),
-    Refused,
-}
-
 impl Conductance {
     pub const MAX: u64 = 1_000_000_000;
 
     pub const MIN: u64 = 1;
 
-    pub fn new(x: u64) -> CheckedConductance
+    pub fn new(x: u64) -> Option<Conductance>
         ensures { result ≡ cond (leb Conductance.MIN x && leb x Conductance.MAX)
-            (CheckedConductance.Good (record { nanos = x })) CheckedConductance.Refused }
+            (Some (record { nanos = x })) None }
     {
         if (Conductance::MIN <= x) & (x <= Conductance::MAX) {
-            return CheckedConductance::Good(Conductance { nanos: x });
+            return Some(Conductance { nanos: x });
         }
-        CheckedConductance::Refused
+        None
     }
 }
 
@@ -57,25 +45,19 @@ pub struct History {
     pub value: i64,
 }
 
-#[derive(Clone, Copy)]
-pub enum CheckedHistory {
-    Good(History),
-    Refused,
-}
-
 impl History {
     pub const MAX: i64 = 100_000_000_000_000_000;
 
     pub const MIN: i64 = -History::MAX;
 
-    pub fn new(x: i64) -> CheckedHistory
+    pub fn new(x: i64) -> Option<History>
         ensures { result ≡ cond (between History.MIN History.MAX x)
-            (CheckedHistory.Good (record { value = x })) CheckedHistory.Refused }
+            (Some (record { value = x })) None }
     {
         if (History::MIN <= x) & (x <= History::MAX) {
-            return CheckedHistory::Good(History { value: x });
+            return Some(History { value: x });
         }
-        CheckedHistory::Refused
+        None
     }
 }
 

@@ -12,7 +12,7 @@ ghost use Rattle.num_share.specs.Mixed.{Shared, Mixable};
 pub fn older(rest: u64) -> usize
     ensures { result ≡ cond (eqb rest 0) 0 1 }
 {
-    if rest == 0 { 0 } else { 1 }
+    usize::from(rest != 0)
 }
 
 // (gap · weight + more) / step, rounded down: down with no more, up with one less than the step.
@@ -31,7 +31,7 @@ pub fn mixed(newer: i64, older: i64, rest: u64, step: u64) -> i64
     ensures { result ≡ Mixing.mixed step rest newer older }
 {
     let gap = older - newer;
-    let size = whole::magnitude(gap);
+    let size = gap.unsigned_abs();
     if gap < 0 {
         return newer - share(size, rest, step, step - 1) as i64;
     }

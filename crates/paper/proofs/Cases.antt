@@ -1,10 +1,12 @@
 -- What E1 to E10 leave open, as a second table in their form, a third over lent words, and two laws of a row's legs. Assumes nothing.
+use Rattle.std.specs.Prelude.{Ok, Err}
 use Rattle.std.specs.Prelude.{◌+◌, ◌-◌, ◌*◌, ◌^◌, ◌≤◌, ◌≡◌, ◌∷◌, ◌++◌, ◌+ℤ◌, ◌-ℤ◌, ◌*ℤ◌}
 use Rattle.whole.specs.Plain.{ℕ, refl, List, [], map, ℤ, pos, negsuc, neg_ℤ}
 use Rattle.whole.specs.Plain.{le-ltb, arith, set, replicate, Words, z, word}
-use Rattle.paper.specs.declared.Reading.TheVariants.{Read, Value, Double}
-use Rattle.paper.specs.declared.Advance.{Advance}
-use Rattle.paper.specs.declared.Advance.TheVariants.{Took, Network, State, Area, Done, Range, History}
+use Rattle.paper.specs.declared.Fault.TheVariants.{Value, Double}
+use Rattle.paper.specs.declared.Unread.TheVariants.{Line}
+use Rattle.paper.specs.declared.Refusal.TheVariants.{Network, State, Area, Done, Range, History}
+use Rattle.paper.specs.Replies.{Advance}
 use Rattle.whole.specs.Int.{ring_laws}
 use Rattle.whole.specs.Mixing.{mixed_same}
 use Rattle.paper.specs.Limits as Limits
@@ -20,44 +22,44 @@ use Rattle.paper.proofs.Examples.{Example, runs, lists, call, volts, amps, sieme
 unfoldable pub cases : List Example
 cases =
     -- "to the nearest whole number, halves away from zero"
-    runs (lines ("study 1000 1 1000000000000000" ∷ "VS 1 1 1 0" ∷ "R 1 2 2000" ∷ "R 2 0 2000" ∷ [])) Read
-    (call 1 (Took 1) (volts 2 (pos 1) ∷ []) ∷ [])
-    ∷ runs (lines ("study 1000 1 1000000000000000" ∷ "VS 1 -1 1 0" ∷ "R 1 2 2000" ∷ "R 2 0 2000" ∷ [])) Read
-    (call 1 (Took 1) (volts 2 (negsuc 0) ∷ []) ∷ [])
+    runs (lines ("study 1000 1 1000000000000000" ∷ "VS 1 1 1 0" ∷ "R 1 2 2000" ∷ "R 2 0 2000" ∷ [])) (Ok tt)
+    (call 1 (Ok 1) (volts 2 (pos 1) ∷ []) ∷ [])
+    ∷ runs (lines ("study 1000 1 1000000000000000" ∷ "VS 1 -1 1 0" ∷ "R 1 2 2000" ∷ "R 2 0 2000" ∷ [])) (Ok tt)
+    (call 1 (Ok 1) (volts 2 (negsuc 0) ∷ []) ∷ [])
     -- "Conductances, rounded to nearest, halves up": 2.5 becomes 3, and 0.5 becomes 1 and is in range
-    ∷ runs (lines ("study 1 1 0" ∷ "VS 1 1 1 0" ∷ "R 1 0 400000000000" ∷ "L 1 0 1000000000" ∷ [])) Read
-    (call 1 (Took 1) (siemens 1 3 ∷ siemens 2 1 ∷ []) ∷ [])
+    ∷ runs (lines ("study 1 1 0" ∷ "VS 1 1 1 0" ∷ "R 1 0 400000000000" ∷ "L 1 0 1000000000" ∷ [])) (Ok tt)
+    (call 1 (Ok 1) (siemens 1 3 ∷ siemens 2 1 ∷ []) ∷ [])
     -- "peak · n / rise rounded toward zero while n < rise"
-    ∷ runs (lines ("study 1000 5 0" ∷ "VS 1 -1000 2 3" ∷ [])) Read
-    (call 1 (Took 1) (volts 1 z ∷ []) ∷ call 1 (Took 2) (volts 1 z ∷ [])
-    ∷ call 1 (Took 3) (volts 1 (negsuc 332) ∷ []) ∷ call 1 (Took 4) (volts 1 (negsuc 665) ∷ []) ∷ call 1 (Took 5) (volts 1 (negsuc 999) ∷ []) ∷ [])
+    ∷ runs (lines ("study 1000 5 0" ∷ "VS 1 -1000 2 3" ∷ [])) (Ok tt)
+    (call 1 (Ok 1) (volts 1 z ∷ []) ∷ call 1 (Ok 2) (volts 1 z ∷ [])
+    ∷ call 1 (Ok 3) (volts 1 (negsuc 332) ∷ []) ∷ call 1 (Ok 4) (volts 1 (negsuc 665) ∷ []) ∷ call 1 (Ok 5) (volts 1 (negsuc 999) ∷ []) ∷ [])
     -- "An IS injects into its node."
-    ∷ runs (lines ("study 1000 1 0" ∷ "IS 1 600000000 1 0" ∷ "R 1 0 1000000" ∷ "IS 1 400000000 1 0" ∷ [])) Read
-    (call 1 (Took 1) (volts 1 (pos 1000) ∷ []) ∷ [])
+    ∷ runs (lines ("study 1000 1 0" ∷ "IS 1 600000000 1 0" ∷ "R 1 0 1000000" ∷ "IS 1 400000000 1 0" ∷ [])) (Ok tt)
+    (call 1 (Ok 1) (volts 1 (pos 1000) ∷ []) ∷ [])
     -- "a history has the sign its current has in leaving that node": an L that ends at the free node
-    ∷ runs (lines ("study 1000 2 0" ∷ "VS 1 1000 1 0" ∷ "R 1 2 2000" ∷ "L 0 2 1000" ∷ [])) Read
-    (call 1 (Took 1) (volts 2 (pos 500) ∷ []) ∷ call 1 (Took 2) (volts 2 z ∷ amps 2 (negsuc (5 * 10 ^ 11 - 1)) ∷ []) ∷ [])
+    ∷ runs (lines ("study 1000 2 0" ∷ "VS 1 1000 1 0" ∷ "R 1 2 2000" ∷ "L 0 2 1000" ∷ [])) (Ok tt)
+    (call 1 (Ok 1) (volts 2 (pos 500) ∷ []) ∷ call 1 (Ok 2) (volts 2 z ∷ amps 2 (negsuc (5 * 10 ^ 11 - 1)) ∷ []) ∷ [])
     -- "Each x within the voltage range goes to the nearest whole number": 20,000,000.25 is judged before it is rounded
-    ∷ runs (lines ("study 1000 1 1" ∷ "IS 1 80000001 1 0" ∷ "R 1 0 250000000000" ∷ [])) Read (call 1 (Range 1) [] ∷ [])
+    ∷ runs (lines ("study 1000 1 1" ∷ "IS 1 80000001 1 0" ∷ "R 1 0 250000000000" ∷ [])) (Ok tt) (call 1 (Err (Range 1)) [] ∷ [])
     -- "Closed at steps close to open - 1.": open at `open`, which "remains as `SWT`" (02)
-    ∷ runs (lines ("study 1000 2 0" ∷ "VS 1 1000 1 0" ∷ "SWT 1 2 2000 1 2" ∷ "R 2 0 2000" ∷ [])) Read
-    (call 1 (Took 1) (volts 2 (pos 500) ∷ []) ∷ call 1 (Took 2) (volts 2 z ∷ []) ∷ [])
+    ∷ runs (lines ("study 1000 2 0" ∷ "VS 1 1000 1 0" ∷ "SWT 1 2 2000 1 2" ∷ "R 2 0 2000" ∷ [])) (Ok tt)
+    (call 1 (Ok 1) (volts 2 (pos 500) ∷ []) ∷ call 1 (Ok 2) (volts 2 z ∷ []) ∷ [])
     -- "in it 1 to 6 in turn": 3 before 4, and 5 before 6
-    ∷ runs (lines ("study 1000 1 0" ∷ "LINE 1 2 999 999" ∷ [])) (Value 2) []
-    ∷ runs (lines ("study 1000 1 0" ∷ "VS 1 0 1 0" ∷ (replicate 15 "IS 1 0 1 0" ++ ("VS 1 0 1 0" ∷ [])))) (Double 18) []
+    ∷ runs (lines ("study 1000 1 0" ∷ "LINE 1 2 999 999" ∷ [])) (Err (Line 2 Value)) []
+    ∷ runs (lines ("study 1000 1 0" ∷ "VS 1 0 1 0" ∷ (replicate 15 "IS 1 0 1 0" ++ ("VS 1 0 1 0" ∷ [])))) (Err (Line 18 Double)) []
     -- "f = a(q,p)/a(p,p)": one quotient, for 49 times the double of 1/49 is not 1, and node 2 would be under a half
-    ∷ runs (lines ("study 1000 1 1" ∷ "R 1 2 20408163265" ∷ "R 2 0 500000000000" ∷ "IS 2 1 1 0" ∷ [])) Read
-    (call 1 (Took 1) (volts 1 (pos 1) ∷ volts 2 (pos 1) ∷ []) ∷ [])
+    ∷ runs (lines ("study 1000 1 1" ∷ "R 1 2 20408163265" ∷ "R 2 0 500000000000" ∷ "IS 2 1 1 0" ∷ [])) (Ok tt)
+    (call 1 (Ok 1) (volts 1 (pos 1) ∷ volts 2 (pos 1) ∷ []) ∷ [])
     -- "for each later column c, rising": falling, node 1 would be under a half
     ∷ runs
     (lines ("study 1000 1 3" ∷ "IS 1 1 1 0" ∷ "R 1 2 500000000000" ∷ "R 1 3 500000000000" ∷ "R 2 0 250000000000" ∷ "R 3 0 1000000000000" ∷ []))
-    Read (call 1 (Took 1) (volts 1 (pos 1) ∷ volts 2 z ∷ volts 3 z ∷ []) ∷ [])
+    (Ok tt) (call 1 (Ok 1) (volts 1 (pos 1) ∷ volts 2 z ∷ volts 3 z ∷ []) ∷ [])
     -- "for a line a fifth field, the to-end current"
     ∷ lists (lines ("study 1000 1 0" ∷ "VS 1 1000 1 0" ∷ "LINE 1 2 400000 1000" ∷ []))
     (lines ("v 1 1 1000" ∷ "v 1 2 0" ∷ "i 1 1 2500000000 0" ∷ "done 1" ∷ []))
     -- "A table with only `study` is accepted: no nodes, no areas."
     ∷ lists (lines ("study 1000 1 0" ∷ [])) (lines ("done 1" ∷ []))
-    ∷ runs (lines ("study 1000 1 0" ∷ [])) Read (call 1 Area [] ∷ [])
+    ∷ runs (lines ("study 1000 1 0" ∷ [])) (Ok tt) (call 1 (Err Area) [] ∷ [])
     ∷ []
 
 pub cases_hold : map replay cases ≡ cases
@@ -98,26 +100,26 @@ wired = lines ("study 1000 9 0" ∷ "LINE 1 2 1000 2000" ∷ "VS 2 20000000 1 0"
 unfoldable pub lendings : List Lending
 lendings =
     -- 8: "not one the reader could write", in a spare word of the head, of a row and past the rows
-    lends plain (in_network 4 (pos 1) ∷ []) 1 Network
-    ∷ lends plain (in_network 12 (pos 1) ∷ []) 1 Network ∷ lends plain (in_network 1023 (pos 1) ∷ []) 1 Network
+    lends plain (in_network 4 (pos 1) ∷ []) 1 (Err Network)
+    ∷ lends plain (in_network 12 (pos 1) ∷ []) 1 (Err Network) ∷ lends plain (in_network 1023 (pos 1) ∷ []) 1 (Err Network)
     -- 10: "counts are 0 to steps"; before 11; and 12 once "the area has taken all steps"
-    ∷ lends plain (in_records 0 (negsuc 0) ∷ []) 1 State ∷ lends plain (in_records 0 (pos 10) ∷ []) 1 State
-    ∷ lends plain (in_records 0 (negsuc 0) ∷ []) 2 State
-    ∷ lends plain (in_records 0 (pos 8) ∷ []) 1 (Took 9) ∷ lends plain (in_records 0 (pos 9) ∷ []) 1 Done
+    ∷ lends plain (in_records 0 (negsuc 0) ∷ []) 1 (Err State) ∷ lends plain (in_records 0 (pos 10) ∷ []) 1 (Err State)
+    ∷ lends plain (in_records 0 (negsuc 0) ∷ []) 2 (Err State)
+    ∷ lends plain (in_records 0 (pos 8) ∷ []) 1 (Ok 9) ∷ lends plain (in_records 0 (pos 9) ∷ []) 1 (Err Done)
     -- "areas at a line's two ends differ by at most d in count"
-    ∷ lends wired (in_records 0 (pos 2) ∷ []) 2 (Took 1) ∷ lends wired (in_records 0 (pos 3) ∷ []) 2 State
-    ∷ lends wired (in_records 1 (pos 2) ∷ []) 1 (Took 1) ∷ lends wired (in_records 1 (pos 3) ∷ []) 1 State
+    ∷ lends wired (in_records 0 (pos 2) ∷ []) 2 (Ok 1) ∷ lends wired (in_records 0 (pos 3) ∷ []) 2 (Err State)
+    ∷ lends wired (in_records 1 (pos 2) ∷ []) 1 (Ok 1) ∷ lends wired (in_records 1 (pos 3) ∷ []) 1 (Err State)
     -- "current magnitudes are at most 1.4·10^17"
-    ∷ lends wired (in_records 64 (pos (14 * 10 ^ 16)) ∷ in_records 144 (negsuc (14 * 10 ^ 16 - 1)) ∷ []) 1 (Took 1)
-    ∷ lends wired (in_records 64 (pos (14 * 10 ^ 16 + 1)) ∷ []) 1 State ∷ lends wired (in_records 144 (negsuc (14 * 10 ^ 16)) ∷ []) 1 State
+    ∷ lends wired (in_records 64 (pos (14 * 10 ^ 16)) ∷ in_records 144 (negsuc (14 * 10 ^ 16 - 1)) ∷ []) 1 (Ok 1)
+    ∷ lends wired (in_records 64 (pos (14 * 10 ^ 16 + 1)) ∷ []) 1 (Err State) ∷ lends wired (in_records 144 (negsuc (14 * 10 ^ 16)) ∷ []) 1 (Err State)
     -- "unused words are zero": a to current or a history of an R, a history of a line, a current of a source, a slot past 2q
-    ∷ lends plain (in_records 144 (pos 1) ∷ []) 1 State ∷ lends plain (in_records 224 (pos 1) ∷ []) 1 State
-    ∷ lends wired (in_records 224 (pos 1) ∷ []) 1 State ∷ lends wired (in_records 65 (pos 1) ∷ []) 1 State ∷ lends wired (in_tos 4 (pos 1) ∷ []) 1 State
+    ∷ lends plain (in_records 144 (pos 1) ∷ []) 1 (Err State) ∷ lends plain (in_records 224 (pos 1) ∷ []) 1 (Err State)
+    ∷ lends wired (in_records 224 (pos 1) ∷ []) 1 (Err State) ∷ lends wired (in_records 65 (pos 1) ∷ []) 1 (Err State) ∷ lends wired (in_tos 4 (pos 1) ∷ []) 1 (Err State)
     -- "sent values are in range", in either store
-    ∷ lends wired (in_froms 3 (negsuc (10 ^ 17 - 1)) ∷ in_tos 3 (pos (10 ^ 17)) ∷ []) 1 (Took 1)
-    ∷ lends wired (in_froms 3 (pos (10 ^ 17 + 1)) ∷ []) 1 State ∷ lends wired (in_tos 3 (pos (10 ^ 17 + 1)) ∷ []) 1 State
+    ∷ lends wired (in_froms 3 (negsuc (10 ^ 17 - 1)) ∷ in_tos 3 (pos (10 ^ 17)) ∷ []) 1 (Ok 1)
+    ∷ lends wired (in_froms 3 (pos (10 ^ 17 + 1)) ∷ []) 1 (Err State) ∷ lends wired (in_tos 3 (pos (10 ^ 17 + 1)) ∷ []) 1 (Err State)
     -- 17 at a to end: it hears 10^17 and would send -1.4·10^17
-    ∷ lends wired (in_records 0 (pos 2) ∷ in_records 1 (pos 2) ∷ in_froms 1 (pos (10 ^ 17)) ∷ []) 2 (History 1)
+    ∷ lends wired (in_records 0 (pos 2) ∷ in_records 1 (pos 2) ∷ in_froms 1 (pos (10 ^ 17)) ∷ []) 2 (Err (History 1))
     ∷ []
 
 pub lendings_hold : map lent_again lendings ≡ lendings

@@ -1,12 +1,14 @@
 -- T-total, of places: "14 to 16 carry the lowest such node, 13 and 17 the first such branch": a free node's number, and a branch's. Assumes nothing.
+use Rattle.std.specs.Prelude.{Ok, Err}
+use Rattle.std.specs.Prelude.{Option, Some, None}
 use Rattle.std.specs.Prelude.{◌+◌, ◌≤◌, ◌<◌, ◌≡◌, ◌&&◌, ◌∷◌}
 use Rattle.whole.specs.Plain.{ℕ, zero, suc, refl, sym, ap, ◌∙◌, Bool, true, false, cond, not}
 use Rattle.whole.specs.Plain.{true≢false, List, [], map, leb, eqb, length, get_or, take, drop, length-map}
 use Rattle.whole.specs.Plain.{take-append-drop, eqb-true, zero-add, arith, Words, z, word, up_to, count, numbers}
 use Rattle.std.proofs.Common.{add-one}
-use Rattle.paper.specs.declared.Advance.{Advance}
-use Rattle.paper.specs.declared.Advance.TheVariants.{Took, State, Area, Done, Wait, Floating, Range, Unbalanced, History}
-use Rattle.paper.specs.declared.Advance.TheVariants as A
+use Rattle.paper.specs.Replies.{Advance}
+use Rattle.paper.specs.declared.Refusal.TheVariants.{State, Area, Done, Wait, Floating, Range, Unbalanced, History}
+use Rattle.paper.specs.declared.Refusal.TheVariants as A
 use Rattle.whole.specs.Folds.{and_left, count_append, count_next, length_numbers, get_d_map, get_d_numbers}
 use Rattle.whole.specs.Members.{Among, top, below, keep_among, numbers_among, first_among}
 use Rattle.paper.specs.Rows.{Row, kinds, kind, branch_kind, limit, is_branch, is_line, steps}
@@ -17,7 +19,7 @@ use Rattle.paper.specs.Records.{count_of, history_at, well_formed}
 use Rattle.paper.specs.Legs.{Leg, Branch, branch, other_end, Heard, heard, legs_of, legs_by, conducts, line_legs, plain_legs, both_legs, passed_on}
 use Rattle.paper.specs.Sources.{injected}
 use Rattle.paper.specs.Floating.{floating}
-use Rattle.paper.specs.Doubles.{CheckedVoltage, Good, Refused}
+use Rattle.paper.specs.Doubles.{Voltage}
 use Rattle.paper.specs.Solve.{Step, stop, move, solve, settling, passing, solved_step, range_step, balance_step, history_step, and_floating, and_range, and_balance, and_history, settled, still_of, out_of_range, unbalanced, beyond, first_beyond}
 use Rattle.paper.specs.Advance.{Memory, Advanced, finish, take_step, ready, or_wait, waits_for, first_late, on_next, on_net, fits, advance_of}
 use Rattle.paper.proofs.Kept.{either}
@@ -30,17 +32,17 @@ abbrev pub BranchIn : Net → ℕ → Type 0
 BranchIn N b = (1 ≤ b) × (b ≤ count is_branch N.rows)
 
 abbrev pub PlaceIn : Net → Advance → Type 0
-PlaceIn N (Took k) = Unit {0}
-PlaceIn N A.Network = Unit {0}
-PlaceIn N A.Store = Unit {0}
-PlaceIn N State = Unit {0}
-PlaceIn N Area = Unit {0}
-PlaceIn N Done = Unit {0}
-PlaceIn N (Wait b) = BranchIn N b
-PlaceIn N (Floating n) = NodeIn N n
-PlaceIn N (Range n) = NodeIn N n
-PlaceIn N (Unbalanced n) = NodeIn N n
-PlaceIn N (History b) = BranchIn N b
+PlaceIn N (Ok k) = Unit {0}
+PlaceIn N (Err A.Network) = Unit {0}
+PlaceIn N (Err A.Store) = Unit {0}
+PlaceIn N (Err State) = Unit {0}
+PlaceIn N (Err Area) = Unit {0}
+PlaceIn N (Err Done) = Unit {0}
+PlaceIn N (Err (Wait b)) = BranchIn N b
+PlaceIn N (Err (Floating n)) = NodeIn N n
+PlaceIn N (Err (Range n)) = NodeIn N n
+PlaceIn N (Err (Unbalanced n)) = NodeIn N n
+PlaceIn N (Err (History b)) = BranchIn N b
 
 -- ---- nodes
 
@@ -53,12 +55,12 @@ unfolding free_of
 free_in N a i = node_in N a (keep_among _ (nodes_of N a) i).among
 
 -- the first of the free nodes out of range is one of them
-range_among : (ns : List ℕ) (xs : List CheckedVoltage) {n : ℕ} → out_of_range ns xs ≡ suc n → Among (suc n) ns
+range_among : (ns : List ℕ) (xs : List (Option Voltage)) {n : ℕ} → out_of_range ns xs ≡ suc n → Among (suc n) ns
 unfolding out_of_range
 range_among [] xs e = absurd (omega arith)
 range_among (m ∷ ns) [] e = absurd (omega arith)
-range_among (m ∷ ns) (Good v ∷ xs) e = below (range_among ns xs e)
-range_among (m ∷ ns) (Refused ∷ xs) e = top (sym e)
+range_among (m ∷ ns) (Some v ∷ xs) e = below (range_among ns xs e)
+range_among (m ∷ ns) (None ∷ xs) e = top (sym e)
 
 -- ---- branches
 
@@ -168,7 +170,7 @@ legs_rows N a k recs ears = record { many = long; each = at }
 
 -- what a step stops with, and the legs of one that does not
 Stopped : Net → Step → Type 0
-Stopped N (stop x) = PlaceIn N x
+Stopped N (stop x) = PlaceIn N (Err x)
 Stopped N (move bs v) = Rows-of N bs
 
 passing_in : (N : Net) (s : Step) → Stopped N s → Stopped N (passing N s)
@@ -198,7 +200,7 @@ module _ (N : Net) (a k : ℕ) (bs : List Branch) (rows : Rows-of N bs) where
       go zero e = rows
       go (suc n) e = free_in N a (first_among _ (free_of N a) e).0
 
-  range_in : (still : Words) (xs : List CheckedVoltage) → Stopped N (range_step N a k bs still xs)
+  range_in : (still : Words) (xs : List (Option Voltage)) → Stopped N (range_step N a k bs still xs)
   unfolding range_step Stopped
   range_in still xs = go (out_of_range (free_of N a) xs) refl
     where

@@ -1,22 +1,16 @@
 -- T-total: every call ends in an acceptance or in a refusal of the paper's table, 1 to 7 and 9 from reading, 8 and 9 from resetting and from
 -- writing, 8 to 17 from advancing, 2 and 8 to 10 from asking for a node; and a reading's refusal names a line of the text. Assumes nothing.
+use Rattle.std.specs.Prelude.{Ok, Err}
 use Rattle.std.specs.Prelude.{◌≤◌, ◌≡◌, ◌⊎◌, ◌||◌}
 use Rattle.whole.specs.Plain.{ℕ, zero, suc, refl, inl, inr, not, List, [], ltb, eqb, lit≤, length}
 use Rattle.whole.specs.Plain.{arith, Words, empty, final, lead, fold}
-use Rattle.paper.specs.declared.Reading.{Reading}
-use Rattle.paper.specs.declared.Reading.TheVariants.{Read, Form, Node, Value, Travel, Double, Full, Size}
-use Rattle.paper.specs.declared.Reading.TheVariants as R
-use Rattle.paper.specs.declared.Resetting.{Resetting}
-use Rattle.paper.specs.declared.Resetting.TheVariants.{Reset}
-use Rattle.paper.specs.declared.Resetting.TheVariants as S
-use Rattle.paper.specs.declared.Advance.{Advance}
-use Rattle.paper.specs.declared.Advance.TheVariants.{Took, State, Area, Done, Wait, Floating, Range, Unbalanced, History}
-use Rattle.paper.specs.declared.Advance.TheVariants as A
-use Rattle.paper.specs.declared.Writing.{Writing}
-use Rattle.paper.specs.declared.Writing.TheVariants.{Wrote}
-use Rattle.paper.specs.declared.Writing.TheVariants as W
-use Rattle.paper.specs.declared.Looking.{Looking}
-use Rattle.paper.specs.declared.Looking.TheVariants as L
+use Rattle.paper.specs.Replies.{Reading, Resetting, Advance, Writing, Looking}
+use Rattle.paper.specs.declared.Fault.TheVariants.{Form, Node, Value, Travel, Double, Full}
+use Rattle.paper.specs.declared.Unread.TheVariants.{Line, Size}
+use Rattle.paper.specs.declared.Refusal.TheVariants.{Network, Store, State, Area, Done, Wait, Floating, Range, Unbalanced, History}
+use Rattle.paper.specs.declared.Unread.TheVariants as R
+use Rattle.paper.specs.declared.Unfit.TheVariants as S
+use Rattle.paper.specs.declared.Unlooked.TheVariants as L
 use Rattle.whole.specs.Folds.{fold_keeps}
 use Rattle.paper.specs.Limits as Limits
 use Rattle.paper.specs.Answers.{reading_number, resetting_number, advance_number, writing_number}
@@ -30,58 +24,53 @@ use Rattle.paper.proofs.Kept.{either}
 -- ---- the numbers
 
 pub reading_number_lem : (x : Reading) → (reading_number x ≤ 7) ⊎ (reading_number x ≡ 9)
-reading_number_lem Read = inl (lit≤ tt)
-reading_number_lem (Form l) = inl (lit≤ tt)
-reading_number_lem (Node l) = inl (lit≤ tt)
-reading_number_lem (Value l) = inl (lit≤ tt)
-reading_number_lem (Travel l) = inl (lit≤ tt)
-reading_number_lem (Double l) = inl (lit≤ tt)
-reading_number_lem (Full l) = inl (lit≤ tt)
-reading_number_lem Size = inl (lit≤ tt)
-reading_number_lem R.Store = inr refl
+reading_number_lem (Ok tt) = inl (lit≤ tt)
+reading_number_lem (Err (Line l Form)) = inl (lit≤ tt)
+reading_number_lem (Err (Line l Node)) = inl (lit≤ tt)
+reading_number_lem (Err (Line l Value)) = inl (lit≤ tt)
+reading_number_lem (Err (Line l Travel)) = inl (lit≤ tt)
+reading_number_lem (Err (Line l Double)) = inl (lit≤ tt)
+reading_number_lem (Err (Line l Full)) = inl (lit≤ tt)
+reading_number_lem (Err Size) = inl (lit≤ tt)
+reading_number_lem (Err R.Store) = inr refl
 
 pub resetting_number_lem : (x : Resetting) → (resetting_number x ≡ 0) ⊎ ((resetting_number x ≡ 8) ⊎ (resetting_number x ≡ 9))
-resetting_number_lem Reset = inl refl
-resetting_number_lem S.Network = inr (inl refl)
-resetting_number_lem S.Store = inr (inr refl)
+resetting_number_lem (Ok tt) = inl refl
+resetting_number_lem (Err S.Network) = inr (inl refl)
+resetting_number_lem (Err S.Store) = inr (inr refl)
 
 pub writing_number_lem : (x : Writing) → (writing_number x ≡ 0) ⊎ ((writing_number x ≡ 8) ⊎ (writing_number x ≡ 9))
-writing_number_lem (Wrote n) = inl refl
-writing_number_lem W.Network = inr (inl refl)
-writing_number_lem W.Store = inr (inr refl)
+writing_number_lem (Ok n) = inl refl
+writing_number_lem (Err S.Network) = inr (inl refl)
+writing_number_lem (Err S.Store) = inr (inr refl)
 
 pub advance_number_lem : (x : Advance) → (advance_number x ≡ 0) ⊎ ((8 ≤ advance_number x) × (advance_number x ≤ 17))
-advance_number_lem (Took k) = inl refl
-advance_number_lem A.Network = inr (lit≤ tt, lit≤ tt)
-advance_number_lem A.Store = inr (lit≤ tt, lit≤ tt)
-advance_number_lem State = inr (lit≤ tt, lit≤ tt)
-advance_number_lem Area = inr (lit≤ tt, lit≤ tt)
-advance_number_lem Done = inr (lit≤ tt, lit≤ tt)
-advance_number_lem (Wait b) = inr (lit≤ tt, lit≤ tt)
-advance_number_lem (Floating n) = inr (lit≤ tt, lit≤ tt)
-advance_number_lem (Range n) = inr (lit≤ tt, lit≤ tt)
-advance_number_lem (Unbalanced n) = inr (lit≤ tt, lit≤ tt)
-advance_number_lem (History b) = inr (lit≤ tt, lit≤ tt)
+advance_number_lem (Ok k) = inl refl
+advance_number_lem (Err Network) = inr (lit≤ tt, lit≤ tt)
+advance_number_lem (Err Store) = inr (lit≤ tt, lit≤ tt)
+advance_number_lem (Err State) = inr (lit≤ tt, lit≤ tt)
+advance_number_lem (Err Area) = inr (lit≤ tt, lit≤ tt)
+advance_number_lem (Err Done) = inr (lit≤ tt, lit≤ tt)
+advance_number_lem (Err (Wait b)) = inr (lit≤ tt, lit≤ tt)
+advance_number_lem (Err (Floating n)) = inr (lit≤ tt, lit≤ tt)
+advance_number_lem (Err (Range n)) = inr (lit≤ tt, lit≤ tt)
+advance_number_lem (Err (Unbalanced n)) = inr (lit≤ tt, lit≤ tt)
+advance_number_lem (Err (History b)) = inr (lit≤ tt, lit≤ tt)
 
 pub looking_number_lem : (x : Looking) → (looking_number x ≡ 0) ⊎ ((looking_number x ≡ 2) ⊎ ((8 ≤ looking_number x) × (looking_number x ≤ 10)))
-looking_number_lem (L.Told v p s) = inl refl
-looking_number_lem L.Node = inr (inl refl)
-looking_number_lem L.Network = inr (inr (lit≤ tt, lit≤ tt))
-looking_number_lem L.Store = inr (inr (lit≤ tt, lit≤ tt))
-looking_number_lem L.State = inr (inr (lit≤ tt, lit≤ tt))
+looking_number_lem (Ok t) = inl refl
+looking_number_lem (Err L.Node) = inr (inl refl)
+looking_number_lem (Err L.Network) = inr (inr (lit≤ tt, lit≤ tt))
+looking_number_lem (Err L.Store) = inr (inr (lit≤ tt, lit≤ tt))
+looking_number_lem (Err L.State) = inr (inr (lit≤ tt, lit≤ tt))
 
 -- ---- "the answer carries the line number (0 for 7 and 9)": a line of the text, from 1
 
 abbrev pub OnLine : Reading → Type 0
-OnLine Read = Unit {0}
-OnLine (Form l) = 1 ≤ l
-OnLine (Node l) = 1 ≤ l
-OnLine (Value l) = 1 ≤ l
-OnLine (Travel l) = 1 ≤ l
-OnLine (Double l) = 1 ≤ l
-OnLine (Full l) = 1 ≤ l
-OnLine Size = Unit {0}
-OnLine R.Store = Unit {0}
+OnLine (Ok tt) = Unit {0}
+OnLine (Err (Line l f)) = 1 ≤ l
+OnLine (Err Size) = Unit {0}
+OnLine (Err R.Store) = Unit {0}
 
 Numbered : Lines → Type 0
 Numbered (good t) = Unit {0}
@@ -109,12 +98,7 @@ lines_numbered text =
 
 faulty_line : (l f : ℕ) → 1 ≤ l → OnLine (faulty l f)
 unfolding faulty
-faulty_line l f h =
-    either OnLine (eqb f 1) _ _ h
-    (either OnLine (eqb f 2) _ _ h
-    (either OnLine (eqb f 3) _ _ h
-    (either OnLine (eqb f 4) _ _ h
-    (either OnLine (eqb f 5) (Double l) (Full l) h h))))
+faulty_line l f h = h
 
 end_line : (net : Words) (l : Lines) → Numbered l → OnLine (read_end net l).answer
 unfolding Numbered

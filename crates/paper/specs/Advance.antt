@@ -1,9 +1,10 @@
 -- An area's advance. "Advancing: 9, 8, then 10 to 17"; "Every refusal leaves all lent memory unchanged." Assumes nothing.
+use Rattle.std.specs.Prelude.{Ok, Err}
 use Rattle.std.specs.Prelude.{◌+◌, ◌%◌, ◌&&◌, ◌||◌, ◌∷◌}
 use Rattle.whole.specs.Plain.{ℕ, zero, suc, Bool, true, false, cond, not, List, [], leb, ltb}
 use Rattle.whole.specs.Plain.{eqb, ℤ, set, length, Words}
-use Rattle.paper.specs.declared.Advance.{Advance}
-use Rattle.paper.specs.declared.Advance.TheVariants.{Took, Network, Store, State, Area, Done, Wait}
+use Rattle.paper.specs.Replies.{Advance}
+use Rattle.paper.specs.declared.Refusal.TheVariants.{Network, Store, State, Area, Done, Wait}
 use Rattle.whole.specs.Turns.{turns}
 use Rattle.paper.specs.Limits as Limits
 use Rattle.paper.specs.Rows.{Row, is_line, from, to, steps}
@@ -77,8 +78,8 @@ written N a k bs v m =
 -- ---- the call
 
 abbrev pub finish : Net → ℕ → ℕ → Memory → Step → Advanced
-finish N a k m (stop x) = advanced x m
-finish N a k m (move bs v) = advanced (Took k) (written N a k bs v m)
+finish N a k m (stop x) = advanced (Err x) m
+finish N a k m (move bs v) = advanced (Ok k) (written N a k bs v m)
 
 -- "an advance depends on nothing but the network, its own area's records, the far counts and the far values it reads."
 unfoldable pub take_step : Net → ℕ → ℕ → Memory → List Branch → Advanced
@@ -89,7 +90,7 @@ ready N a k m = take_step N a k m (legs_of N a k m.records (heard N a k m.froms 
 
 abbrev pub or_wait : Net → Memory → Advanced → ℕ → Advanced
 or_wait N m next zero = next
-or_wait N m next (suc r) = advanced (Wait (branch_number N (suc r))) m
+or_wait N m next (suc r) = advanced (Err (Wait (branch_number N (suc r)))) m
 
 unfoldable pub on_next : Net → ℕ → ℕ → Memory → Advanced
 on_next N a k m = or_wait N m (ready N a k m) (first_late N a k m.records 0 N.rows)
@@ -97,9 +98,9 @@ on_next N a k m = or_wait N m (ready N a k m) (first_late N a k m.records 0 N.ro
 -- 10 STATE, 11 AREA: "no such area", 12 DONE: "the area has taken all steps"
 unfoldable pub on_net : Net → ℕ → Memory → Advanced
 on_net N a m =
-    cond (not (well_formed N m.records m.froms m.tos)) (advanced State m)
-    (cond (not (leb 1 a && leb a (area_count N))) (advanced Area m)
-    (cond (leb (steps N.head) (count_of m.records a)) (advanced Done m)
+    cond (not (well_formed N m.records m.froms m.tos)) (advanced (Err State) m)
+    (cond (not (leb 1 a && leb a (area_count N))) (advanced (Err Area) m)
+    (cond (leb (steps N.head) (count_of m.records a)) (advanced (Err Done) m)
     (on_next N a (suc (count_of m.records a)) m)))
 
 -- 9 STORE: "a lent length wrong: network 1,024 signed 64-bit words, .. line stores 4,096 each"; with peaks (02) "9 follows the new length" of the records
@@ -112,6 +113,6 @@ fits net m =
 
 unfoldable pub advance_of : Words → ℕ → Memory → Advanced
 advance_of net a m =
-    cond (not (fits net m)) (advanced Store m)
-    (cond (not (is_network net)) (advanced Network m)
+    cond (not (fits net m)) (advanced (Err Store) m)
+    (cond (not (is_network net)) (advanced (Err Network) m)
     (on_net (net_of (table_of net)) a m))

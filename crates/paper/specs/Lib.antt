@@ -1,10 +1,14 @@
 pub mod Limits
+pub mod Sides
 pub mod Rows
 pub mod Classes
+pub mod Kinds
 pub mod Conductance
 pub mod Faults
+pub mod Faulted
 pub mod Text
 pub mod Network
+pub mod Replies
 pub mod Answers
 pub mod Reading
 pub mod Spread

@@ -1,9 +1,9 @@
 -- "Listing": what `emtrun` writes for a study. Assumes nothing.
-use Rattle.std.specs.Prelude.{◌+◌, ◌/◌, ◌%◌, ◌∷◌, ◌++◌}
+use Rattle.std.specs.Prelude.{Ok, Err, ◌+◌, ◌/◌, ◌%◌, ◌∷◌, ◌++◌}
 use Rattle.whole.specs.Plain.{ℕ, zero, suc, Bool, true, false, cond, not, List, [], eqb, ℤ}
 use Rattle.whole.specs.Plain.{pos, negsuc, get_or, length, replicate, Words, z, word, numbers}
-use Rattle.paper.specs.declared.Advance.{Advance}
-use Rattle.paper.specs.declared.Reading.{Reading}
+use Rattle.paper.specs.Replies.{Advance, Reading}
+use Rattle.paper.specs.declared.Refusal.{Refusal}
 use Rattle.whole.specs.Turns.{turns}
 use Rattle.paper.specs.Limits as Limits
 use Rattle.paper.specs.Rows.{bytes, is_branch, is_line, steps}
@@ -11,7 +11,7 @@ use Rattle.paper.specs.Text.{LF, TAB, MINUS}
 use Rattle.paper.specs.Network.{table_of}
 use Rattle.paper.specs.Areas.{Net, net_of, area_count, branch_number}
 use Rattle.paper.specs.Records.{volt_at, current_at, to_current_at}
-use Rattle.paper.specs.Answers.{reading_number, reading_line, advance_number, advance_place, accepted}
+use Rattle.paper.specs.Answers.{reading_number, reading_line, refusal_number, refusal_place}
 use Rattle.paper.specs.Reading.{read_of}
 use Rattle.paper.specs.Advance.{Memory, Advanced, advance_of}
 use Rattle.paper.specs.Resetting.{fresh}
@@ -70,15 +70,15 @@ pub data Run : Type 0 where
   ended : List ℕ → Run
 
 -- "or `stop`, step, area, number, node-or-branch"
-abbrev pub stop_line : ℕ → ℕ → Advance → List ℕ
-stop_line k a x = line_of (bytes "stop") (pos k ∷ pos a ∷ pos (advance_number x) ∷ pos (advance_place x) ∷ [])
+abbrev pub stop_line : ℕ → ℕ → Refusal → List ℕ
+stop_line k a x = line_of (bytes "stop") (pos k ∷ pos a ∷ pos (refusal_number x) ∷ pos (refusal_place x) ∷ [])
 
-abbrev pub went : ℕ → ℕ → List ℕ → Advanced → Bool → Run
-went k a out r true = going r.after out
-went k a out r false = ended (out ++ stop_line k a r.answer)
+abbrev pub went : ℕ → ℕ → List ℕ → Memory → Advance → Run
+went k a out m (Ok c) = going m out
+went k a out m (Err x) = ended (out ++ stop_line k a x)
 
 unfoldable pub went_on : ℕ → ℕ → List ℕ → Advanced → Run
-went_on k a out r = went k a out r (accepted r.answer)
+went_on k a out r = went k a out r.after r.answer
 
 unfoldable pub area_run : Words → ℕ → ℕ → Run → Run
 area_run net k a (going m out) = went_on k a out (advance_of net a m)

@@ -2,9 +2,7 @@
 -- all inputs, refused ones too; and that it leaves nothing open. Assumes nothing.
 use Rattle.std.specs.Prelude.{◌≡◌}
 use Rattle.whole.specs.Plain.{ℕ, sym, ◌∙◌, List, Words}
-use Rattle.paper.specs.declared.Reading.{Reading}
-use Rattle.paper.specs.declared.Resetting.{Resetting}
-use Rattle.paper.specs.declared.Advance.{Advance}
+use Rattle.paper.specs.Replies.{Reading, Resetting, Advance}
 use Rattle.paper.specs.Reading.{read_of}
 use Rattle.paper.specs.Resetting.{reset_of}
 use Rattle.paper.specs.Advance.{Memory, advance_of}

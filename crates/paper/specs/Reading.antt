@@ -1,11 +1,13 @@
 -- Reading a study text into a lent network record. "Reading: 9, 7, then the first faulty line, in it 1 to 6 in turn". Assumes nothing.
+use Rattle.std.specs.Prelude.{Ok, Err}
 use Rattle.std.specs.Prelude.{◌||◌, ◌∷◌, ◌++◌}
 use Rattle.whole.specs.Plain.{ℕ, zero, suc, cond, not, List, [], ltb, eqb, length, Words, empty}
 use Rattle.whole.specs.Plain.{lead, final, fold}
-use Rattle.paper.specs.declared.Reading.{Reading}
-use Rattle.paper.specs.declared.Reading.TheVariants.{Read, Form, Node, Value, Travel, Double, Full, Size, Store}
+use Rattle.paper.specs.Replies.{Reading}
+use Rattle.paper.specs.declared.Unread.TheVariants.{Line, Size, Store}
 use Rattle.paper.specs.Limits as Limits
 use Rattle.paper.specs.Rows.{Row}
+use Rattle.paper.specs.Faulted.{fault_from}
 use Rattle.paper.specs.Faults.{row_fault}
 use Rattle.paper.specs.Text.{LF, split, formed, row_of}
 use Rattle.paper.specs.Network.{Table, network_of}
@@ -43,12 +45,7 @@ lines_of text = let pieces = split LF text in closed (final [] pieces) (fold lin
 
 -- "the answer carries the line number"
 unfoldable pub faulty : ℕ → ℕ → Reading
-faulty l f =
-    cond (eqb f 1) (Form l)
-    (cond (eqb f 2) (Node l)
-    (cond (eqb f 3) (Value l)
-    (cond (eqb f 4) (Travel l)
-    (cond (eqb f 5) (Double l) (Full l)))))
+faulty l f = Err (Line l (fault_from f))
 
 pub record Read-out : Type 0 where
   pub answer : Reading
@@ -59,11 +56,11 @@ read_out a n = record { answer = a; network = n }
 
 -- "Every refusal leaves all lent memory unchanged."
 abbrev pub read_end : Words → Lines → Read-out
-read_end net (good t) = read_out Read (network_of t)
+read_end net (good t) = read_out (Ok tt) (network_of t)
 read_end net (bad l f) = read_out (faulty l f) net
 
 unfoldable pub read_of : List ℕ → Words → Read-out
 read_of text net =
-    cond (not (eqb (length net) Limits.network_words)) (read_out Store net)
-    (cond (ltb Limits.text_end (length text)) (read_out Size net)
+    cond (not (eqb (length net) Limits.network_words)) (read_out (Err Store) net)
+    (cond (ltb Limits.text_end (length text)) (read_out (Err Size) net)
     (read_end net (lines_of text)))

@@ -1,7 +1,8 @@
 -- "Resetting gives 9 or 8, or writes the records and both line stores all zero and answers 0." Assumes nothing.
+use Rattle.std.specs.Prelude.{Ok, Err}
 use Rattle.whole.specs.Plain.{cond, not, replicate, Words, z}
-use Rattle.paper.specs.declared.Resetting.{Resetting}
-use Rattle.paper.specs.declared.Resetting.TheVariants.{Reset, Network, Store}
+use Rattle.paper.specs.Replies.{Resetting}
+use Rattle.paper.specs.declared.Unfit.TheVariants.{Network, Store}
 use Rattle.paper.specs.Limits as Limits
 use Rattle.paper.specs.Network.{is_network}
 use Rattle.paper.specs.Advance.{Memory, memory, fits}
@@ -19,5 +20,5 @@ fresh = memory (replicate Limits.record_words z) (replicate Limits.store_words z
 
 unfoldable pub reset_of : Words → Memory → Reset-out
 reset_of net m =
-    cond (not (fits net m)) (reset_out Store m)
-    (cond (not (is_network net)) (reset_out Network m) (reset_out Reset fresh))
+    cond (not (fits net m)) (reset_out (Err Store) m)
+    (cond (not (is_network net)) (reset_out (Err Network) m) (reset_out (Ok tt) fresh))

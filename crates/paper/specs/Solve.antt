@@ -1,11 +1,12 @@
 -- One step of one area, from its own records and what it receives: the voltages, or a refusal of 14 to 17. Assumes nothing.
+use Rattle.std.specs.Prelude.{Option, Some, None}
 use Rattle.whole.specs.Plain.{ℕ, zero, suc, Bool, false, cond, not, List, [], map, eqb, ℤ, pos, neg_ℤ}
 use Rattle.whole.specs.Plain.{set, length, replicate, take, Words, z, word, up_to, filled, first, fold, total}
 use Rattle.std.specs.Prelude.{Float, ◌&&◌, ◌∷◌, ◌-ℤ◌, ◌*ℤ◌}
 use Rattle.std.specs.Float.{fin}
 use Rattle.paper.specs.declared.Equation.{Equation}
-use Rattle.paper.specs.declared.Advance.{Advance}
-use Rattle.paper.specs.declared.Advance.TheVariants.{Floating, Range, Unbalanced, History}
+use Rattle.paper.specs.declared.Refusal.{Refusal}
+use Rattle.paper.specs.declared.Refusal.TheVariants.{Floating, Range, Unbalanced, History}
 use Rattle.paper.specs.Limits as Limits
 use Rattle.paper.specs.Rows.{limit}
 use Rattle.paper.specs.Areas.{Net, fixed, free_of, nodes_of, branch_number}
@@ -13,7 +14,7 @@ use Rattle.paper.specs.Sources.{held, injected}
 use Rattle.paper.specs.Legs.{Leg, Branch, both_legs, current, passed_on}
 use Rattle.paper.specs.Floating.{floating}
 use Rattle.paper.specs.Elimination.{System, sys, voltages}
-use Rattle.paper.specs.Doubles.{CheckedVoltage, Good, Refused, double, nearest_of}
+use Rattle.paper.specs.Doubles.{Voltage, double, nearest_of}
 
 -- ---- the equations
 
@@ -53,24 +54,24 @@ system legs free still inject =
 -- ---- the voltages
 
 -- "Each x within the voltage range goes to the nearest whole number, halves away from zero"
-unfoldable pub proposed : List Leg → List ℕ → Words → (ℕ → ℤ) → List CheckedVoltage
+unfoldable pub proposed : List Leg → List ℕ → Words → (ℕ → ℤ) → List (Option Voltage)
 proposed legs free still inject = map nearest_of (take (length free) (voltages (length free) (system legs free still inject)))
 
 -- "one that isn't within it, not-a-number included, is RANGE": the lowest such node, or 0
-abbrev pub out_of : CheckedVoltage → ℕ → ℕ → ℕ
-out_of (Good v) n rest = rest
-out_of Refused n rest = n
+abbrev pub out_of : Option Voltage → ℕ → ℕ → ℕ
+out_of (Some v) n rest = rest
+out_of None n rest = n
 
-unfoldable pub out_of_range : List ℕ → List CheckedVoltage → ℕ
+unfoldable pub out_of_range : List ℕ → List (Option Voltage) → ℕ
 out_of_range [] xs = 0
 out_of_range (n ∷ ns) [] = 0
 out_of_range (n ∷ ns) (x ∷ xs) = out_of x n (out_of_range ns xs)
 
-abbrev pub settle : Words → ℕ → CheckedVoltage → Words
-settle v n (Good x) = set v n x.tenths
-settle v n Refused = v
+abbrev pub settle : Words → ℕ → Option Voltage → Words
+settle v n (Some x) = set v n x.tenths
+settle v n None = v
 
-unfoldable pub settled : List ℕ → List CheckedVoltage → Words → Words
+unfoldable pub settled : List ℕ → List (Option Voltage) → Words → Words
 settled [] xs v = v
 settled (n ∷ ns) [] v = v
 settled (n ∷ ns) (x ∷ xs) v = settled ns xs (settle v n x)
@@ -98,7 +99,7 @@ first_beyond v i (b ∷ bs) = let r = first_beyond v (suc i) bs in cond (beyond 
 
 -- a refusal, or the voltages by node and the legs that they were found from
 pub data Step : Type 0 where
-  stop : Advance → Step
+  stop : Refusal → Step
   move : List Branch → Words → Step
 
 -- the voltages by node before solving: sources at the area's fixed nodes, 0 elsewhere
@@ -117,7 +118,7 @@ abbrev pub and_range : Step → ℕ → Step
 and_range next zero = next
 and_range next (suc n) = stop (Range (suc n))
 
-unfoldable pub range_step : Net → ℕ → ℕ → List Branch → Words → List CheckedVoltage → Step
+unfoldable pub range_step : Net → ℕ → ℕ → List Branch → Words → List (Option Voltage) → Step
 range_step N a k bs still xs = and_range (balance_step N a k bs (settled (free_of N a) xs still)) (out_of_range (free_of N a) xs)
 
 unfoldable pub solved_step : Net → ℕ → ℕ → List Branch → Words → Step

@@ -1,5 +1,5 @@
 -- The rounds of `Spread` as code goes about them: row by row, on an array of 33 marks of which those past the last node are 0. Assumes nothing.
-use Rattle.std.specs.Prelude.{◌+◌, ◌-◌, ◌≤◌, ◌<◌, ◌≡◌, ◌||◌, ◌∷◌}
+use Rattle.std.specs.Prelude.{◌+◌, ◌-◌, ◌<◌, ◌≡◌, ◌||◌, ◌∷◌}
 use Rattle.whole.specs.Plain.{ℕ, zero, suc, min, refl, sym, ap, ◌∙◌, Bool, true, false, cond}
 use Rattle.whole.specs.Plain.{not, List, [], eqb, leb, length, get_or, set, drop, length-set}
 use Rattle.whole.specs.Plain.{get_or-eq_default, set-get_or, ext_get_or, eqb-true, not-false, le-leb, lt-leb, dec_le}
@@ -84,10 +84,6 @@ pub moved_next : (l m m' z : List ℕ) (a b : Bool) (rows : List Row) (i : ℕ) 
     → (a ≡ false → m ≡ l) × (fold join_row m (drop i rows) ≡ z) → Moved m m' (join_row m r) b → ((a || b) ≡ false → m' ≡ l) × (fold join_row m' (drop (i + 1) rows) ≡ z)
 moved_next l m m' z a b rows i r h e v w =
     (λ f. w.still (or_right a b f) ∙ v.0 (or_left a b f), fold_next join_row rows i [] m m' z h (w.is ∙ ap (join_row m) e) v.1)
-
-pub next_turn : (b : Bool) (i n k : ℕ) → i < n → k ≡ cond b (i + 1) n → (i < k) × (k ≤ n)
-next_turn true i n k h e = omega (arith, e)
-next_turn false i n k h e = omega (arith, e)
 
 -- a round that changes nothing is the last
 still_turns : (rows : List Row) (k i : ℕ) (m : List ℕ) → round_of rows 0 m ≡ m → run k i (round_of rows) m ≡ m

@@ -2,17 +2,18 @@
 
 // "Areas.": which nodes R, L, C, SW and SWT join, by rounds over the rows, and the areas numbered from 1 by their lowest node.
 ghost use Rattle.std.specs.Prelude.{◌≤◌, ◌<◌, ◌+◌, ◌≡◌};
-ghost use Rattle.whole.specs.Plain.{suc, true, cond, leb, length, get_or, filled, numbers};
+ghost use Rattle.whole.specs.Plain.{suc, cond, eqb, leb, length, get_or, filled, numbers};
 ghost use Rattle.paper.specs.Limits as Limits;
+ghost use Rattle.paper.specs.Kinds.{number};
 ghost use Rattle.paper.specs.Spread.{joined};
 ghost use Rattle.whole.specs.Turns.{turns};
-ghost use Rattle.paper.specs.Network.{is_network};
 ghost use Rattle.paper.specs.Areas.{area_count};
 ghost use Rattle.laws_facts.specs.Nets.{net_in, row_at};
 ghost use Rattle.plan_areas.specs.Marks.{mark_words, Moved, join_row, round_of};
 ghost use Rattle.plan_areas.specs.Numbered.{count_at, number_at, low_in};
 
-use paper::{Node, kinds};
+use paper::{Kind, Node};
+use plan_record::Record;
 
 // a node's first mark is its own number
 fn own_mark(n: usize, nodes: usize) -> usize
@@ -25,10 +26,8 @@ fn start(area: &mut [usize; Node::PLACES], nodes: usize)
     requires { (length area.old ≡ Limits.node_end + 1) × (nodes < Limits.node_end + 1) }
     ensures { area.new ≡ filled mark_words 0 (numbers 0 (suc nodes)) }
 {
-    let mut n = 0;
-    while n < Node::PLACES {
+    for n in 0..Node::PLACES {
         area[n] = own_mark(n, nodes);
-        n += 1;
     }
 }
 
@@ -40,69 +39,60 @@ fn join(area: &mut [usize; Node::PLACES], one: usize, two: usize) -> bool
 {
     let a = area[one];
     let b = area[two];
-    let low = if a < b { a } else { b };
+    let low = a.min(b);
     area[one] = low;
     area[two] = low;
     a != b
 }
 
-// Row i's turn in a round. "Nodes joined by R, L, C or SW (open or closed) are in one area. Ground and lines join nothing."
-fn join_row(net: &[i64], i: usize, area: &mut [usize; Node::PLACES]) -> bool
-    requires net_value { is_network net.now ≡ true }
-    requires i_in_bounds { (i < length (net_in net.now).rows) × (length area.old ≡ Limits.node_end + 1) }
-    ensures { Moved area.old area.new (join_row area.old (row_at (net_in net.now) i)) result }
+fn is_line(kind: Kind) -> bool
+    ensures { result ≡ eqb (number kind) 4 }
 {
-    let kind = plan_record::kind(net, i);
-    if kind == kinds::LINE {
+    matches!(kind, Kind::Line)
+}
+
+// Row i's turn in a round. "Nodes joined by R, L, C or SW (open or closed) are in one area. Ground and lines join nothing."
+fn join_row(net: Record<'_>, i: usize, area: &mut [usize; Node::PLACES]) -> bool
+    requires { (i < length (net_in net.words.now).rows) × (length area.old ≡ Limits.node_end + 1) }
+    ensures { Moved area.old area.new (join_row area.old (row_at (net_in net.entry.words.now) i)) result }
+{
+    let kind = net.kind(i);
+    if is_line(kind) {
         return false;
     }
-    if !kinds::is_branch(kind) {
+    if !kind.is_branch() {
         return false;
     }
-    let one = plan_record::number(net, i, 1);
-    let two = plan_record::number(net, i, 2);
-    if one == 0 {
-        return false;
-    }
-    if two == 0 {
+    let one = net.number(i, 1);
+    let two = net.number(i, 2);
+    if one == 0 || two == 0 {
         return false;
     }
     join(area, one, two)
 }
 
 // One round over the rows; whether a mark changed.
-fn round(net: &[i64], rows: usize, area: &mut [usize; Node::PLACES]) -> bool
-    requires net_value { is_network net.now ≡ true }
-    requires rows_value { (rows ≡ length (net_in net.now).rows) × (length area.old ≡ Limits.node_end + 1) }
-    ensures { Moved area.old area.new (round_of (net_in net.now).rows 0 area.old) result }
+fn round(net: Record<'_>, area: &mut [usize; Node::PLACES]) -> bool
+    requires { length area.old ≡ Limits.node_end + 1 }
+    ensures { Moved area.old area.new (round_of (net_in net.entry.words.now).rows 0 area.old) result }
 {
     let mut moved = false;
-    let mut i = 0;
-    while i < rows {
+    for i in 0..net.row_count() {
         let here = join_row(net, i, area);
         moved = moved | here;
-        i += 1;
     }
     moved
 }
 
-// the next round's number: a round that changes nothing is the last
-fn next_round(turn: usize, moved: bool) -> usize
-    requires { turn < Limits.node_end }
-    ensures { result ≡ cond moved (turn + 1) Limits.node_end }
+// All rounds: one that changes nothing is the last.
+fn spread(net: Record<'_>, area: &mut [usize; Node::PLACES])
+    requires { length area.old ≡ Limits.node_end + 1 }
+    ensures { area.new ≡ turns 0 Limits.node_end (round_of (net_in net.entry.words.now).rows) area.old }
 {
-    if moved { turn + 1 } else { Node::MAX as usize }
-}
-
-fn spread(net: &[i64], rows: usize, area: &mut [usize; Node::PLACES])
-    requires net_value { is_network net.now ≡ true }
-    requires rows_value { (rows ≡ length (net_in net.now).rows) × (length area.old ≡ Limits.node_end + 1) }
-    ensures { area.new ≡ turns 0 Limits.node_end (round_of (net_in net.now).rows) area.old }
-{
-    let mut turn = 0;
-    while turn < Node::MAX as usize {
-        let moved = round(net, rows, area);
-        turn = next_round(turn, moved);
+    for _turn in 0..Node::MAX as usize {
+        if !round(net, area) {
+            return;
+        }
     }
 }
 
@@ -122,28 +112,23 @@ fn number_node(area: &mut [usize; Node::PLACES], n: usize, count: usize) -> usiz
 }
 
 // "Areas are numbered from 1 by their lowest node": how many there are.
-fn number_areas(net: &[i64], nodes: usize, area: &mut [usize; Node::PLACES]) -> usize
-    requires net_value { is_network net.now ≡ true }
-    requires nodes_value { (nodes ≡ (net_in net.now).nodes) × (area.old ≡ filled mark_words 0 (low_in net.now)) }
-    ensures { (area.new ≡ filled mark_words 0 (net_in net.now).areas) × (result ≡ area_count (net_in net.now)) }
+fn number_areas(net: Record<'_>, nodes: usize, area: &mut [usize; Node::PLACES]) -> usize
+    requires { (nodes ≡ (net_in net.words.now).nodes) × (area.old ≡ filled mark_words 0 (low_in net.words.now)) }
+    ensures { (area.new ≡ filled mark_words 0 (net_in net.entry.words.now).areas) × (result ≡ area_count (net_in net.entry.words.now)) }
 {
     let mut count = 0;
-    let mut n = 0;
-    while n < nodes {
-        n += 1;
+    for n in 1..=nodes {
         count = number_node(area, n, count);
     }
     count
 }
 
 // The area of each node into `area`, ground's and those past the last node 0; and how many areas there are.
-pub fn areas(net: &[i64], rows: usize, nodes: usize, area: &mut [usize; Node::PLACES]) -> usize
-    requires net_value { is_network net.now ≡ true }
-    requires rows_value { (rows ≡ length (net_in net.now).rows)
-        × ((nodes ≡ (net_in net.now).nodes) × (length area.old ≡ Limits.node_end + 1)) }
-    ensures { (area.new ≡ filled mark_words 0 (net_in net.now).areas) × (result ≡ area_count (net_in net.now)) }
+pub fn areas(net: Record<'_>, nodes: usize, area: &mut [usize; Node::PLACES]) -> usize
+    requires { (nodes ≡ (net_in net.words.now).nodes) × (length area.old ≡ Limits.node_end + 1) }
+    ensures { (area.new ≡ filled mark_words 0 (net_in net.entry.words.now).areas) × (result ≡ area_count (net_in net.entry.words.now)) }
 {
     start(area, nodes);
-    spread(net, rows, area);
+    spread(net, area);
     number_areas(net, nodes, area)
 }

@@ -1,12 +1,16 @@
 -- What is an area's own: the ends of rows that leave its nodes, its nodes, its sources. End e is the end 1 + e mod 2 of row e / 2: 1 the from end, 2
 -- the to end. Assumes nothing.
-use Rattle.std.specs.Prelude.{◌+◌, ◌-◌, ◌*◌, ◌/◌, ◌%◌, ◌≤◌, ◌<◌, ◌≡◌, ◌&&◌, ◌∷◌, ◌++◌}
+use Rattle.std.specs.Prelude.{◌+◌, ◌-◌, ◌*◌, ◌/◌, ◌%◌, ◌≤◌, ◌<◌, ◌≡◌, ◌&&◌, ◌++◌}
 use Rattle.whole.specs.Plain.{ℕ, zero, suc, refl, Bool, true, false, cond}
-use Rattle.whole.specs.Plain.{List, [], map, eqb, ℤ, pos, neg_ℤ, get_or, length, arith, Words, word, nat, numbers, keep}
+use Rattle.whole.specs.Plain.{List, map, eqb, ℤ, pos, neg_ℤ, get_or, length, arith, word, nat, numbers, keep}
 use Rattle.paper.specs.Rows.{Row, kind, is_line, is_branch, is_source, is_vC, at, peak, start, rise, frequency}
 use Rattle.paper.specs.Areas.{Net, step, area_of, row_area, fixed, nodes_of, free_of}
 use Rattle.paper.specs.Classes.{line_branch}
 use Rattle.laws_facts.specs.Nets.{row_at}
+use Rattle.step_legs.specs.declared.Wire.{Wire}
+use Rattle.plan_ends.specs.Kinds.{kind_at}
+use Rattle.step_legs.specs.declared.Source.{Source}
+use Rattle.step_legs.specs.Wires.{wire_at}
 
 -- the area at one end of a row: a line's ends are each their own node's, a source has none
 unfoldable pub owner_of : Net → Row → ℕ → ℕ
@@ -46,7 +50,7 @@ own_ends N a = keep (own_end N a) (numbers 0 (2 * length N.rows))
 abbrev pub end_at : Net → ℕ → ℕ → ℕ
 end_at N a j = get_or (own_ends N a) j 0
 
--- ---- an end as a line of words: what of a leg the network alone settles
+-- ---- an end as a wire: what of a leg the network alone settles
 
 unfoldable pub near_of : Net → ℕ → ℕ
 near_of N e = nat (word (row_of_end N e) (side_of_end e))
@@ -55,18 +59,17 @@ near_of N e = nat (word (row_of_end N e) (side_of_end e))
 unfoldable pub far_of : Net → ℕ → ℕ
 far_of N e = cond (is_line (row_of_end N e)) 0 (nat (word (row_of_end N e) (3 - side_of_end e)))
 
-pub record FrameOf (N : Net) (e : ℕ) (l : Words) : Type 0 where
-  pub long : length l ≡ 9
-  pub near : word l 0 ≡ pos (near_of N e)
-  pub far : word l 1 ≡ pos (far_of N e)
-  pub row : word l 2 ≡ pos (e / 2)
-  pub end : word l 3 ≡ pos (side_of_end e)
-  pub kind : word l 4 ≡ pos (kind (row_of_end N e))
+pub record FrameOf (N : Net) (e : ℕ) (w : Wire) : Type 0 where
+  pub near : w.near ≡ near_of N e
+  pub far : w.far ≡ far_of N e
+  pub row : w.row ≡ e / 2
+  pub end : w.end ≡ side_of_end e
+  pub kind : w.kind ≡ kind (row_of_end N e)
 
 -- the area's legs, each with its frame
-pub record Framed (N : Net) (a : ℕ) (legs : List Words) : Type 0 where
+pub record Framed (N : Net) (a : ℕ) (legs : List Wire) : Type 0 where
   pub long : length legs ≡ length (own_ends N a)
-  pub line : (j : ℕ) → j < length legs → FrameOf N (end_at N a j) (get_or legs j [])
+  pub line : (j : ℕ) → j < length legs → FrameOf N (end_at N a j) (wire_at legs j)
 
 -- ---- its nodes: the free ones, "in rising order", then the fixed ones
 
@@ -89,9 +92,9 @@ own_sources N a = keep (own_source N a) N.rows
 unfoldable pub pace_of : Net → Row → ℤ
 pace_of N r = cond (is_vC r) (neg_ℤ (pos (step N * frequency r))) (pos (rise r))
 
--- a source as a line of words
-unfoldable pub source_line : Net → Row → Words
-source_line N r = pos (kind r) ∷ pos (at r) ∷ peak r ∷ pos (start r) ∷ pace_of N r ∷ []
+-- a source, as a step goes by it
+unfoldable pub source_line : Net → Row → Source
+source_line N r = record { kind = kind_at (kind r); node = at r; peak = peak r; start = pos (start r); pace = pace_of N r }
 
-abbrev pub source_lines : Net → ℕ → List Words
+abbrev pub source_lines : Net → ℕ → List Source
 source_lines N a = map (source_line N) (own_sources N a)

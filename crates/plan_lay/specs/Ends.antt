@@ -1,16 +1,17 @@
--- An area's own ends as lines, by a plan: they are those of the network that the plan is of. Assumes nothing.
-use Rattle.std.specs.Prelude.{◌-◌, ◌*◌, ◌/◌, ◌≤◌, ◌<◌, ◌≡◌, ◌∷◌}
-use Rattle.whole.specs.Plain.{ℕ, refl, sym, ap, ◌∙◌, Bool, true, false, cond, List, []}
-use Rattle.whole.specs.Plain.{map, eqb, pos, length, length-map, eqb-true, arith, Words, z, word, nat}
+-- An area's own ends as wires, by a plan: they are those of the network that the plan is of. Assumes nothing.
+use Rattle.std.specs.Prelude.{◌-◌, ◌*◌, ◌/◌, ◌≤◌, ◌<◌, ◌≡◌}
+use Rattle.whole.specs.Plain.{ℕ, refl, ap, ◌∙◌, Bool, true, cond, List}
+use Rattle.whole.specs.Plain.{map, eqb, length, length-map, eqb-true, arith, word, nat}
 use Rattle.whole.specs.Folds.{get_d_map}
-use Rattle.paper.specs.Limits as Limits
 use Rattle.paper.specs.Rows.{kind, is_line, is_branch}
 use Rattle.paper.specs.Areas.{Net}
 use Rattle.laws_facts.specs.Nets.{row_at}
 use Rattle.plan_ends.specs.Own.{of_sides, own_branch, row_of_end, side_of_end, own_end, own_ends, near_of, far_of, Framed}
 use Rattle.plan_rows.specs.declared.Row.{Row}
+use Rattle.step_legs.specs.declared.Wire.{Wire}
+use Rattle.step_legs.specs.Wires.{no_wire}
 use Rattle.plan_rows.specs.ByKind.{line_kind}
-use Rattle.plan_rows.specs.Planned.{row_in, row_of, to_at, owner_in, node_in, Planned, Noded}
+use Rattle.plan_rows.specs.Planned.{row_in, row_of, to_at, owner_in, node_in, Planned}
 use Rattle.plan_rows.specs.Laws.{owner_is}
 use Rattle.plan_lay.specs.Listed.{listed, listed_same}
 
@@ -18,48 +19,39 @@ use Rattle.plan_lay.specs.Listed.{listed, listed_same}
 unfoldable pub far_in : Row → ℕ → ℕ
 far_in r end = cond (line_kind r.kind) 0 (node_in r (3 - end))
 
--- one end of row i as a line: near, far, row, end, kind; the words of a step are 0
-abbrev pub frame_in : Row → ℕ → ℕ → Words
-frame_in r i end = pos (node_in r end) ∷ pos (far_in r end) ∷ pos i ∷ pos end ∷ pos r.kind ∷ z ∷ z ∷ z ∷ z ∷ []
+-- one end of row i as a wire: near, far, row, end, kind; the words of a step are 0
+abbrev pub frame_in : Row → ℕ → ℕ → Wire
+frame_in r i end = record no_wire { near = node_in r end; far = far_in r end; row = i; end = end; kind = r.kind }
 
-unfoldable pub own_by : List (List ℕ) → ℕ → ℕ → Bool
+unfoldable pub own_by : List Row → ℕ → ℕ → Bool
 own_by plan a e = eqb (owner_in (row_in plan (e / 2)) (side_of_end e)) a
 
-unfoldable pub frame_by : List (List ℕ) → ℕ → Words
+unfoldable pub frame_by : List Row → ℕ → Wire
 frame_by plan e = frame_in (row_in plan (e / 2)) (e / 2) (side_of_end e)
 
-abbrev pub legs_by : List (List ℕ) → ℕ → ℕ → List Words
+abbrev pub legs_by : List Row → ℕ → ℕ → List Wire
 legs_by plan a rows = listed (own_by plan a) (frame_by plan) 0 (2 * rows)
 
 -- end e, of what stands in the plan
-module _ (plan : List (List ℕ)) {r : Row} {i : ℕ} (q : r ≡ row_in plan i) (e end : ℕ) (half : e / 2 ≡ i) (side : side_of_end e ≡ end) where
-  pub own_at : (a : ℕ) → own_by plan a e ≡ eqb (owner_in r end) a
+module _ (plan : List Row) (i e end : ℕ) (half : e / 2 ≡ i) (side : side_of_end e ≡ end) where
+  pub own_at : (a : ℕ) → own_by plan a e ≡ eqb (owner_in (row_in plan i) end) a
   unfolding own_by
-  own_at a = rw (half, side) (ap (λ (r : Row). eqb (owner_in r end) a) (sym q))
+  own_at a = rw (half, side)
 
-  pub frame_at : frame_by plan e ≡ frame_in r i end
+  pub frame_at : frame_by plan e ≡ frame_in (row_in plan i) i end
   unfolding frame_by
-  frame_at = rw (half, side) (ap (λ (r : Row). frame_in r i end) (sym q))
+  frame_at = rw (half, side)
 
 -- as the network has them
-unfoldable pub frame_of : Net → ℕ → Words
-frame_of N e = pos (near_of N e) ∷ pos (far_of N e) ∷ pos (e / 2) ∷ pos (side_of_end e) ∷ pos (kind (row_of_end N e)) ∷ z ∷ z ∷ z ∷ z ∷ []
+unfoldable pub frame_of : Net → ℕ → Wire
+frame_of N e = record no_wire { near = near_of N e; far = far_of N e; row = e / 2; end = side_of_end e; kind = kind (row_of_end N e) }
 
 pub framed_lines : (N : Net) (a : ℕ) → Framed N a (map (frame_of N) (own_ends N a))
 unfolding frame_of
 framed_lines N a = record {
   long = length-map (own_ends N a) (frame_of N);
-  line = λ j h. rw (get_d_map (frame_of N) (own_ends N a) j 0 [] (omega (arith, length-map (own_ends N a) (frame_of N)))) (record { long = refl; near = refl; far = refl; row = refl; end = refl; kind = refl });
+  line = λ j h. rw (get_d_map (frame_of N) (own_ends N a) j 0 no_wire (omega (arith, length-map (own_ends N a) (frame_of N)))) (record { near = refl; far = refl; row = refl; end = refl; kind = refl });
 }
-
--- its nodes are nodes
-pub node_end_lem : {r : Row} → Noded r → (e : ℕ) → node_in r e ≤ Limits.node_end
-unfolding node_in
-node_end_lem {r} n e = elim (eqb e 1) as (λ b. cond b r.from r.to ≤ Limits.node_end) [ true ↦ n.from_end | false ↦ n.to_end ]
-
-pub far_end : {r : Row} → Noded r → (e : ℕ) → far_in r e ≤ Limits.node_end
-unfolding far_in
-far_end {r} n e = elim (line_kind r.kind) as (λ b. cond b 0 (node_in r (3 - e)) ≤ Limits.node_end) [ true ↦ omega arith | false ↦ node_end_lem n (3 - e) ]
 
 -- ---- one end of a row
 module _ (N : Net) (i : ℕ) (b : is_branch (row_at N i) ≡ true) where
@@ -72,7 +64,7 @@ module _ (N : Net) (i : ℕ) (b : is_branch (row_at N i) ≡ true) where
   far_is e l h = ap (λ (n : ℕ). cond (is_line (row_at N i)) 0 n) (node_is (3 - e) (omega arith) (omega arith))
 
 -- ---- all of them
-module _ {N : Net} {plan : List (List ℕ)} (p : Planned N plan) (a : ℕ) (one : 1 ≤ a) where
+module _ {N : Net} {plan : List Row} (p : Planned N plan) (a : ℕ) (one : 1 ≤ a) where
   row_of_lem : (e : ℕ) → e < 2 * length N.rows → row_in plan (e / 2) ≡ row_of N (e / 2)
   row_of_lem e h = p.row (e / 2) (omega arith)
 

@@ -1,22 +1,24 @@
--- An area's sources as lines, by the places of their rows. Assumes nothing.
-use Rattle.std.specs.Prelude.{◌+◌, ◌*◌, ◌≡◌, ◌∷◌}
+-- An area's sources, by the places of their rows. Assumes nothing.
+use Rattle.std.specs.Prelude.{◌+◌, ◌*◌, ◌≡◌}
 use Rattle.whole.specs.Plain.{ℕ, sym, ap, ◌∙◌, Bool, true, false, pos, neg_ℤ, List, [], map, map-map, length, get_or}
-use Rattle.whole.specs.Plain.{length-map, ext_get_or, arith, Words, word, numbers, keep}
+use Rattle.whole.specs.Plain.{length-map, ext_get_or, arith, word, numbers, keep}
 use Rattle.whole.specs.Folds.{keep_map, get_d_map, get_d_numbers, length_numbers}
-use Rattle.paper.specs.Rows.{Row, is_source, is_vC, rise, frequency}
+use Rattle.paper.specs.Rows.{Row, kind, at, is_source, is_vC, rise, frequency}
 use Rattle.paper.specs.Areas.{Net, step}
 use Rattle.laws_facts.specs.Sound.{RowSound}
 use Rattle.laws_facts.specs.Nets.{row_at}
+use Rattle.plan_ends.specs.Kinds.{kind_at}
 use Rattle.plan_ends.specs.Own.{own_source, own_sources, pace_of, source_line, source_lines}
+use Rattle.step_legs.specs.declared.Source.{Source}
 use Rattle.plan_lay.specs.Listed.{listed}
 
 abbrev pub source_by : Net → ℕ → ℕ → Bool
 source_by N a i = own_source N a (row_at N i)
 
-abbrev pub line_by : Net → ℕ → Words
+abbrev pub line_by : Net → ℕ → Source
 line_by N i = source_line N (row_at N i)
 
-abbrev pub sources_by : Net → ℕ → ℕ → List Words
+abbrev pub sources_by : Net → ℕ → ℕ → List Source
 sources_by N a rows = listed (source_by N a) (line_by N) 0 rows
 
 places : {A : Type 0} (l : List A) (d : A) → l ≡ map (λ i. get_or l i d) (numbers 0 (length l))
@@ -33,12 +35,13 @@ sources_are N a =
     ∙ ap (map (source_line N)) (keep_map (own_source N a) (row_at N) (numbers 0 (length N.rows)))
     ∙ map-map (source_line N) (row_at N) (keep (λ i. own_source N a (row_at N i)) (numbers 0 (length N.rows))))
 
--- a source's first four words and its pace are its line
-pub source_line_lem : (N : Net) {head : Row} {nodes : ℕ} (r : Row) → RowSound head nodes r → is_source r ≡ true → word r 0 ∷ word r 1 ∷ word r 2 ∷ word r 3 ∷ pace_of N r ∷ [] ≡ source_line N r
+-- a source's kind, node, peak and start, as words of its row, and its pace are its line
+pub source_line_lem : (N : Net) {head : Row} {nodes : ℕ} (r : Row) → RowSound head nodes r → is_source r ≡ true
+    → record { kind = kind_at (kind r); node = at r; peak = word r 2; start = word r 3; pace = pace_of N r } ≡ source_line N r
 unfolding source_line
 source_line_lem N r s e =
     let p = s.source e in
-    rw (← s.kind_is, ← p.at_in.is_nat, ← p.start_in.is_nat)
+    rw (← p.start_in.is_nat)
 
 -- by the kind
 module _ (N : Net) (r : Row) where

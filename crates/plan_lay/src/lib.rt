@@ -1,77 +1,84 @@
 #![tactic(auto)]
 
 // An area's own legs, nodes and sources, each put into a table behind what stands there already: its legs with what the network alone settles of them.
+// A table and the place to fill next are two arguments: `plan_own` keeps the places of all tables in one `Own`, so a struct of the two is no plainer.
+// Legs, nodes and sources each have their loop: what they go over differs, so one over a closure is no plainer.
 ghost use Rattle.std.specs.Prelude.{◌+◌, ◌≤◌, ◌<◌, ◌≡◌};
-ghost use Rattle.whole.specs.Plain.{ℕ, true, eqb, length};
+ghost use Rattle.whole.specs.Plain.{true, eqb, length};
 ghost use Rattle.paper.specs.Limits as Limits;
 ghost use Rattle.paper.specs.Rows.{is_source};
-ghost use Rattle.paper.specs.Network.{is_network};
+ghost use Rattle.paper.specs.Sides.{side_number};
 ghost use Rattle.laws_facts.specs.Nets.{net_in, row_at};
 ghost use Rattle.plan_record.specs.Mapped.{Mapped};
 ghost use Rattle.plan_ends.specs.Own.{pace_of};
-ghost use Rattle.plan_rows.specs.Planned.{row_in, owner_in, Noded};
+ghost use Rattle.plan_rows.specs.Planned.{owner_in};
 ghost use Rattle.plan_lay.specs.Grown.{Grown, Put};
 ghost use Rattle.plan_lay.specs.Ends.{far_in, frame_in, legs_by};
 ghost use Rattle.plan_lay.specs.Flags.{flag_row, Flagged};
 ghost use Rattle.plan_lay.specs.Nodes.{node_by, nodes_by};
 ghost use Rattle.plan_lay.specs.Sources.{source_by, line_by, sources_by};
 
-use paper::{Node, kinds};
+use paper::{Kind, Node, Side, kinds};
+use plan_record::Record;
 use plan_rows::{Row, Table};
-use step_legs::{Line, SourceLine};
+use step_legs::{Source, Wire};
 
 // ---- legs
 
-// One end of row i, 1 the from end and 2 the to end, in line m where it is the area's; the line to fill next.
-fn lay_end(r: Row, i: usize, end: usize, a: usize, m: usize, legs: &mut [Line]) -> usize
-    requires noded { Noded r × ((i < Limits.row_end) × (1 ≤ end) × (end ≤ 2)) }
-    requires m_in_bounds { eqb (owner_in r end) a ≡ true → m < length legs.old }
-    ensures { Put (eqb (owner_in r end) a) (frame_in r i end) m legs.old result legs.new }
+// One end of row i, at place m where it is the area's; the place to fill next.
+fn lay_end(r: Row, i: usize, side: Side, a: usize, m: usize, legs: &mut [Wire]) -> usize
+    requires { eqb (owner_in r (side_number side)) a ≡ true → m < length legs.old }
+    ensures { Put (eqb (owner_in r (side_number side)) a) (frame_in r i (side_number side)) m
+        legs.old result legs.new }
 {
-    if plan_rows::owner(r, end) != a {
+    if r.owner(side) != a {
         return m;
     }
-    let near = plan_rows::node(r, end);
-    let far = far_node(r, end);
-    let line = [
-        near as i64,
-        far as i64,
-        i as i64,
-        end as i64,
-        r.kind as i64,
-        0,
-        0,
-        0,
-        0,
-    ];
-    legs[m] = line;
+    legs[m] = Wire {
+        near: r.node(side),
+        far: far_node(r, side),
+        row: i,
+        end: number(side),
+        kind: r.kind,
+        ..Wire::NONE
+    };
     m + 1
 }
 
+// an end as the table has it, 1 the from end and 2 the to end
+fn number(side: Side) -> usize
+    ensures { result ≡ side_number side }
+{
+    match side {
+        Side::From => 1,
+        Side::To => 2,
+    }
+}
+
 // the other node of an end; a line's end is a leg to ground
-fn far_node(r: Row, end: usize) -> usize
-    requires { (1 ≤ end) × (end ≤ 2) }
-    ensures { result ≡ far_in r end }
+fn far_node(r: Row, side: Side) -> usize
+    ensures { result ≡ far_in r (side_number side) }
 {
     if r.kind == kinds::LINE {
         return 0;
     }
-    plan_rows::node(r, 3 - end)
+    match side {
+        Side::From => r.to,
+        Side::To => r.from,
+    }
 }
 
-// The area's legs from line m on, in table order; where they end.
-pub fn lay_legs(plan: &Table, rows: usize, a: usize, m: usize, legs: &mut [Line]) -> usize
-    requires rows_bound { (rows ≤ Limits.row_end) × ((i : ℕ) → i < rows → Noded (row_in plan.now i)) }
+// The area's legs from place m on, in table order; where they end.
+pub fn lay_legs(plan: &Table, rows: usize, a: usize, m: usize, legs: &mut [Wire]) -> usize
+    requires rows_bound { rows ≤ Limits.row_end }
     requires rows_in_bounds { m + length (legs_by plan.now a rows) ≤ length legs.old }
     ensures { Grown legs.old m (legs_by plan.now a rows) result legs.new }
 {
     let mut t = m;
-    let mut i = 0;
-    while i < rows {
-        let r = plan_rows::row_at(plan, i);
-        t = lay_end(r, i, 1, a, t, legs);
-        t = lay_end(r, i, 2, a, t, legs);
-        i += 1;
+    for i in 0..rows {
+        let r = plan[i];
+        t = lay_end(r, i, Side::From, a, t, legs);
+        t = lay_end(r, i, Side::To, a, t, legs);
     }
     t
 }
@@ -79,26 +86,24 @@ pub fn lay_legs(plan: &Table, rows: usize, a: usize, m: usize, legs: &mut [Line]
 // ---- nodes
 
 // row i's flag: "A node with a VS is fixed"; "A VC fixes its node like a VS."
-fn flag_row(net: &[i64], i: usize, flags: &mut [bool; Node::PLACES])
-    requires { (is_network net.now ≡ true) × (i < length (net_in net.now).rows) }
-    ensures { flags.new ≡ flag_row (net_in net.now) i flags.old }
+fn flag_row(net: Record<'_>, i: usize, flags: &mut [bool; Node::PLACES])
+    requires { i < length (net_in net.words.now).rows }
+    ensures { flags.new ≡ flag_row (net_in net.entry.words.now) i flags.old }
 {
-    if kinds::is_fixing(plan_record::kind(net, i)) {
-        let node = plan_record::number(net, i, 1);
+    if net.kind(i).is_fixing() {
+        let node = net.number(i, 1);
         flags[node] = true;
     }
 }
 
 // The fixed nodes, as flags by node.
-pub fn fixed_nodes(net: &[i64], rows: usize) -> [bool; Node::PLACES]
-    requires { (is_network net.now ≡ true) × (rows ≡ length (net_in net.now).rows) }
-    ensures { Flagged (net_in net.now) result }
+pub fn fixed_nodes(net: Record<'_>, rows: usize) -> [bool; Node::PLACES]
+    requires { rows ≡ length (net_in net.words.now).rows }
+    ensures { Flagged (net_in net.entry.words.now) result }
 {
     let mut flags = [false; Node::PLACES];
-    let mut i = 0;
-    while i < rows {
+    for i in 0..rows {
         flag_row(net, i, &mut flags);
-        i += 1;
     }
     flags
 }
@@ -117,10 +122,7 @@ fn lay_node(
     requires m_in_bounds { node_by area.now fixed.now held a n ≡ true → m < length nodes.old }
     ensures { Put (node_by area.now fixed.now held a n) n m nodes.old result nodes.new }
 {
-    if area[n] != a {
-        return m;
-    }
-    if fixed[n] != held {
+    if area[n] != a || fixed[n] != held {
         return m;
     }
     nodes[m] = n;
@@ -142,10 +144,8 @@ pub fn lay_nodes(
     ensures { Grown nodes.old m (nodes_by area.now fixed.now held a count) result nodes.new }
 {
     let mut t = m;
-    let mut n = 0;
-    while n < count {
-        t = lay_node(area, fixed, held, a, n + 1, t, nodes);
-        n += 1;
+    for n in 1..=count {
+        t = lay_node(area, fixed, held, a, n, t, nodes);
     }
     t
 }
@@ -153,69 +153,68 @@ pub fn lay_nodes(
 // ---- sources
 
 // The rise of row i, a source; a VC has minus its pace there: "step · frequency", by how much its phase goes on at each step.
-fn pace(net: &[i64], i: usize) -> i64
-    requires net_value { (is_network net.now ≡ true) × (i < length (net_in net.now).rows) }
-    requires i_value { is_source (row_at (net_in net.now) i) ≡ true }
-    ensures { result ≡ pace_of (net_in net.now) (row_at (net_in net.now) i) }
+fn pace(net: Record<'_>, i: usize) -> i64
+    requires i_in_bounds { i < length (net_in net.words.now).rows }
+    requires i_value { is_source (row_at (net_in net.words.now) i) ≡ true }
+    ensures { result ≡ pace_of (net_in net.entry.words.now) (row_at (net_in net.entry.words.now) i) }
 {
-    let last = plan_record::value(net, i, 4);
-    if plan_record::kind(net, i) == kinds::VC {
-        return -(net[0] * last);
+    let last = net.value(i, 4);
+    match net.kind(i) {
+        Kind::Vc => -(net.words[0] * last),
+        _ => last,
     }
-    last
 }
 
-// Row i in line m, where it is a source of the area's; the line to fill next.
+// Row i at place m, where it is a source of the area's; the place to fill next.
 fn lay_source(
-    net: &[i64],
+    net: Record<'_>,
     area: &[usize; Node::PLACES],
     a: usize,
     i: usize,
     m: usize,
-    sources: &mut [SourceLine],
+    sources: &mut [Source],
 ) -> usize
-    requires net_value { (is_network net.now ≡ true) × (i < length (net_in net.now).rows) }
-    requires mapped { Mapped (net_in net.now) area.now
-        × (source_by (net_in net.now) a i ≡ true → m < length sources.old) }
-    ensures { Put (source_by (net_in net.now) a i) (line_by (net_in net.now) i) m sources.old result
-        sources.new }
+    requires i_in_bounds { i < length (net_in net.words.now).rows }
+    requires mapped { Mapped (net_in net.words.now) area.now
+        × (source_by (net_in net.words.now) a i ≡ true → m < length sources.old) }
+    ensures { Put (source_by (net_in net.entry.words.now) a i) (line_by (net_in net.entry.words.now) i) m
+        sources.old result sources.new }
 {
-    if !kinds::is_source(plan_record::kind(net, i)) {
+    let kind = net.kind(i);
+    if !kind.is_source() {
         return m;
     }
-    if area[plan_record::number(net, i, 1)] != a {
+    let node = net.number(i, 1);
+    if area[node] != a {
         return m;
     }
-    let line = [
-        plan_record::value(net, i, 0),
-        plan_record::value(net, i, 1),
-        plan_record::value(net, i, 2),
-        plan_record::value(net, i, 3),
-        pace(net, i),
-    ];
-    sources[m] = line;
+    sources[m] = Source {
+        kind,
+        node,
+        peak: net.value(i, 2),
+        start: net.value(i, 3),
+        pace: pace(net, i),
+    };
     m + 1
 }
 
-// The area's sources from line m on, in table order; where they end.
+// The area's sources from place m on, in table order; where they end.
 pub fn lay_sources(
-    net: &[i64],
+    net: Record<'_>,
     area: &[usize; Node::PLACES],
     rows: usize,
     a: usize,
     m: usize,
-    sources: &mut [SourceLine],
+    sources: &mut [Source],
 ) -> usize
-    requires net_value { (is_network net.now ≡ true) × (rows ≡ length (net_in net.now).rows) }
-    requires mapped { Mapped (net_in net.now) area.now
-        × (m + length (sources_by (net_in net.now) a rows) ≤ length sources.old) }
-    ensures { Grown sources.old m (sources_by (net_in net.now) a rows) result sources.new }
+    requires rows_value { rows ≡ length (net_in net.words.now).rows }
+    requires mapped { Mapped (net_in net.words.now) area.now
+        × (m + length (sources_by (net_in net.words.now) a rows) ≤ length sources.old) }
+    ensures { Grown sources.old m (sources_by (net_in net.entry.words.now) a rows) result sources.new }
 {
     let mut t = m;
-    let mut i = 0;
-    while i < rows {
+    for i in 0..rows {
         t = lay_source(net, area, a, i, t, sources);
-        i += 1;
     }
     t
 }

@@ -1,7 +1,7 @@
 -- One area laid behind those before it: there is room, what was laid stands, and the tables hold the areas' own apart from each other. Assumes nothing.
 use Rattle.std.specs.Prelude.{◌+◌, ◌*◌, ◌≤◌, ◌≡◌}
 use Rattle.whole.specs.Plain.{ℕ, refl, sym, ap, ◌∙◌, Bool, true, false, cond, not, List, map}
-use Rattle.whole.specs.Plain.{length, get_or, length-map, length-append, arith, Words, numbers}
+use Rattle.whole.specs.Plain.{length, get_or, length-map, length-append, arith, numbers}
 use borrow.Rule.Slice.PartMut.{mid_len}
 use Rattle.whole.specs.Folds.{length_keep, count_le, length_numbers}
 use Rattle.whole.specs.Prefix.{count_parts}
@@ -9,6 +9,8 @@ use Rattle.paper.specs.Rows.{is_source, at}
 use Rattle.paper.specs.Areas.{Net, area_of, fixed, nodes_of, free_of}
 use Rattle.laws_facts.specs.Nets.{NetSound}
 use Rattle.plan_ends.specs.Own.{owner_of, row_of_end, side_of_end, own_end, own_ends, fixed_of, own_source, own_sources, source_line, source_lines}
+use Rattle.step_legs.specs.declared.Wire.{Wire}
+use Rattle.step_legs.specs.declared.Source.{Source}
 use Rattle.plan_own.specs.declared.Own.{Own}
 use Rattle.plan_lay.specs.Grown.{Grown, grown_before, grown_part, grown_then, grown_still}
 use Rattle.plan_own.specs.Counting.{count_from, count_of, count_all, count_from_lem}
@@ -66,7 +68,7 @@ module _ (N : Net) (a : ℕ) where
 
 -- ---- one area
 -- its own is as long as it is
-pub room_next : (N : Net) (a : ℕ) {at o : Own} {legs legs' : List Words} {nodes nodes' : List ℕ} {sources sources' : List Words}
+pub room_next : (N : Net) (a : ℕ) {at o : Own} {legs legs' : List Wire} {nodes nodes' : List ℕ} {sources sources' : List Source}
     → Room N a at → Ours N a o legs' nodes' sources' → Behind at o legs nodes sources legs' nodes' sources' → Room N (a + 1) o
 room_next N a {at} {o} {legs' = legs'} {nodes' = nodes'} {sources' = sources'} r w k =
     let t = k.tables in
@@ -78,7 +80,7 @@ room_next N a {at} {o} {legs' = legs'} {nodes' = nodes'} {sources' = sources'} r
 abbrev standing : Own → ℕ → ℕ → ℕ → ℕ → Own
 standing at lend fend nend send = record { legs = at.legs_end; legs_end = lend; base = at.nodes_end; free_end = fend; nodes_end = nend; sources = at.sources_end; sources_end = send; until = 0 }
 
-module _ (N : Net) (a : ℕ) (at : Own) {legs₀ legs sources₀ sources : List Words} {nodes₀ nodes₁ nodes : List ℕ} {lend fend nend send : ℕ}
+module _ (N : Net) (a : ℕ) (at : Own) {legs₀ legs : List Wire} {sources₀ sources : List Source} {nodes₀ nodes₁ nodes : List ℕ} {lend fend nend send : ℕ}
     (t : Tables legs₀ nodes₀ sources₀)
     (l : Grown legs₀ at.legs_end (map (frame_of N) (own_ends N a)) lend legs)
     (f : Grown nodes₀ at.nodes_end (free_of N a) fend nodes₁)

@@ -1,6 +1,6 @@
 -- Where the own of each area stands, and what stands there. Assumes nothing.
-use Rattle.std.specs.Prelude.{◌+◌, ◌*◌, ◌≤◌, ◌<◌, ◌≡◌, ◌∷◌}
-use Rattle.whole.specs.Plain.{ℕ, suc, Bool, true, List, [], length, get_or, set, take}
+use Rattle.std.specs.Prelude.{◌+◌, ◌*◌, ◌≤◌, ◌<◌, ◌≡◌}
+use Rattle.whole.specs.Plain.{ℕ, suc, Bool, true, List, length, get_or, set, take}
 use Rattle.whole.specs.Plain.{Words, numbers}
 use Rattle.paper.specs.Rows.{is_source, at}
 use Rattle.paper.specs.Network.{is_network}
@@ -8,44 +8,41 @@ use Rattle.paper.specs.Areas.{Net, area_of, area_count, free_of}
 use Rattle.laws_facts.specs.Nets.{net_in}
 use Rattle.plan_record.specs.Mapped.{Mapped}
 use Rattle.plan_ends.specs.Own.{owner_of, row_of_end, side_of_end, Framed, own_nodes, source_lines}
+use Rattle.plan_rows.specs.declared.Row.{Row}
 use Rattle.plan_rows.specs.declared.Totals.{Totals}
 use Rattle.plan_rows.specs.Planned.{Planned, totals_of}
+use Rattle.step_legs.specs.declared.Wire.{Wire}
+use Rattle.step_legs.specs.declared.Source.{Source}
 use Rattle.plan_own.specs.declared.Own.{Own}
 use Rattle.plan_lay.specs.Grown.{part}
 use Rattle.plan_own.specs.Counting.{count_from}
 use Rattle.plan_lay.specs.Flags.{Flagged}
 
--- an area's line, and the own of a line
-abbrev pub words_of : Own → List ℕ
-words_of o = o.legs ∷ o.legs_end ∷ o.base ∷ o.free_end ∷ o.nodes_end ∷ o.sources ∷ o.sources_end ∷ o.until ∷ []
-
-abbrev pub own_in : List (List ℕ) → ℕ → Own
-own_in owns a =
-    let w = get_or owns a [] in
-    record { legs = get_or w 0 0; legs_end = get_or w 1 0; base = get_or w 2 0; free_end = get_or w 3 0; nodes_end = get_or w 4 0; sources = get_or w 5 0; sources_end = get_or w 6 0; until = get_or w 7 0 }
-
 abbrev pub nothing : Own
 nothing = record { legs = 0; legs_end = 0; base = 0; free_end = 0; nodes_end = 0; sources = 0; sources_end = 0; until = 0 }
 
+-- area a's
+abbrev pub own_in : List Own → ℕ → Own
+own_in owns a = get_or owns a nothing
+
 -- the same, prepared until a step
 abbrev pub prepared : Own → ℕ → Own
-prepared o u =
-    record { legs = o.legs; legs_end = o.legs_end; base = o.base; free_end = o.free_end; nodes_end = o.nodes_end; sources = o.sources; sources_end = o.sources_end; until = u }
+prepared o u = record o { until = u }
 
 -- one area prepared
-abbrev pub until_put : List (List ℕ) → ℕ → ℕ → List (List ℕ)
-until_put owns a u = set owns a (words_of (prepared (own_in owns a) u))
+abbrev pub until_put : List Own → ℕ → ℕ → List Own
+until_put owns a u = set owns a (prepared (own_in owns a) u)
 
 -- ---- what is given
 
-pub record Given (net : Words) (plan : List (List ℕ)) (area : List ℕ) (fixed : List Bool) (totals : Totals) : Type 0 where
+pub record Given (net : Words) (plan : List Row) (area : List ℕ) (fixed : List Bool) (totals : Totals) : Type 0 where
   pub network : is_network net ≡ true
   pub planned : Planned (net_in net) plan
   pub mapped : Mapped (net_in net) area
   pub flagged : Flagged (net_in net) fixed
   pub counted : totals ≡ totals_of (net_in net)
 
-pub record Tables (legs : List Words) (nodes : List ℕ) (sources : List Words) : Type 0 where
+pub record Tables (legs : List Wire) (nodes : List ℕ) (sources : List Source) : Type 0 where
   pub legs_long : length legs ≡ 160
   pub nodes_long : length nodes ≡ 32
   pub sources_long : length sources ≡ 16
@@ -59,7 +56,7 @@ pub record Room (N : Net) (a : ℕ) (o : Own) : Type 0 where
 -- ---- what stands
 
 -- area a's own, where o says
-pub record Ours (N : Net) (a : ℕ) (o : Own) (legTable : List Words) (nodeTable : List ℕ) (sourceTable : List Words) : Type 0 where
+pub record Ours (N : Net) (a : ℕ) (o : Own) (legTable : List Wire) (nodeTable : List ℕ) (sourceTable : List Source) : Type 0 where
   pub legs_in : (o.legs ≤ o.legs_end) × (o.legs_end ≤ 160)
   pub nodes_in : (o.base ≤ o.free_end) × (o.free_end ≤ o.nodes_end) × (o.nodes_end ≤ 32)
   pub sources_in : (o.sources ≤ o.sources_end) × (o.sources_end ≤ 16)
@@ -69,7 +66,7 @@ pub record Ours (N : Net) (a : ℕ) (o : Own) (legTable : List Words) (nodeTable
   pub sources : part o.sources o.sources_end sourceTable ≡ source_lines N a
 
 -- o begins where `at` ends, nothing is prepared for it, and what stood before it stands
-pub record Behind (at o : Own) (legs : List Words) (nodes : List ℕ) (sources : List Words) (legs' : List Words) (nodes' : List ℕ) (sources' : List Words) : Type 0 where
+pub record Behind (at o : Own) (legs : List Wire) (nodes : List ℕ) (sources : List Source) (legs' : List Wire) (nodes' : List ℕ) (sources' : List Source) : Type 0 where
   pub legs_at : o.legs ≡ at.legs_end
   pub nodes_at : o.base ≡ at.nodes_end
   pub sources_at : o.sources ≡ at.sources_end
@@ -86,17 +83,17 @@ pub record Apart (o u : Own) : Type 0 where
   pub sources : o.sources_end ≤ u.sources
 
 -- the areas below n
-pub record LaidBelow (N : Net) (n : ℕ) (owns : List (List ℕ)) (legs : List Words) (nodes : List ℕ) (sources : List Words) : Type 0 where
+pub record LaidBelow (N : Net) (n : ℕ) (owns : List Own) (legs : List Wire) (nodes : List ℕ) (sources : List Source) : Type 0 where
   pub long : length owns ≡ 33
   pub tables : Tables legs nodes sources
   pub ours : (a : ℕ) → 1 ≤ a → a < n → Ours N a (own_in owns a) legs nodes sources
   pub apart : (a b : ℕ) → 1 ≤ a → a < b → b < n → Apart (own_in owns a) (own_in owns b)
 
-abbrev pub Laid : Net → List (List ℕ) → List Words → List ℕ → List Words → Type 0
+abbrev pub Laid : Net → List Own → List Wire → List ℕ → List Source → Type 0
 Laid N owns legs nodes sources = LaidBelow N (suc (area_count N)) owns legs nodes sources
 
-pub record UnpreparedBelow (n : ℕ) (owns : List (List ℕ)) : Type 0 where
+pub record UnpreparedBelow (n : ℕ) (owns : List Own) : Type 0 where
   pub until : (a : ℕ) → 1 ≤ a → a < n → (own_in owns a).until ≡ 0
 
-abbrev pub Unprepared : Net → List (List ℕ) → Type 0
+abbrev pub Unprepared : Net → List Own → Type 0
 Unprepared N owns = UnpreparedBelow (suc (area_count N)) owns

@@ -3,15 +3,16 @@
 // What is an area's own, in tables that all areas share, area after area: its legs, its nodes, the free ones first, and its sources; and where each
 // area's own stands.
 ghost use Rattle.std.specs.Prelude.{◌+◌, ◌≤◌, ◌<◌, ◌≡◌};
-ghost use Rattle.whole.specs.Plain.{length, set};
+ghost use Rattle.whole.specs.Plain.{length};
 ghost use Rattle.paper.specs.Limits as Limits;
 ghost use Rattle.laws_facts.specs.Nets.{net_in};
-ghost use Rattle.plan_own.specs.Owns.{words_of, own_in, nothing, until_put, Given, Tables, Room, Ours, Behind, Laid};
+ghost use Rattle.plan_own.specs.Owns.{Given, Tables, Room, Ours, Behind, Laid};
 ghost use Rattle.plan_own.specs.Owns.{Unprepared};
 
 use paper::Node;
+use plan_record::Record;
 use plan_rows::{Table, Totals};
-use step_legs::{Line, SourceLine};
+use step_legs::{Source, Wire};
 
 // Where an area's own stands: legs, nodes (the free ones first), sources; and the step before which what is prepared for it serves, 0 where nothing is.
 #[derive(Clone, Copy)]
@@ -26,59 +27,9 @@ pub struct Own {
     pub until: usize,
 }
 
-// a line for each area, its words in the same order
-pub type Owns = [[usize; 8]; Node::PLACES];
-
-// ---- the table of areas
-
-pub fn own_at(owns: &Owns, a: usize) -> Own
-    requires { a < Limits.node_end + 1 }
-    ensures { result ≡ own_in owns.now a }
-{
-    let w = owns[a];
-    Own {
-        legs: w[0],
-        legs_end: w[1],
-        base: w[2],
-        free_end: w[3],
-        nodes_end: w[4],
-        sources: w[5],
-        sources_end: w[6],
-        until: w[7],
-    }
-}
-
-pub fn put_own(owns: &mut Owns, a: usize, o: Own)
-    requires { a < Limits.node_end + 1 }
-    ensures { owns.new ≡ set owns.old a (words_of o) }
-{
-    let line = [
-        o.legs,
-        o.legs_end,
-        o.base,
-        o.free_end,
-        o.nodes_end,
-        o.sources,
-        o.sources_end,
-        o.until,
-    ];
-    owns[a] = line;
-}
-
-pub fn put_until(owns: &mut Owns, a: usize, until: usize)
-    requires { a < Limits.node_end + 1 }
-    ensures { owns.new ≡ until_put owns.old a until }
-{
-    let w = owns[a];
-    let line = [w[0], w[1], w[2], w[3], w[4], w[5], w[6], until];
-    owns[a] = line;
-}
-
-// Nothing stands yet.
-pub fn nothing() -> Own
-    ensures { result ≡ nothing }
-{
-    Own {
+impl Own {
+    // nothing stands yet
+    pub const NOTHING: Own = Own {
         legs: 0,
         legs_end: 0,
         base: 0,
@@ -87,27 +38,31 @@ pub fn nothing() -> Own
         sources: 0,
         sources_end: 0,
         until: 0,
-    }
+    };
 }
+
+// one for each area
+pub type Owns = [Own; Node::PLACES];
 
 // ---- areas
 
+// The three tables are three arguments: each caller has them as arrays of its own or as C lends them, so a struct of the three is no plainer.
 // Area a's own, behind what stands already: from an Own whose ends say how far the tables are filled to where area a's own stands.
 pub fn lay_area(
-    net: &[i64],
+    net: Record<'_>,
     plan: &Table,
     area: &[usize; Node::PLACES],
     fixed: &[bool; Node::PLACES],
     totals: Totals,
     a: usize,
     at: Own,
-    legs: &mut [Line],
+    legs: &mut [Wire],
     nodes: &mut [usize],
-    sources: &mut [SourceLine],
+    sources: &mut [Source],
 ) -> Own
-    requires given { Given net.now plan.now area.now fixed.now totals }
-    requires tables { Tables legs.old nodes.old sources.old × ((1 ≤ a) × Room (net_in net.now) a at) }
-    ensures ours { Ours (net_in net.now) a result legs.new nodes.new sources.new }
+    requires given { Given net.words.now plan.now area.now fixed.now totals }
+    requires tables { Tables legs.old nodes.old sources.old × ((1 ≤ a) × Room (net_in net.words.now) a at) }
+    ensures ours { Ours (net_in net.entry.words.now) a result legs.new nodes.new sources.new }
     ensures behind { Behind at result legs.old nodes.old sources.old legs.new nodes.new sources.new }
 {
     let legs_end = plan_lay::lay_legs(plan, totals.rows, a, at.legs_end, legs);
@@ -128,27 +83,24 @@ pub fn lay_area(
 
 // All areas in turn.
 pub fn lay_all(
-    net: &[i64],
+    net: Record<'_>,
     plan: &Table,
     area: &[usize; Node::PLACES],
     fixed: &[bool; Node::PLACES],
     totals: Totals,
-    legs: &mut [Line],
+    legs: &mut [Wire],
     nodes: &mut [usize],
-    sources: &mut [SourceLine],
+    sources: &mut [Source],
     owns: &mut Owns,
 )
-    requires given { Given net.now plan.now area.now fixed.now totals }
+    requires given { Given net.words.now plan.now area.now fixed.now totals }
     requires tables { Tables legs.old nodes.old sources.old × (length owns.old ≡ Limits.node_end + 1) }
-    ensures laid { Laid (net_in net.now) owns.new legs.new nodes.new sources.new }
-    ensures unprepared { Unprepared (net_in net.now) owns.new }
+    ensures laid { Laid (net_in net.entry.words.now) owns.new legs.new nodes.new sources.new }
+    ensures unprepared { Unprepared (net_in net.entry.words.now) owns.new }
 {
-    let mut at = nothing();
-    let mut a = 1;
-    while a <= totals.areas {
-        let next = lay_area(net, plan, area, fixed, totals, a, at, legs, nodes, sources);
-        put_own(owns, a, next);
-        at = next;
-        a += 1;
+    let mut at = Own::NOTHING;
+    for a in 1..=totals.areas {
+        at = lay_area(net, plan, area, fixed, totals, a, at, legs, nodes, sources);
+        owns[a] = at;
     }
 }

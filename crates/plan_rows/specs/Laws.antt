@@ -14,7 +14,7 @@ use Rattle.laws_facts.specs.Nets.{net_in, row_at}
 use Rattle.plan_record.specs.Mapped.{Mapped}
 use Rattle.plan_ends.specs.Own.{owner_of}
 use Rattle.plan_areas.specs.Marks.{mark_words}
-use Rattle.plan_rows.specs.Planned.{row_of, row_in, words_of, owner_in, PlannedTo}
+use Rattle.plan_rows.specs.Planned.{Plan, no_row, row_of, row_in, owner_in, PlannedTo}
 
 -- the areas by node
 pub mapped : (N : Net) (area : List ℕ) → area ≡ filled mark_words 0 N.areas → Mapped N area
@@ -44,15 +44,15 @@ number_next N i h = rw add-one at (count_next is_branch N.rows i [] h)
 
 -- ---- row by row
 
-pub planned_none : (N : Net) (plan : List (List ℕ)) → length plan ≡ 80 → PlannedTo N 0 plan
+pub planned_none : (N : Net) (plan : Plan) → length plan ≡ 80 → PlannedTo N 0 plan
 planned_none N plan e = record { long = e; row = λ i h. absurd (omega arith) }
 
-pub planned_more : {N : Net} {n : ℕ} {plan : List (List ℕ)} → PlannedTo N n plan → n < 80 → PlannedTo N (n + 1) (set plan n (words_of (row_of N n)))
+pub planned_more : {N : Net} {n : ℕ} {plan : Plan} → PlannedTo N n plan → n < 80 → PlannedTo N (n + 1) (set plan n (row_of N n))
 planned_more {N} {n} {plan} p h = record { long = length-set plan n _ ∙ p.long; row = λ i k. by i k (ℕ_discrete i n) }
   where
-    by : (i : ℕ) → i < n + 1 → Dec (i ≡ n) → row_in (set plan n (words_of (row_of N n))) i ≡ row_of N i
-    by i k (yes q) = rw (q, get_or-set_same plan n (words_of (row_of N n)) [] (omega (arith, p.long)))
-    by i k (no q) = rw (get_or-set_other plan n i (words_of (row_of N n)) [] q) (p.row i (omega arith))
+    by : (i : ℕ) → i < n + 1 → Dec (i ≡ n) → row_in (set plan n (row_of N n)) i ≡ row_of N i
+    by i k (yes q) = rw (q, get_or-set_same plan n (row_of N n) no_row (omega (arith, p.long)))
+    by i k (no q) = rw (get_or-set_other plan n i (row_of N n) no_row q) (p.row i (omega arith))
 
 -- an end's owner
 pub owner_is : (N : Net) (i e : ℕ) → 1 ≤ e → e ≤ 2 → owner_in (row_of N i) e ≡ owner_of N (row_at N i) e

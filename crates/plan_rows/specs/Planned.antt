@@ -1,6 +1,6 @@
--- What follows from a network record alone and a step goes by: a line of words for each row, and the counts. Assumes nothing.
-use Rattle.std.specs.Prelude.{◌≤◌, ◌<◌, ◌≡◌, ◌∷◌}
-use Rattle.whole.specs.Plain.{ℕ, suc, cond, List, [], eqb, pos, length, get_or, word, nat}
+-- What follows from a network record alone and a step goes by: each row decoded, and the counts. Assumes nothing.
+use Rattle.std.specs.Prelude.{◌≤◌, ◌<◌, ◌≡◌}
+use Rattle.whole.specs.Plain.{ℕ, suc, cond, List, eqb, pos, length, get_or, word, nat}
 use Rattle.paper.specs.Limits as Limits
 use Rattle.paper.specs.Rows as Rows
 use Rattle.paper.specs.Rows.{is_branch}
@@ -13,29 +13,32 @@ use Rattle.plan_ends.specs.Own.{owner_of}
 use Rattle.plan_rows.specs.declared.Row.{Row}
 use Rattle.plan_rows.specs.declared.Totals.{Totals}
 
--- a row's line, and the row of a line
-abbrev pub words_of : Row → List ℕ
-words_of r = r.kind ∷ r.from ∷ r.to ∷ r.g ∷ r.delay ∷ r.rest ∷ r.step ∷ r.slots ∷ r.place ∷ r.closes ∷ r.opens ∷ r.from_area ∷ r.to_area ∷ r.number ∷ []
-
-abbrev pub row_in : List (List ℕ) → ℕ → Row
-row_in plan i =
-    let w = get_or plan i [] in
+-- what stands where no row was put
+abbrev pub no_row : Row
+no_row =
     record {
-      kind = get_or w 0 0;
-      from = get_or w 1 0;
-      to = get_or w 2 0;
-      g = get_or w 3 0;
-      delay = get_or w 4 0;
-      rest = get_or w 5 0;
-      step = get_or w 6 0;
-      slots = get_or w 7 0;
-      place = get_or w 8 0;
-      closes = get_or w 9 0;
-      opens = get_or w 10 0;
-      from_area = get_or w 11 0;
-      to_area = get_or w 12 0;
-      number = get_or w 13 0;
+      kind = 0;
+      from = 0;
+      to = 0;
+      g = 0;
+      delay = 0;
+      rest = 0;
+      step = 0;
+      slots = 0;
+      place = 0;
+      closes = 0;
+      opens = 0;
+      from_area = 0;
+      to_area = 0;
+      number = 0;
     }
+
+-- the rows of a plan
+abbrev pub Plan : Type 0
+Plan = List Row
+
+abbrev pub row_in : Plan → ℕ → Row
+row_in plan i = get_or plan i no_row
 
 -- a source has none of either
 unfoldable pub conductance_at : Net → ℕ → ℕ
@@ -73,11 +76,11 @@ unfoldable pub node_in : Row → ℕ → ℕ
 node_in r e = cond (eqb e 1) r.from r.to
 
 -- the first n rows
-pub record PlannedTo (N : Net) (n : ℕ) (plan : List (List ℕ)) : Type 0 where
+pub record PlannedTo (N : Net) (n : ℕ) (plan : Plan) : Type 0 where
   pub long : length plan ≡ 80
   pub row : (i : ℕ) → i < n → row_in plan i ≡ row_of N i
 
-abbrev pub Planned : Net → List (List ℕ) → Type 0
+abbrev pub Planned : Net → Plan → Type 0
 Planned N plan = PlannedTo N (length N.rows) plan
 
 -- a row names nodes, and its kind is one of the table

@@ -2,26 +2,30 @@
 
 // What a step needs of a network record that passes refusal 8, and that follows from it alone: each row decoded once, the counts, and the areas by node.
 ghost use Rattle.std.specs.Prelude.{◌+◌, ◌≤◌, ◌<◌, ◌≡◌};
-ghost use Rattle.whole.specs.Plain.{suc, max, true, cond, length, set, word, nat};
+ghost use Rattle.whole.specs.Plain.{suc, true, cond, length, word, nat};
 ghost use Rattle.paper.specs.Limits as Limits;
 ghost use Rattle.paper.specs.Rows as Rows;
+ghost use Rattle.paper.specs.Kinds.{number};
+ghost use Rattle.paper.specs.Sides.{side_number};
 ghost use Rattle.paper.specs.Network.{is_network};
 ghost use Rattle.paper.specs.Areas as Areas;
 ghost use Rattle.paper.specs.Areas.{branch_number};
 ghost use Rattle.paper.specs.Records.{offset, slot_count};
 ghost use Rattle.laws_facts.specs.Nets.{net_in, row_at};
 ghost use Rattle.plan_record.specs.Mapped.{Mapped};
-ghost use Rattle.plan_rows.specs.Planned.{Planned, totals_of, row_in, row_of, words_of, owner_in, node_in};
+ghost use Rattle.plan_rows.specs.Planned.{Planned, totals_of, row_of, owner_in, node_in};
 ghost use Rattle.plan_rows.specs.Planned.{conductance_at, to_at};
 ghost use Rattle.plan_rows.specs.ByKind.{slots_by, owner_by};
 ghost use Rattle.plan_rows.specs.Switching.{may_part_by};
 
-use paper::{Node, Room, kinds};
+use paper::{Kind, Node, Room, Side};
+use plan_record::Record;
 
 // What a step needs of a row: its kind and its nodes, a source's other node being 0; its conductance; a line's travel time as whole steps and a rest of
 // the step length, how many slots it has in each store and where they begin; the steps at which a switch closes and opens; the area of each end, 0 for a
-// source; and the branch's number.
+// source; and the branch's number. C lends these fourteen words, so that a kind is a number here.
 #[derive(Clone, Copy)]
+#[repr(C)]
 pub struct Row {
     pub kind: usize,
     pub from: usize,
@@ -39,79 +43,55 @@ pub struct Row {
     pub number: usize,
 }
 
-// how many words that is
-pub const WORDS: usize = 14;
+impl Row {
+    pub const NONE: Row = Row {
+        kind: 0,
+        from: 0,
+        to: 0,
+        g: 0,
+        delay: 0,
+        rest: 0,
+        step: 0,
+        slots: 0,
+        place: 0,
+        closes: 0,
+        opens: 0,
+        from_area: 0,
+        to_area: 0,
+        number: 0,
+    };
 
-// a line for each row, its words in the same order
-pub type Table = [[usize; WORDS]; Room::ROWS];
+    // The area at one end.
+    pub fn owner(self, end: Side) -> usize
+        ensures { result ≡ owner_in self (side_number end) }
+    {
+        match end {
+            Side::From => self.from_area,
+            Side::To => self.to_area,
+        }
+    }
 
-pub fn row_at(plan: &Table, i: usize) -> Row
-    requires { i < Limits.row_end }
-    ensures { result ≡ row_in plan.now i }
-{
-    let w = plan[i];
-    Row {
-        kind: w[0],
-        from: w[1],
-        to: w[2],
-        g: w[3],
-        delay: w[4],
-        rest: w[5],
-        step: w[6],
-        slots: w[7],
-        place: w[8],
-        closes: w[9],
-        opens: w[10],
-        from_area: w[11],
-        to_area: w[12],
-        number: w[13],
+    // The node at one end.
+    pub fn node(self, end: Side) -> usize
+        ensures { result ≡ node_in self (side_number end) }
+    {
+        match end {
+            Side::From => self.from,
+            Side::To => self.to,
+        }
+    }
+
+    // When a breaker may part: "at or after open - 1 and later than its closing step".
+    pub fn may_part(self, k: usize) -> bool
+        requires { k ≤ Limits.steps_end }
+        ensures { result ≡ may_part_by k self }
+    {
+        (self.opens <= k + 1) & (self.closes < k)
     }
 }
 
-fn put_row(plan: &mut Table, i: usize, r: Row)
-    requires { i < Limits.row_end }
-    ensures { plan.new ≡ set plan.old i (words_of r) }
-{
-    let line = [
-        r.kind,
-        r.from,
-        r.to,
-        r.g,
-        r.delay,
-        r.rest,
-        r.step,
-        r.slots,
-        r.place,
-        r.closes,
-        r.opens,
-        r.from_area,
-        r.to_area,
-        r.number,
-    ];
-    plan[i] = line;
-}
-
-// The area at one end of a row, 1 the from end and 2 the to end.
-pub fn owner(r: Row, end: usize) -> usize
-    ensures { result ≡ owner_in r end }
-{
-    if end == 1 { r.from_area } else { r.to_area }
-}
-
-// The node at one end.
-pub fn node(r: Row, end: usize) -> usize
-    ensures { result ≡ node_in r end }
-{
-    if end == 1 { r.from } else { r.to }
-}
-
-// When a breaker may part: "at or after open - 1 and later than its closing step".
-pub fn may_part(r: Row, k: usize) -> bool
-    requires { k ≤ Limits.steps_end }
-    ensures { result ≡ may_part_by k r }
-{
-    (r.opens <= k + 1) & (r.closes < k)
-}
+// a row for each row of the network; where there is none, no row
+pub type Table = [Row; Room::ROWS];
 
 // ---- counts
 
@@ -127,45 +107,36 @@ pub struct Totals {
 }
 
 // `study`: step length, steps, limit
-fn study_word(net: &[i64], j: usize) -> i64
-    requires { (is_network net.now ≡ true) × (j < 3) }
-    ensures { result ≡ word (net_in net.now).head (suc j) }
+fn study_word(net: Record<'_>, j: usize) -> i64
+    requires { j < 3 }
+    ensures { result ≡ word (net_in net.entry.words.now).head (suc j) }
 {
-    net[j]
+    net.words[j]
 }
 
-fn study_number(net: &[i64], j: usize) -> usize
-    requires { (is_network net.now ≡ true) × (j < 3) }
-    ensures { result ≡ nat (word (net_in net.now).head (suc j)) }
+fn study_number(net: Record<'_>, j: usize) -> usize
+    requires { j < 3 }
+    ensures { result ≡ nat (word (net_in net.entry.words.now).head (suc j)) }
 {
     study_word(net, j) as usize
 }
 
-fn larger(a: usize, b: usize) -> usize
-    ensures { result ≡ max a b }
-{
-    if a < b { b } else { a }
-}
-
 // the largest node that row i names
-fn named(net: &[i64], i: usize) -> usize
-    requires { (is_network net.now ≡ true) × (i < length (net_in net.now).rows) }
-    ensures { result ≡ Areas.named (row_at (net_in net.now) i) }
+fn named(net: Record<'_>, i: usize) -> usize
+    requires { i < length (net_in net.words.now).rows }
+    ensures { result ≡ Areas.named (row_at (net_in net.entry.words.now) i) }
 {
-    let kind = plan_record::kind(net, i);
-    larger(plan_record::number(net, i, 1), to_at(net, i, kind))
+    let kind = net.kind(i);
+    net.number(i, 1).max(to_at(net, i, kind))
 }
 
 // "The node count is the largest node named."
-fn node_count(net: &[i64], rows: usize) -> usize
-    requires { (is_network net.now ≡ true) × (rows ≡ length (net_in net.now).rows) }
-    ensures { result ≡ (net_in net.now).nodes }
+fn node_count(net: Record<'_>) -> usize
+    ensures { result ≡ (net_in net.entry.words.now).nodes }
 {
-    let mut nodes = 0;
-    let mut i = 0;
-    while i < rows {
-        nodes = larger(nodes, named(net, i));
-        i += 1;
+    let mut nodes: usize = 0;
+    for i in 0..net.row_count() {
+        nodes = nodes.max(named(net, i));
     }
     nodes
 }
@@ -173,88 +144,85 @@ fn node_count(net: &[i64], rows: usize) -> usize
 // ---- one row
 
 // a branch's other node; a source has none
-fn to_at(net: &[i64], i: usize, kind: usize) -> usize
-    requires net_value { (is_network net.now ≡ true) × (i < length (net_in net.now).rows) }
-    requires kind_value { kind ≡ Rows.kind (row_at (net_in net.now) i) }
-    ensures { result ≡ to_at (net_in net.now) i }
+fn to_at(net: Record<'_>, i: usize, kind: Kind) -> usize
+    requires i_in_bounds { i < length (net_in net.words.now).rows }
+    requires kind_value { number kind ≡ Rows.kind (row_at (net_in net.words.now) i) }
+    ensures { result ≡ to_at (net_in net.entry.words.now) i }
 {
-    if !kinds::is_branch(kind) {
+    if !kind.is_branch() {
         return 0;
     }
-    plan_record::number(net, i, 2)
+    net.number(i, 2)
 }
 
 // in nS, of one branch; a source has none
-fn conductance_at(net: &[i64], i: usize, kind: usize, step: usize) -> usize
-    requires net_value { (is_network net.now ≡ true) × (i < length (net_in net.now).rows) }
-    requires kind_value { (kind ≡ Rows.kind (row_at (net_in net.now) i)) × (step ≡ Areas.step (net_in net.now)) }
-    ensures { result ≡ conductance_at (net_in net.now) i }
+fn conductance_at(net: Record<'_>, i: usize, kind: Kind, step: usize) -> usize
+    requires i_in_bounds { i < length (net_in net.words.now).rows }
+    requires kind_value { (number kind ≡ Rows.kind (row_at (net_in net.words.now) i)) × (step ≡ Areas.step (net_in net.words.now)) }
+    ensures { result ≡ conductance_at (net_in net.entry.words.now) i }
 {
-    if !kinds::is_branch(kind) {
+    if !kind.is_branch() {
         return 0;
     }
-    text_faults::conductance(step as u64, kind, plan_record::number(net, i, 3) as u64) as usize
+    text_faults::conductance(step as u64, kind, net.number(i, 3) as u64) as usize
 }
 
 // "a store needs 2q + 1 slots where r is not 0", and 2q where it is
-fn slots_of(kind: usize, delay: usize, rest: usize) -> usize
-    requires { slots_by kind delay rest ≤ Limits.store_words }
-    ensures { result ≡ slots_by kind delay rest }
+#[tactic(auto, unfolding(crate::specs::ByKind::slots_by))]
+fn slots_of(kind: Kind, delay: usize, rest: usize) -> usize
+    requires { slots_by (number kind) delay rest ≤ Limits.store_words }
+    ensures { result ≡ slots_by (number kind) delay rest }
 {
-    if kind != kinds::LINE {
-        return 0;
+    match kind {
+        Kind::Line => 2 * delay + num_share::older(rest as u64),
+        _ => 0,
     }
-    2 * delay + num_share::older(rest as u64)
 }
 
 // The area at an end with node near: a line's ends are each their own node's; an R, L, C or SW is in its higher node's, ground being in none.
-fn area_at(area: &[usize; Node::PLACES], kind: usize, near: usize, far: usize) -> usize
+#[tactic(auto, unfolding(crate::specs::ByKind::owner_by, paper::specs::Rows::branch_kind, paper::specs::Rows::kinds))]
+fn area_at(area: &[usize; Node::PLACES], kind: Kind, near: usize, far: usize) -> usize
     requires { (near ≤ Limits.node_end) × (far ≤ Limits.node_end) }
-    ensures { result ≡ owner_by area.now kind near far }
+    ensures { result ≡ owner_by area.now (number kind) near far }
 {
-    if kind == kinds::LINE {
-        return area[near];
+    match kind {
+        Kind::Line => area[near],
+        Kind::R | Kind::L | Kind::C | Kind::Sw | Kind::Swt => area[near.max(far)],
+        _ => 0,
     }
-    if !kinds::is_branch(kind) {
-        return 0;
-    }
-    area[larger(near, far)]
 }
 
 // "Branches are numbered from 1 in table order, sources not counted"
-fn number_of(kind: usize, before: usize) -> usize
+fn number_of(kind: Kind, before: usize) -> usize
     requires { before ≤ Limits.branch_end }
-    ensures { result ≡ before + cond (Rows.branch_kind kind) 1 0 }
+    ensures { result ≡ before + cond (Rows.branch_kind (number kind)) 1 0 }
 {
-    if kinds::is_branch(kind) {
-        before + 1
-    } else {
-        before
-    }
+    if kind.is_branch() { before + 1 } else { before }
 }
 
 // Row i, with its slots behind those of the rows before it: "q whole steps and a rest r in ns"
 fn planned(
-    net: &[i64],
+    net: Record<'_>,
     area: &[usize; Node::PLACES],
     step: usize,
     i: usize,
     place: usize,
     before: usize,
 ) -> Row
-    requires net_value { (is_network net.now ≡ true) × (i < length (net_in net.now).rows) }
-    requires mapped { Mapped (net_in net.now) area.now × (step ≡ Areas.step (net_in net.now)) }
-    requires place_value { (place ≡ offset (net_in net.now) i) × (before ≡ branch_number (net_in net.now) i) }
-    ensures { result ≡ row_of (net_in net.now) i }
+    requires i_in_bounds { i < length (net_in net.words.now).rows }
+    requires mapped { Mapped (net_in net.words.now) area.now × (step ≡ Areas.step (net_in net.words.now)) }
+    requires place_value { (place ≡ offset (net_in net.words.now) i) × (before ≡ branch_number (net_in net.words.now) i) }
+    ensures { result ≡ row_of (net_in net.entry.words.now) i }
 {
-    let kind = plan_record::kind(net, i);
-    let from = plan_record::number(net, i, 1);
+    let kind = net.kind(i);
+    let from = net.number(i, 1);
     let to = to_at(net, i, kind);
-    let fourth = plan_record::number(net, i, 4);
+    let fourth = net.number(i, 4);
+    let opens = net.number(i, 5);
     let delay = fourth / step;
     let rest = fourth % step;
     Row {
-        kind,
+        kind: kind.number(),
         from,
         to,
         g: conductance_at(net, i, kind, step),
@@ -264,7 +232,7 @@ fn planned(
         slots: slots_of(kind, delay, rest),
         place,
         closes: fourth,
-        opens: plan_record::number(net, i, 5),
+        opens,
         from_area: area_at(area, kind, from, to),
         to_area: area_at(area, kind, to, from),
         number: number_of(kind, before),
@@ -274,27 +242,18 @@ fn planned(
 // ---- all rows
 
 // All rows, and how many slots there are: "slots stand in table order"
-fn fill(
-    net: &[i64],
-    rows: usize,
-    step: usize,
-    area: &[usize; Node::PLACES],
-    plan: &mut Table,
-) -> usize
-    requires net_value { (is_network net.now ≡ true) × (rows ≡ length (net_in net.now).rows)
-        × (length plan.old ≡ Limits.row_end) }
-    requires mapped { Mapped (net_in net.now) area.now × (step ≡ Areas.step (net_in net.now)) }
-    ensures { Planned (net_in net.now) plan.new × (result ≡ slot_count (net_in net.now)) }
+fn fill(net: Record<'_>, step: usize, area: &[usize; Node::PLACES], plan: &mut Table) -> usize
+    requires plan_len { length plan.old ≡ Limits.row_end }
+    requires mapped { Mapped (net_in net.words.now) area.now × (step ≡ Areas.step (net_in net.words.now)) }
+    ensures { Planned (net_in net.entry.words.now) plan.new × (result ≡ slot_count (net_in net.entry.words.now)) }
 {
     let mut slots = 0;
     let mut number = 0;
-    let mut i = 0;
-    while i < rows {
+    for i in 0..net.row_count() {
         let r = planned(net, area, step, i, slots, number);
-        put_row(plan, i, r);
+        plan[i] = r;
         slots = r.place + r.slots;
         number = r.number;
-        i += 1;
     }
     slots
 }
@@ -306,11 +265,12 @@ pub fn make(net: &[i64], area: &mut [usize; Node::PLACES], plan: &mut Table) -> 
     ensures planned { Planned (net_in net.now) plan.new × Mapped (net_in net.now) area.new }
     ensures value { result ≡ totals_of (net_in net.now) }
 {
-    let rows = plan_record::row_count(net);
+    let net = Record { words: net };
+    let rows = net.row_count();
     let step = study_number(net, 0);
-    let nodes = node_count(net, rows);
-    let areas = plan_areas::areas(net, rows, nodes, area);
-    let slots = fill(net, rows, step, area, plan);
+    let nodes = node_count(net);
+    let areas = plan_areas::areas(net, nodes, area);
+    let slots = fill(net, step, area, plan);
     Totals {
         rows,
         nodes,

@@ -1,37 +1,22 @@
--- What a read or a write tells of the bytes that it moved. Assumes nothing.
+-- What calls that are made again come to, and what is read. Assumes nothing.
 use Rattle.whole.specs.Plain.{ℕ, List, length, take}
-use Rattle.std.specs.Prelude.{Result, Ok, Err, IfOk, ◌-◌, ◌≤◌, ◌≡◌}
-use Rattle.run_bytes.specs.declared.Moved.{Moved}
-use Rattle.run_bytes.specs.declared.Moved.TheVariants as M
-use Rattle.run_bytes.specs.declared.Input.{Input}
-use Rattle.run_bytes.specs.declared.Input.TheVariants as I
+use Rattle.std.specs.Prelude.{Result, Ok, Err, IfOk, ◌≤◌, ◌≡◌}
+use Rattle.std.specs.List.{FoldsTo}
+use Rattle.std.proofs.lemmas.Fn.{chained_keeps}
 
--- what is answered is a failure or how many bytes: a failure is no count of bytes, nor the end, which is a count of 0
-abbrev pub Tells : {E : Type 0} → Result ℕ E → Moved → Type 0
-Tells (Ok k) r = r ≡ M.Bytes k
-Tells (Err e) (M.Bytes n) = ⊥
-Tells (Err e) M.Again = Unit {0}
-Tells (Err e) M.Failed = Unit {0}
+-- calls one after another, of which the last answers r
+abbrev pub Answers : {F R : Type 0} → (F → R → F → Type 0) → F → R → Type 0
+Answers {F} {R} step f r = (before : List R) × (at last : F) × FoldsTo step f before at × step at r last
 
--- no more bytes than there is room for
-abbrev pub Most : ℕ → Moved → Type 0
-Most room (M.Bytes n) = n ≤ room
-Most room M.Again = Unit {0}
-Most room M.Failed = Unit {0}
+-- what each call keeps holds when the last is made
+pub kept_at_last : {F R : Type 0} (step : F → R → F → Type 0) (J : F → Type 0) → ((f : F) (r : R) (g : F) → J f → step f r g → J g)
+    → {f : F} {r : R} → J f → Answers step f r → (at last : F) × J at × step at r last
+kept_at_last step J keeps {f} j a = (a.1, a.2, chained_keeps step (λ xs q. J q) (λ xs q x v i k. keeps q x v i k) a.0 f a.1 j a.3, a.4)
 
--- what is told of an answer of a read or a write keeps to its room
-pub told_most : {E : Type 0} (n : ℕ) (z : Result ℕ E) (r : Moved) → IfOk z (λ k. k ≤ n) → Tells z r → Most n r
-told_most n (Ok k) r m e = rw e m
-told_most n (Err x) (M.Bytes b) m e = absurd e
-told_most n (Err x) M.Again m e = tt
-told_most n (Err x) M.Failed m e = tt
-
--- a read from a place on: what stands before it stays
-pub record Brings (was : List ℕ) (from : ℕ) (r : Moved) (is : List ℕ) : Type 0 where
-  pub most : Most (length was - from) r
-  pub kept : take from is ≡ take from was
+pub most_of : {E : Type 0} {r : Result ℕ E} {n k : ℕ} → IfOk r (λ m. m ≤ n) → r ≡ Ok k → k ≤ n
+most_of h e = rw e at h
 
 -- what is read stands at the start of the buffer
-abbrev pub Held : List ℕ → Input → Type 0
-Held text (I.Whole n) = (n ≤ length text) × (n ≡ length (take n text))
-Held text I.Failed = Unit {0}
+abbrev pub Held : {E : Type 0} → List ℕ → Result ℕ E → Type 0
+Held text (Ok n) = (n ≤ length text) × (n ≡ length (take n text))
+Held text (Err e) = Unit {0}

@@ -1,119 +1,53 @@
 #![tactic(auto)]
 
 // A reader's and a writer's bytes, as standard input and output: a call that a signal interrupts is made again, and a failure is never taken for the end.
-ghost use Rattle.std.specs.Prelude.{◌≤◌, ◌-◌};
-ghost use Rattle.whole.specs.Plain.{length};
-ghost use Rattle.run_bytes.specs.Moving.{Tells, Most, Brings, Held};
+ghost use Rattle.run_bytes.specs.Moving.{Answers, Held};
 
+use std::io;
 use std::io::{Error, ErrorKind, Read, Write};
 
-// How often a call is made again that a signal interrupts; after that it counts as one that failed.
+// How often a call is made that a signal interrupts; the last answer counts, whatever it is.
 const TRIES: u64 = 1_000_000;
 
-// What one call came to: so many bytes moved, a signal before any was, or a failure.
-#[derive(Clone, Copy)]
-pub enum Moved {
-    Bytes(usize),
-    Again,
-    Failed,
-}
-
-// What is read: so many bytes and then the end of the input or of the room; or a read that failed.
-#[derive(Clone, Copy)]
-pub enum Input {
-    Whole(usize),
-    Failed,
-}
-
-fn told(answer: Result<usize, Error>) -> Moved
-    ensures { Tells answer result }
+// What a call answers that moves bytes, made again where a signal interrupts it before any was moved.
+fn again<F: FnMut() -> io::Result<usize>>(mut call: F) -> io::Result<usize>
+    requires { F.IsAlwaysCallable call }
+    ensures { Answers F.step call result }
 {
-    let error = match answer {
-        Ok(count) => return Moved::Bytes(count),
-        Err(error) => error,
-    };
-    if error.kind() == ErrorKind::Interrupted {
-        return Moved::Again;
+    for _ in 1..TRIES {
+        let answer = call();
+        match &answer {
+            Err(error) if error.kind() == ErrorKind::Interrupted => {}
+            _ => return answer,
+        }
     }
-    Moved::Failed
+    call()
 }
 
-fn read_once<R: Read>(reader: &mut R, text: &mut [u8], from: usize) -> Moved
-    requires { from ≤ length text.old }
-    ensures { Brings text.old from result text.new }
-{
-    let answer = reader.read(&mut text[from..]);
-    told(answer)
-}
-
-fn read_on<R: Read>(reader: &mut R, text: &mut [u8], from: usize) -> Moved
-    requires { from ≤ length text.old }
-    ensures { Brings text.old from result text.new }
-{
-    let mut tries = 0;
-    while tries < TRIES {
-        let moved = read_once(reader, text, from);
-        let Moved::Again = moved else {
-            return moved;
-        };
-        tries += 1;
-    }
-    Moved::Failed
-}
-
-// The reader's bytes to their end, or as much of it as there is room for.
-pub fn read_all<R: Read>(reader: &mut R, text: &mut [u8]) -> Input
+// The reader's bytes to their end, or as much of it as there is room for: how many they are.
+pub fn read_all<R: Read>(reader: &mut R, text: &mut [u8]) -> io::Result<usize>
     ensures { Held text.new result }
 {
     let mut done = 0;
     while done < text.len() {
-        let moved = read_on(reader, text, done);
-        let Moved::Bytes(more) = moved else {
-            return Input::Failed;
-        };
+        let more = again(|| reader.read(&mut text[done..]))?;
         if more == 0 {
             break;
         }
         done += more;
     }
-    Input::Whole(done)
+    Ok(done)
 }
 
-fn write_once<W: Write>(writer: &mut W, bytes: &[u8], from: usize) -> Moved
-    requires { from ≤ length bytes.now }
-    ensures { Most (length bytes.now - from) result }
-{
-    let answer = writer.write(&bytes[from..]);
-    told(answer)
-}
-
-fn write_on<W: Write>(writer: &mut W, bytes: &[u8], from: usize) -> Moved
-    requires { from ≤ length bytes.now }
-    ensures { Most (length bytes.now - from) result }
-{
-    let mut tries = 0;
-    while tries < TRIES {
-        let moved = write_once(writer, bytes, from);
-        let Moved::Again = moved else {
-            return moved;
-        };
-        tries += 1;
-    }
-    Moved::Failed
-}
-
-// All bytes to the writer, and true; or false at the first write that fails or takes nothing.
-pub fn write_all<W: Write>(writer: &mut W, bytes: &[u8]) -> bool {
+// All bytes to the writer. A write that takes nothing is one that failed, with no number of the system's.
+pub fn write_all<W: Write>(writer: &mut W, bytes: &[u8]) -> io::Result<()> {
     let mut done = 0;
     while done < bytes.len() {
-        let moved = write_on(writer, bytes, done);
-        let Moved::Bytes(more) = moved else {
-            return false;
-        };
+        let more = again(|| writer.write(&bytes[done..]))?;
         if more == 0 {
-            return false;
+            return Err(Error::from_raw_os_error(0));
         }
         done += more;
     }
-    true
+    Ok(())
 }

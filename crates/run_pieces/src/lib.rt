@@ -1,43 +1,28 @@
 #![tactic(auto)]
 
 // The listing of a study, piece after piece, each handed over to the output before the next is made.
+ghost use Rattle.std.specs.Prelude.{◌≡◌, ◌↔◌, IsTrue};
 ghost use Rattle.paper.specs.Advance.{memory};
-ghost use Rattle.run_pieces.specs.Pieces.{Closes, Goes, Hands};
+ghost use Rattle.run_pieces.specs.Pieces.{Goes, Hands};
 
-use list_pieces::Piece;
-use paper::{Advance, Listing, Steps};
+use paper::{Listing, Pause, Steps};
+use std::io;
 use std::io::Write;
 
-// What follows a piece of the listing: another; none after this last one, or after this area's refusal; none because the output did not take it.
-#[derive(Clone, Copy)]
-pub enum Next {
-    More,
-    Last(Listing),
-    Stopped(u64, Advance),
-    Unwritten,
-}
-
-// How many pieces were handed over, and what follows the last of them.
+// How many pieces were handed over, and what the last of them answered: there is more only where there are as many pieces as a study may have steps.
 #[derive(Clone, Copy)]
 pub struct Ended {
     pub pieces: u64,
-    pub next: Next,
+    pub last: Listing,
 }
 
-// "It ends with `done` and the step count, or `stop`": an area's answer that is no acceptance stops the listing.
-fn ending(answer: Listing) -> Next
-    ensures { Closes answer result }
+fn has_more(answer: Listing) -> bool
+    ensures { IsTrue result ↔ (answer ≡ Ok Pause.More) }
 {
-    let Listing::Stopped(area, advance) = answer else {
-        return Next::Last(answer);
-    };
-    let Advance::Took(_) = advance else {
-        return Next::Stopped(area, advance);
-    };
-    Next::Last(answer)
+    matches!(answer, Ok(Pause::More))
 }
 
-// The next piece of the listing, handed over at once.
+// The next piece of the listing, handed over at once: its answer, or why the output did not take it.
 fn list_piece<W: Write>(
     writer: &mut W,
     network: &[i64],
@@ -45,19 +30,16 @@ fn list_piece<W: Write>(
     froms: &mut [i64],
     tos: &mut [i64],
     out: &mut [u8],
-) -> Next
+) -> io::Result<Listing>
     ensures { Goes network.now (memory records.old froms.old tos.old) out.old result out.new (memory records.new froms.new tos.new) }
 {
-    let piece: Piece = emt::list(network, records, froms, tos, out);
-    let count = piece.count;
-    let answer = piece.answer;
-    if !run_bytes::write_all(writer, &out[..count]) {
-        return Next::Unwritten;
+    match emt::list(network, records, froms, tos, out) {
+        Ok(piece) => {
+            run_bytes::write_all(writer, &out[..piece.count])?;
+            Ok(Ok(piece.pause))
+        }
+        Err(unlisted) => Ok(Err(unlisted)),
     }
-    let Listing::More = answer else {
-        return ending(answer);
-    };
-    Next::More
 }
 
 // Piece after piece. Each lists one step at least, so that there are no more pieces than a study may have steps.
@@ -68,19 +50,20 @@ pub fn list_all<W: Write>(
     froms: &mut [i64],
     tos: &mut [i64],
     out: &mut [u8],
-) -> Ended
+) -> io::Result<Ended>
     ensures { Hands network.now (memory records.old froms.old tos.old) out.old result out.new (memory records.new froms.new tos.new) }
 {
-    let mut pieces = 0;
-    while pieces < Steps::MAX as u64 {
-        let next = list_piece(writer, network, records, froms, tos, out);
-        pieces += 1;
-        let Next::More = next else {
-            return Ended { pieces, next };
-        };
+    for before in 0..Steps::MAX as u64 {
+        let last = list_piece(writer, network, records, froms, tos, out)?;
+        if !has_more(last) {
+            return Ok(Ended {
+                pieces: before + 1,
+                last,
+            });
+        }
     }
-    Ended {
-        pieces,
-        next: Next::More,
-    }
+    Ok(Ended {
+        pieces: Steps::MAX as u64,
+        last: Ok(Pause::More),
+    })
 }

@@ -8,18 +8,14 @@ ghost use Rattle.paper.specs.Network.{is_network};
 ghost use Rattle.paper.specs.Resetting.{fresh};
 ghost use Rattle.list_digits.specs.Puts.{Puts};
 ghost use Rattle.run_pieces.specs.Pieces.{Hand, out_bytes};
-ghost use Rattle.run_study.specs.Runs.{bad_line, Answers, taken, written_out};
+ghost use Rattle.run_study.specs.Runs.{bad_line, Answers};
 
-use paper::{Reading, Resetting, Room};
-use run_pieces::{Ended, Next};
-use std::io::Write;
+use paper::{Room, Unread};
+use run_pieces::Ended;
+use std::io::{Result, Write};
 
-// What became of a text: a `bad` line, and whether it is written; or its listing.
-#[derive(Clone, Copy)]
-pub enum Outcome {
-    Refused(bool),
-    Listed(Ended),
-}
+// What became of a text: its listing, or why it is refused, which its `bad` line says.
+pub type Outcome = std::result::Result<Ended, Unread>;
 
 // Room to lend. What stands in it makes no difference: a reset writes the records and stores, a piece the buffer, a read the text.
 fn record_room() -> [i64; Room::RECORDS]
@@ -35,7 +31,7 @@ fn store_room() -> [i64; Room::STORE]
 }
 
 // From a reset.
-fn list_study<W: Write>(writer: &mut W, network: &[i64]) -> Ended
+fn list_study<W: Write>(writer: &mut W, network: &[i64]) -> Result<Ended>
     requires { is_network network.now ≡ true }
     ensures { Hand network.now out_bytes fresh result }
 {
@@ -43,13 +39,7 @@ fn list_study<W: Write>(writer: &mut W, network: &[i64]) -> Ended
     let mut froms = store_room();
     let mut tos = store_room();
     let mut out = io::large_buffer();
-    let resetting = emt::reset(network, &mut records, &mut froms, &mut tos);
-    let Resetting::Reset = resetting else {
-        return Ended {
-            pieces: 0,
-            next: Next::Unwritten,
-        };
-    };
+    emt::reset(network, &mut records, &mut froms, &mut tos).unwrap();
     run_pieces::list_all(
         writer,
         network,
@@ -60,54 +50,33 @@ fn list_study<W: Write>(writer: &mut W, network: &[i64]) -> Ended
     )
 }
 
-fn put_refusal(answer: Reading, out: &mut [u8]) -> usize
+fn put_refusal(unread: Unread, out: &mut [u8]) -> usize
     requires { 46 ≤ length out.old }
-    ensures { Puts out.old 0 (bad_line answer) result out.new }
+    ensures { Puts out.old 0 (bad_line unread) result out.new }
 {
     list_ends::put_bad(
         out,
         0,
-        call_answers::reading_line(answer),
-        call_answers::reading_number(answer),
+        call_answers::unread_line(unread),
+        call_answers::unread_number(unread),
     )
 }
 
-fn refuse<W: Write>(writer: &mut W, answer: Reading) -> bool {
+fn refuse<W: Write>(writer: &mut W, unread: Unread) -> Result<()> {
     let mut out = [0; 46];
-    let end = put_refusal(answer, &mut out);
+    let end = put_refusal(unread, &mut out);
     run_bytes::write_all(writer, &out[..end])
 }
 
-pub fn run<W: Write>(writer: &mut W, text: &[u8]) -> Outcome
+// An error is the output's, which did not take what was handed over.
+pub fn run<W: Write>(writer: &mut W, text: &[u8]) -> Result<Outcome>
     ensures { Answers text.now result }
 {
     let mut network = [0; Room::NETWORK];
-    let answer = emt::read(text, &mut network);
-    let Reading::Read = answer else {
-        return Outcome::Refused(refuse(writer, answer));
-    };
-    Outcome::Listed(list_study(writer, &network))
-}
-
-fn is_taken(next: Next) -> bool
-    ensures { result ≡ taken next }
-{
-    match next {
-        Next::More => true,
-        Next::Last(_) => true,
-        Next::Stopped(_, _) => true,
-        Next::Unwritten => false,
+    if let Err(unread) = emt::read(text, &mut network) {
+        refuse(writer, unread)?;
+        return Ok(Err(unread));
     }
-}
-
-pub fn is_written(outcome: Outcome) -> bool
-    ensures { result ≡ written_out outcome }
-{
-    match outcome {
-        Outcome::Refused(is_told) => is_told,
-        Outcome::Listed(ended) => {
-            let next = ended.next;
-            is_taken(next)
-        }
-    }
+    let ended = list_study(writer, &network)?;
+    Ok(Ok(ended))
 }

@@ -9,16 +9,17 @@ use paper::Advance;
 use plan_own::Owns;
 use plan_rows::Table;
 use step_factors::Matrix;
-use step_legs::{Line, SourceLine};
+use step_legs::{Source, Wire};
 use step_take::Turn;
 
 // The area's step, once no far area is waited for. Where a breaker has parted, what was kept for the area serves no more.
+// The tables are lent one by one and are no struct: the callers hold them in memory that C lends, each on its own.
 pub fn ready(
     plan: &Table,
     owns: &mut Owns,
-    legs: &mut [Line],
+    legs: &mut [Wire],
     nodes: &[usize],
-    sources: &[SourceLine],
+    sources: &[Source],
     factors: &mut Matrix,
     records: &mut [i64],
     froms: &mut [i64],
@@ -30,18 +31,13 @@ pub fn ready(
     ensures { Steps plan.now nodes.now sources.now turn owns.old legs.old factors.old
         (memory records.old froms.old tos.old) result owns.new legs.new factors.new (memory records.new froms.new tos.new) }
 {
-    let node = step_keep::renew(plan, owns, legs, nodes, factors, records, turn.area, turn.k);
-    if node != 0 {
-        return Advance::Floating(node as u64);
-    }
-    let o = plan_own::own_at(owns, turn.area);
-    let came = step_take::stepped(
+    step_keep::renew(plan, owns, legs, nodes, factors, records, turn.area, turn.k)?;
+    let o = owns[turn.area];
+    let parted = step_take::stepped(
         plan, legs, nodes, sources, factors, records, froms, tos, o, turn,
-    );
-    let answer = came.answer;
-    if !came.parted {
-        return answer;
+    )?;
+    if parted {
+        owns[turn.area].until = 0;
     }
-    plan_own::put_until(owns, turn.area, 0);
-    answer
+    Ok(turn.k as u64)
 }

@@ -11,17 +11,18 @@ use Rattle.laws_facts.specs.Nets.{NetSound, row_at, slots_within, area_count_mos
 use Rattle.laws_local.specs.Nodes.{NodeOf, node_of, of_node, free_of_lem, of_free}
 use Rattle.plan_ends.specs.Own.{end_at, fixed_of, own_nodes}
 use Rattle.plan_rows.specs.declared.Row.{Row}
-use Rattle.plan_rows.specs.Planned.{row_in, row_of, Planned}
+use Rattle.plan_rows.specs.Planned.{Plan, row_in, row_of, Planned}
+use Rattle.step_legs.specs.declared.Wire.{Wire}
 use Rattle.step_legs.specs.Wires.{wire_at, Wires}
 use Rattle.step_legs.specs.Shares.{Volts}
 use Rattle.step_own.specs.Ends.{Kept}
-use Rattle.step_own.specs.Laid.{Laid, end_own, wire_at_lem, conducting_wires}
-use Rattle.step_flow.specs.Flown.{flown, flown_count, wire_stays, wires_stay}
+use Rattle.step_own.specs.Laid.{Laid, end_own, conducting_wires}
+use Rattle.step_flow.specs.Flown.{flown, flown_count, flown_at, wires_stay}
 use Rattle.step_records.specs.Records.{Recordable}
 use Rattle.step_send.specs.Stores.{Slotted, Sendable}
 
 -- a row's slots, as the plan has them
-module _ {N : Net} {plan : List (List ℕ)} (p : Planned N plan) (i : ℕ) (h : i < length N.rows) where
+module _ {N : Net} {plan : Plan} (p : Planned N plan) (i : ℕ) (h : i < length N.rows) where
   pub place_is : (row_in plan i).place ≡ offset N i
   unfolding row_of
   place_is = ap (λ (r : Row). r.place) (p.row i h)
@@ -44,7 +45,7 @@ module _ (N : Net) (a n : ℕ) where
       go true e = Mem-append_right (free_of N a) (among_keep (fixed N) (nodes_of N a) (of_node N a n q) e)
       go false e = Mem-append_left (fixed_of N a) (of_free N a n q e)
 
-module _ {N : Net} {a k : ℕ} {recs froms tos : Words} {legs : List Words} (s : NetSound N) (one : 1 ≤ a) (kept : Kept recs froms tos) (l : Laid N a k recs froms tos legs) (v : Words) where
+module _ {N : Net} {a k : ℕ} {recs froms tos : Words} {legs : List Wire} (s : NetSound N) (one : 1 ≤ a) (kept : Kept recs froms tos) (l : Laid N a k recs froms tos legs) (v : Words) where
   wires : Wires (map (flown v) legs)
   wires = wires_stay v legs (conducting_wires s one l.conducting)
 
@@ -59,13 +60,15 @@ module _ {N : Net} {a k : ℕ} {recs froms tos : Words} {legs : List Words} (s :
     step_most = omega (arith, s.study.steps_in.most);
   }
 
-  module _ {plan : List (List ℕ)} (p : Planned N plan) where
-    slotted : (j : ℕ) → j < length legs → Slotted plan (wire_at legs j)
+  module _ {plan : Plan} (p : Planned N plan) where
+    slotted : (j : ℕ) → j < length legs → Slotted plan (flown v (wire_at legs j))
+    unfolding flown
     slotted j h =
         let e = end_at N a j in
         let o = end_own N a j (omega (arith, l.conducting.framed.long)) in
         let i : e / 2 < length N.rows = omega (arith, o.0) in
-        rw (wire_at_lem l j h)
+        let f = l.conducting.framed.line j h in
+        rw (f.row, f.kind)
         (record {
           row_below = omega (arith, s.row_most);
           some = λ q. let t = (s.row (e / 2) i).line (eq-eqb _ 4 q) in rw (slots_is p (e / 2) i) (omega (arith, t.ring, t.late));
@@ -75,7 +78,7 @@ module _ {N : Net} {a k : ℕ} {recs froms tos : Words} {legs : List Words} (s :
     pub sendable : Sendable plan (map (flown v) legs) froms tos
     sendable = record {
       wires = wires;
-      slotted = λ j h. subst (Slotted plan) (sym (wire_stays v legs j)) (slotted j (rw (flown_count v legs) at h));
+      slotted = λ j h. subst (Slotted plan) (sym (flown_at v legs j (rw (flown_count v legs) at h))) (slotted j (rw (flown_count v legs) at h));
       froms_long = kept.froms_long;
       tos_long = kept.tos_long;
     }

@@ -1,9 +1,10 @@
 -- An SW's latch goes by the current and the latch that stood in the records, which no turn but its own has touched. Assumes nothing.
 use Rattle.std.specs.Prelude.{◌+◌, ◌-◌, ◌*◌, ◌/◌, ◌%◌, ◌≤◌, ◌<◌, ◌≡◌, ◌≢◌, ◌⊎◌, ◌&&◌}
 use Rattle.whole.specs.Plain.{ℕ, refl, sym, ap, ◌∙◌, subst, inl, inr, Bool, true, false, cond, not}
-use Rattle.whole.specs.Plain.{true≢false, List, ℤ, pos, lt_z, length, get_or-set_same, get_or-set_other, eqb-true, ℕ_discrete, arith, Words, z, word}
+use Rattle.whole.specs.Plain.{true≢false, ℤ, pos, lt_z, length, get_or-set_same, get_or-set_other, eqb-true, ℕ_discrete, arith, Words, z, word}
 use Rattle.whole.specs.Plain.{numbers}
 use Rattle.whole.specs.Members.{Among, among_at, keep_among, numbers_among}
+use Rattle.plan_rows.specs.Planned.{Plan}
 use Rattle.paper.specs.Classes.{breaker_branch, breaker_line}
 use Rattle.paper.specs.Rows.{is_breaker}
 use Rattle.paper.specs.Areas.{Net, row_area}
@@ -22,7 +23,7 @@ use Rattle.step_commit.specs.Reached.{fold_first}
 use Rattle.step_commit.specs.Put.{Writing, ears, after, Right, Long, put, now_at, parting, latched, from_is, to_is, from_wire, current_right, end_among, put_long, ends}
 use Rattle.step_commit.specs.Nodes.{start, nodes, node_most_lem, nodes_long}
 
-module _ {N : Net} {a k : ℕ} {recs froms tos v : Words} {plan : List (List ℕ)} (W : Writing N a k recs froms tos v plan) where
+module _ {N : Net} {a k : ℕ} {recs froms tos v : Words} {plan : Plan} (W : Writing N a k recs froms tos v plan) where
   open W use {most, sound as snd, long}
 
   module _ (i : ℕ) (h : i < length N.rows) (b : is_breaker (row_at N i) ≡ true) (o : own_end N a (2 * i) ≡ true) where

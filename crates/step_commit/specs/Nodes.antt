@@ -1,9 +1,10 @@
 -- What the turns of an area's nodes put into the records is what the paper's step writes there. Assumes nothing.
 use Rattle.std.specs.Prelude.{◌+◌, ◌-◌, ◌≤◌, ◌≡◌, ◌≢◌}
-use Rattle.whole.specs.Plain.{ℕ, refl, sym, ap, ◌∙◌, Bool, true, false, cond, List, ℤ, pos, nat_abs, set, length-set}
+use Rattle.whole.specs.Plain.{ℕ, refl, sym, ap, ◌∙◌, Bool, true, false, cond, ℤ, pos, nat_abs, set, length-set}
 use Rattle.whole.specs.Plain.{get_or-set_same, get_or-set_other, ℕ_discrete, arith, Words, z, word}
 use Rattle.whole.specs.Folds.{fold_keeps}
 use Rattle.whole.specs.Members.{Among}
+use Rattle.plan_rows.specs.Planned.{Plan}
 use Rattle.paper.specs.Areas.{Net}
 use Rattle.paper.specs.Records.{volt_at, peak_at, peak_step_at, outdone, new_peak, new_peak_step}
 use Rattle.paper.specs.Advance.{put_if}
@@ -15,7 +16,7 @@ use Rattle.step_commit.specs.Reached.{fold_keep, fold_reach, fold_first}
 use Rattle.step_commit.specs.Asked.{node_of_own}
 use Rattle.step_commit.specs.Put.{Writing, ears, after, Right, Long}
 
-module _ {N : Net} {a k : ℕ} {recs froms tos v : Words} {plan : List (List ℕ)} (W : Writing N a k recs froms tos v plan) where
+module _ {N : Net} {a k : ℕ} {recs froms tos v : Words} {plan : Plan} (W : Writing N a k recs froms tos v plan) where
   open W use {one, most, sound as snd, long}
 
   -- the records with the area's count, and after its nodes

@@ -18,11 +18,12 @@ use Rattle.laws_local.specs.Sound.{sound, row_there}
 use Rattle.laws_local.specs.Own.{line_no, keeper}
 use Rattle.laws_local.specs.Written.{records_length, records_keep, peak_own, peak_step_own, latch_own}
 use Rattle.plan_ends.specs.Own.{owner_of, own_end, own_ends, own_nodes}
-use Rattle.plan_rows.specs.Planned.{Planned}
+use Rattle.plan_rows.specs.Planned.{Plan, Planned}
+use Rattle.step_legs.specs.declared.Wire.{Wire}
 use Rattle.step_own.specs.Ends.{wire_of}
 use Rattle.step_own.specs.Laid.{Laid, wires_are}
 use Rattle.step_flow.specs.Flown.{flown}
-use Rattle.step_records.specs.Records.{leg_put, area_put, lines_put, records_put}
+use Rattle.step_records.specs.Records.{leg_put, area_put, legs_put, records_put}
 use Rattle.step_send.specs.Stores.{is_from_end, is_to_end, sent_by}
 use Rattle.step_commit.specs.Asked.{node_of_own, own_of_node}
 use Rattle.step_commit.specs.Ends.{found, by_wires}
@@ -31,7 +32,7 @@ use Rattle.step_commit.specs.Put.{Writing, Right, current_reached, history_reach
 use Rattle.step_commit.specs.Nodes.{nodes, node_low, nodes_keep, volt_at_lem, stood_at, count_is, start_keeps, nodes_long}
 use Rattle.step_commit.specs.Latches.{mine, latch_at_lem}
 
-module _ {N : Net} {a k : ℕ} {recs froms tos v : Words} {plan : List (List ℕ)} (W : Writing N a k recs froms tos v plan) where
+module _ {N : Net} {a k : ℕ} {recs froms tos v : Words} {plan : Plan} (W : Writing N a k recs froms tos v plan) where
   open W use {one, most, sound as snd}
 
   -- the count, the nodes and the ends
@@ -109,22 +110,22 @@ module _ {N : Net} {a k : ℕ} {recs froms tos v : Words} {plan : List (List ℕ
       go (yes o) = let w = owned N a j one o in let p = w.at in rw p.is (reached p.among p.place p.inside w.used w.area)
 
 -- ---- from the lines of the legs
-module _ {N : Net} {a k : ℕ} {recs froms tos : Words} {legs : List Words} {plan : List (List ℕ)}
+module _ {N : Net} {a k : ℕ} {recs froms tos : Words} {legs : List Wire} {plan : Plan}
     (one : 1 ≤ a) (l : Laid N a k recs froms tos legs) (p : Planned N plan) (v : Words)
     (s : NetSound N) (most : a ≤ area_count N) (long : length recs ≡ Limits.record_words) where
   abbrev bs : List Branch
   bs = legs_of N a k recs (heard N a k froms tos)
 
-  abbrev lines : List Words
+  abbrev lines : List Wire
   lines = map (flown v) legs
 
   abbrev writing : Writing N a k recs froms tos v plan
   writing = record { one = one; most = most; sound = sound N s; long = long; planned = p }
 
   records_fold : records_put plan lines (own_nodes N a) v a k recs ≡ all writing
-  unfolding lines_put area_put
+  unfolding legs_put area_put
   records_fold =
-      by_wires (leg_put plan k) v legs (record { nine = λ j h. (l.conducting.framed.line j h).long }) _
+      by_wires (leg_put plan k) v legs _
       ∙ rw (wires_are l) (fold_map (λ x w. found (leg_put plan k) v w x) (wire_of N k recs froms tos) (nodes writing) (own_ends N a))
 
   pub records_are : records_put plan lines (own_nodes N a) v a k recs ≡ new_records N a k bs v recs

@@ -16,27 +16,27 @@ use Rattle.laws_local.specs.Sound.{Sound}
 use Rattle.laws_local.specs.Puts.{put_length, put_other, put_same, put_with}
 use Rattle.laws_local.specs.Written.{current_put, to_put, history_put}
 use Rattle.plan_ends.specs.Own.{row_of_end, side_of_end, own_end, own_ends}
-use Rattle.plan_rows.specs.Planned.{Planned}
+use Rattle.plan_rows.specs.Planned.{Plan, Planned}
 use Rattle.step_legs.specs.declared.Wire.{Wire}
 use Rattle.step_legs.specs.Wires.{leg_of}
 use Rattle.step_own.specs.Ends.{wire_of, end_leg}
 use Rattle.step_own.specs.EndLegs.{from_leg, to_leg}
 use Rattle.step_own.specs.Branches.{from_own, to_own}
-use Rattle.step_flow.specs.Flown.{passed_by}
+use Rattle.step_flow.specs.Flown.{passed_by, flown}
 use Rattle.step_latch.specs.Parting.{leg_parts, latch_put, parts_paper}
 use Rattle.step_records.specs.Records.{leg_put}
 use Rattle.step_commit.specs.Reached.{fold_keep, fold_reach}
 use Rattle.step_commit.specs.Ends.{found, from_end, to_end, from_puts, to_puts}
 
 -- step k of area a, which came to the voltages v: the records and line stores that it found, and the plan of the network's rows
-pub record Writing (N : Net) (a k : ℕ) (recs froms tos v : Words) (plan : List (List ℕ)) : Type 0 where
+pub record Writing (N : Net) (a k : ℕ) (recs froms tos v : Words) (plan : Plan) : Type 0 where
   pub one : 1 ≤ a
   pub most : a ≤ area_count N
   pub sound : Sound N
   pub long : length recs ≡ Limits.record_words
   pub planned : Planned N plan
 
-module _ {N : Net} {a k : ℕ} {recs froms tos v : Words} {plan : List (List ℕ)} (W : Writing N a k recs froms tos v plan) where
+module _ {N : Net} {a k : ℕ} {recs froms tos v : Words} {plan : Plan} (W : Writing N a k recs froms tos v plan) where
   open W use {one, sound as snd, long, planned}
 
   abbrev pub ears : List Heard
@@ -159,7 +159,7 @@ module _ {N : Net} {a k : ℕ} {recs froms tos v : Words} {plan : List (List ℕ
   end_among e h o = among_keep (own_end N a) (numbers 0 (2 * length N.rows)) (among_numbers 0 (2 * length N.rows) (omega arith) (omega arith)) o
 
   pub put_long : (x : Words) (e : ℕ) → Long x → Long (put e x)
-  unfolding leg_put latch_put
+  unfolding leg_put latch_put flown
   put_long x e n = go (eqb (side_of_end e) 1)
     where
       w : Wire
@@ -168,7 +168,7 @@ module _ {N : Net} {a k : ℕ} {recs froms tos v : Words} {plan : List (List ℕ
       now : ℤ
       now = current v (leg_of w)
 
-      go : (b : Bool) → Long (cond b (put_if (eqb (kind (row_of_end N e)) 2 || eqb (kind (row_of_end N e)) 3) (set (put_if (leg_parts plan k w now x) x (latch_at (e / 2)) (pos k)) (current_at (e / 2)) now) (history_at (e / 2)) (passed_by (kind (row_of_end N e)) (echo v (leg_of w))))
+      go : (b : Bool) → Long (cond b (put_if (eqb (kind (row_of_end N e)) 2 || eqb (kind (row_of_end N e)) 3) (set (put_if (leg_parts plan k (flown v w) x) x (latch_at (e / 2)) (pos k)) (current_at (e / 2)) now) (history_at (e / 2)) (passed_by (kind (row_of_end N e)) (echo v (leg_of w))))
           (put_if (eqb (kind (row_of_end N e)) 4) x (to_current_at (e / 2)) now))
       go true = simp (put_length, length-set) n
       go false = simp put_length n

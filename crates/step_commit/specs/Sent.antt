@@ -1,6 +1,6 @@
 -- What the legs of an area's step send, row by row, is what the paper has it put into the line stores. Assumes nothing.
 use Rattle.std.specs.Prelude.{◌+◌, ◌*◌, ◌/◌, ◌%◌, ◌≤◌, ◌<◌, ◌≡◌}
-use Rattle.whole.specs.Plain.{ℕ, ◌∙◌, Bool, List, map, ℤ, length, arith, Words, fold}
+use Rattle.whole.specs.Plain.{ℕ, ◌∙◌, Bool, List, map, length, arith, Words, fold}
 use Rattle.whole.specs.Turns.{turns}
 use Rattle.paper.specs.Rows.{Row}
 use Rattle.paper.specs.Areas.{Net}
@@ -9,9 +9,8 @@ use Rattle.paper.specs.Advance.{put_sent, new_store}
 use Rattle.laws_facts.specs.Nets.{row_at}
 use Rattle.laws_local.specs.Own.{legs_length, branch_is as branch_at, row_is}
 use Rattle.plan_ends.specs.Own.{own_end}
-use Rattle.plan_rows.specs.Planned.{Planned}
+use Rattle.plan_rows.specs.Planned.{Plan, Planned}
 use Rattle.step_legs.specs.declared.Wire.{Wire}
-use Rattle.step_legs.specs.Wires.{wire_in, current_in, passed_in}
 use Rattle.step_own.specs.Ends.{end_leg}
 use Rattle.step_own.specs.EndLegs.{from_leg, to_leg}
 use Rattle.step_own.specs.Branches.{from_own, to_own}
@@ -29,7 +28,7 @@ end o l = record { own = o; wire = l }
 parts : {b : Branch} {r : Row} {o₁ o₂ : Bool} → b.row ≡ r → b.is_from_end.own ≡ o₁ → b.is_to_end.own ≡ o₂ → b ≡ branch r (end o₁ b.is_from_end.wire) (end o₂ b.is_to_end.wire)
 parts e f g = rw (← e, ← f, ← g)
 
-module _ {N : Net} {a k : ℕ} {recs froms tos : Words} {legs : List Words} {plan : List (List ℕ)}
+module _ {N : Net} {a k : ℕ} {recs froms tos : Words} {legs : List Wire} {plan : Plan}
     (one : 1 ≤ a) (l : Laid N a k recs froms tos legs) (p : Planned N plan) (v : Words) where
   abbrev ears : List Heard
   ears = heard N a k froms tos
@@ -37,19 +36,19 @@ module _ {N : Net} {a k : ℕ} {recs froms tos : Words} {legs : List Words} {pla
   abbrev bs : List Branch
   bs = legs_of N a k recs ears
 
-  abbrev lines : List Words
+  abbrev lines : List Wire
   lines = map (flown v) legs
 
-  abbrev sent : (Wire → Bool) → Wire → ℤ → ℤ → Words → Words
-  sent side w i x = sent_put plan k side w x
+  abbrev sent : (Wire → Bool) → Wire → Words → Words
+  sent side w = sent_put plan k side w
 
-  -- ---- a pass over the lines is a pass over the rows
+  -- ---- a pass over the legs is a pass over the rows
 
-  by_rows : {A : Type 0} (put : Wire → ℤ → ℤ → A → A) (g : ℕ → A → A) (x : A)
+  by_rows : {A : Type 0} (put : Wire → A → A) (g : ℕ → A → A) (x : A)
       → ((i : ℕ) (y : A) → i < length N.rows → g i y ≡ turn N a k recs froms tos (found put v) (2 * i + 1) (turn N a k recs froms tos (found put v) (2 * i) y))
-      → fold (λ y l. put (wire_in l) (current_in l) (passed_in l) y) x lines ≡ turns 0 (length bs) g x
+      → fold (λ y w. put w y) x lines ≡ turns 0 (length bs) g x
   by_rows put g x h =
-      by_wires put v legs (record { nine = λ j h. (l.conducting.framed.line j h).long }) x
+      by_wires put v legs x
       ∙ rw (wires_are l, legs_length N a k recs ears) (pass N a k recs froms tos (found put v) g x h)
 
   module _ (i : ℕ) (h : i < length N.rows) where

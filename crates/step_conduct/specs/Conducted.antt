@@ -1,12 +1,14 @@
 -- The conductances of legs at a step, by the plan's rows and the records' latches, and the step before which they stay. Assumes nothing.
 use Rattle.std.specs.Prelude.{◌+◌, ◌≤◌, ◌<◌, ◌≡◌, ◌&&◌, ◌||◌}
-use Rattle.whole.specs.Plain.{ℕ, refl, sym, ap, ◌∙◌, Bool, true, false, cond, not, List, [], eqb}
+use Rattle.whole.specs.Plain.{ℕ, refl, sym, ap, ◌∙◌, Bool, true, false, cond, not, List, eqb}
 use Rattle.whole.specs.Plain.{leb, ltb, ℤ, pos, lt_z, length, get_or, set, length-set, get_or-set_same, get_or-set_other}
 use Rattle.whole.specs.Plain.{ltb-true, ltb-false, le-leb, lt-leb, lt-ltb, le-ltb, dec_lt, ℕ_discrete, arith, Words, z, word, nat}
 use Rattle.paper.specs.Limits as Limits
 use Rattle.paper.specs.Records.{latch_at}
 use Rattle.plan_rows.specs.declared.Row.{Row}
-use Rattle.plan_rows.specs.Planned.{row_in}
+use Rattle.plan_rows.specs.Planned.{Plan, row_in}
+use Rattle.step_legs.specs.declared.Wire.{Wire}
+use Rattle.step_legs.specs.Wires.{no_wire, wire_at}
 
 -- past the last step of any study, and past the last change of any switch
 abbrev pub never : ℕ
@@ -26,23 +28,22 @@ open_of k o r = switches r && not (leb r.closes k && ltb k o)
 unfoldable pub conducts_of : ℕ → ℕ → Row → ℕ
 conducts_of k o r = cond (open_of k o r) 0 r.g
 
--- a leg's row, when it opens, and its line with the conductance at step k
-abbrev pub row_of_line : List (List ℕ) → Words → Row
-row_of_line plan l = row_in plan (nat (word l 2))
+-- a leg's row, when it opens, and the leg with its conductance at step k
+abbrev pub row_of_wire : Plan → Wire → Row
+row_of_wire plan l = row_in plan l.row
 
-abbrev pub opening_at : List (List ℕ) → Words → Words → ℕ
-opening_at plan recs l = opening_of (row_of_line plan l) (word recs (latch_at (nat (word l 2))))
+abbrev pub opening_at : Plan → Words → Wire → ℕ
+opening_at plan recs l = opening_of (row_of_wire plan l) (word recs (latch_at l.row))
 
-unfoldable pub conducted : List (List ℕ) → Words → ℕ → Words → Words
-conducted plan recs k l = set l 5 (pos (conducts_of k (opening_at plan recs l) (row_of_line plan l)))
+unfoldable pub conducted : Plan → Words → ℕ → Wire → Wire
+conducted plan recs k l = record l { g = pos (conducts_of k (opening_at plan recs l) (row_of_wire plan l)) }
 
-pub record RatedLine (plan : List (List ℕ)) (l : Words) : Type 0 where
-  pub number : word l 2 ≡ pos (nat (word l 2))
-  pub there : nat (word l 2) < 80
-  pub g_end : (row_of_line plan l).g ≤ Limits.conductance_end
+pub record RatedWire (plan : Plan) (l : Wire) : Type 0 where
+  pub there : l.row < 80
+  pub g_end : (row_of_wire plan l).g ≤ Limits.conductance_end
 
-pub record Rated (plan : List (List ℕ)) (legs : List Words) : Type 0 where
-  pub line : (j : ℕ) → j < length legs → RatedLine plan (get_or legs j [])
+pub record Rated (plan : Plan) (legs : List Wire) : Type 0 where
+  pub wire : (j : ℕ) → j < length legs → RatedWire plan (wire_at legs j)
 
 -- ---- a switch, case by case
 module _ (k o : ℕ) (r : Row) where
@@ -99,34 +100,34 @@ conducts_stays k o r i u t l m = go (switches r) refl
     go true e = rw ((change_stays r.closes k i u (t.closes e) l m).0, (change_stays o k i u (t.opens e) l m).1)
     go false e = rw e
 
--- the first n lines
-pub record Conducted (plan : List (List ℕ)) (recs : Words) (k n : ℕ) (before after : List Words) (until : ℕ) : Type 0 where
+-- the first n legs
+pub record Conducted (plan : Plan) (recs : Words) (k n : ℕ) (before after : List Wire) (until : ℕ) : Type 0 where
   pub long : length after ≡ length before
-  pub done : (j : ℕ) → j < n → get_or after j [] ≡ conducted plan recs k (get_or before j [])
-  pub left : (j : ℕ) → n ≤ j → get_or after j [] ≡ get_or before j []
-  pub stays : (j : ℕ) → j < n → Stays k (opening_at plan recs (get_or before j [])) (row_of_line plan (get_or before j [])) until until
+  pub done : (j : ℕ) → j < n → wire_at after j ≡ conducted plan recs k (wire_at before j)
+  pub left : (j : ℕ) → n ≤ j → wire_at after j ≡ wire_at before j
+  pub stays : (j : ℕ) → j < n → Stays k (opening_at plan recs (wire_at before j)) (row_of_wire plan (wire_at before j)) until until
   pub on : k < until
   pub most : until ≤ never
 
-pub conducted_more : {plan : List (List ℕ)} {recs : Words} {k n : ℕ} {before after : List Words} {until u : ℕ} → Conducted plan recs k n before after until → n < length before
-    → Stays k (opening_at plan recs (get_or after n [])) (row_of_line plan (get_or after n [])) until u → Conducted plan recs k (n + 1) before (set after n (conducted plan recs k (get_or after n []))) u
+pub conducted_more : {plan : Plan} {recs : Words} {k n : ℕ} {before after : List Wire} {until u : ℕ} → Conducted plan recs k n before after until → n < length before
+    → Stays k (opening_at plan recs (wire_at after n)) (row_of_wire plan (wire_at after n)) until u → Conducted plan recs k (n + 1) before (set after n (conducted plan recs k (wire_at after n))) u
 conducted_more {plan} {recs} {k} {n} {before} {after} {until} {u} c h s = record {
   long = length-set after n _ ∙ c.long;
   done = λ j l. by j l (ℕ_discrete j n);
-  left = λ j l. get_or-set_other after n j _ [] (λ e. omega arith) ∙ c.left j (omega arith);
+  left = λ j l. get_or-set_other after n j _ no_wire (λ e. omega arith) ∙ c.left j (omega arith);
   stays = λ j l. stay j l (ℕ_discrete j n);
   on = s.on c.on;
   most = omega (arith, s.most, c.most);
 }
   where
-    here : get_or after n [] ≡ get_or before n []
+    here : wire_at after n ≡ wire_at before n
     here = c.left n (omega arith)
 
-    by : (j : ℕ) → j < n + 1 → Dec (j ≡ n) → get_or (set after n (conducted plan recs k (get_or after n []))) j [] ≡ conducted plan recs k (get_or before j [])
-    by j l (yes e) = rw e (get_or-set_same after n _ [] (omega (arith, c.long)) ∙ ap (conducted plan recs k) here)
-    by j l (no e) = get_or-set_other after n j _ [] e ∙ c.done j (omega arith)
+    by : (j : ℕ) → j < n + 1 → Dec (j ≡ n) → get_or (set after n (conducted plan recs k (wire_at after n))) j no_wire ≡ conducted plan recs k (wire_at before j)
+    by j l (yes e) = rw e (get_or-set_same after n _ no_wire (omega (arith, c.long)) ∙ ap (conducted plan recs k) here)
+    by j l (no e) = get_or-set_other after n j _ no_wire e ∙ c.done j (omega arith)
 
-    stay : (j : ℕ) → j < n + 1 → Dec (j ≡ n) → Stays k (opening_at plan recs (get_or before j [])) (row_of_line plan (get_or before j [])) u u
+    stay : (j : ℕ) → j < n + 1 → Dec (j ≡ n) → Stays k (opening_at plan recs (wire_at before j)) (row_of_wire plan (wire_at before j)) u u
     stay j l (yes e) =
         let t = rw here at s in
         rw e (record { most = omega arith; on = λ q. q; closes = t.closes; opens = t.opens })

@@ -22,10 +22,8 @@ fn factor_line(own: &mut ByFree, top: &ByFree, n: usize, p: usize)
     ensures { own.new ≡ line_factored n p top.now own.old }
 {
     let f = own[p] / top[p];
-    let mut c = p + 1;
-    while c < n {
-        own[c] = own[c] - f * top[c];
-        c += 1;
+    for c in p + 1..n {
+        own[c] -= f * top[c];
     }
     own[p] = f;
 }
@@ -36,21 +34,18 @@ fn factor_all(a: &mut Matrix, base: usize, n: usize, p: usize)
     ensures { a.new ≡ all_factored base n p a.old }
 {
     let top = a[base + p];
-    let mut q = p + 1;
-    while q < n {
+    for q in p + 1..n {
         factor_line(&mut a[base + q], &top, n, p);
-        q += 1;
     }
 }
 
+// Table, base and n are no struct: `factor` is lent the table to write, `substitute` to read, so it would take two of them.
 pub fn factor(a: &mut Matrix, base: usize, n: usize)
     requires { base + n ≤ Limits.node_end }
     ensures { a.new ≡ factored base n a.old }
 {
-    let mut p = 0;
-    while p < n {
+    for p in 0..n {
         factor_all(a, base, n, p);
-        p += 1;
     }
 }
 
@@ -60,10 +55,8 @@ fn left(line: &ByFree, x: &ByFree, from: usize, to: usize, right: f64) -> f64
     ensures { result ≡ left line.now x.now from to right }
 {
     let mut t = right;
-    let mut c = from;
-    while c < to {
-        t = t - line[c] * x[c];
-        c += 1;
+    for c in from..to {
+        t -= line[c] * x[c];
     }
     t
 }
@@ -73,22 +66,17 @@ fn forward(a: &Matrix, base: usize, b: &mut ByFree, n: usize)
     requires { base + n ≤ Limits.node_end }
     ensures { b.new ≡ forward base n a.now b.old }
 {
-    let mut q = 0;
-    while q < n {
-        let right = b[q];
-        let t = left(&a[base + q], b, 0, q, right);
-        b[q] = t;
-        q += 1;
+    for q in 0..n {
+        b[q] = left(&a[base + q], b, 0, q, b[q]);
     }
 }
 
-// "x(p) = t / a(p,p)": row p by its pivot and its right side
+// "x(p) = t / a(p,p)": row p by its pivot and its right side, "passed by value beside the matrix array" (docs/PAPER.md)
 fn solve_row(a: &Matrix, row: Equation, r: usize, x: &ByFree, n: usize, p: usize) -> f64
     requires { (r < Limits.node_end) × (n ≤ Limits.node_end) × (p < n) }
     ensures { result ≡ quotient (left (line a.now r) x.now (p + 1) n row.right) row.pivot }
 {
-    let t = left(&a[r], x, p + 1, n, row.right);
-    t / row.pivot
+    left(&a[r], x, p + 1, n, row.right) / row.pivot
 }
 
 // "Backwards from the last row"
@@ -96,17 +84,13 @@ fn back(a: &Matrix, base: usize, x: &mut ByFree, n: usize)
     requires { base + n ≤ Limits.node_end }
     ensures { x.new ≡ back base n a.now x.old }
 {
-    let mut rows = n;
-    while 0 < rows {
-        let p = rows - 1;
+    for p in (0..n).rev() {
         let r = base + p;
         let row = Equation {
             pivot: a[r][p],
             right: x[p],
         };
-        let y = solve_row(a, row, r, x, n, p);
-        x[p] = y;
-        rows = p;
+        x[p] = solve_row(a, row, r, x, n, p);
     }
 }
 

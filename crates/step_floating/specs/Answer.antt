@@ -3,7 +3,7 @@
 use Rattle.std.specs.Prelude.{◌+◌, ◌-◌, ◌*◌, ◌≤◌, ◌<◌, ◌≡◌, ◌⊎◌}
 use Rattle.whole.specs.Plain.{ℕ, suc, refl, sym, ap, ◌∙◌, inl, inr, Bool, true, false, cond, not}
 use Rattle.whole.specs.Plain.{false≢true, List, eqb, length, get_or, set, drop, length-set, get_or-set_same, get_or-set_other}
-use Rattle.whole.specs.Plain.{eqb-true, eqb-false, eq-eqb, ne_eqb, mul-le-mul_right, ℕ_discrete, arith, Words, first, replicate}
+use Rattle.whole.specs.Plain.{eqb-true, eqb-false, eq-eqb, ne_eqb, mul-le-mul_right, ℕ_discrete, arith, first, replicate}
 use Rattle.whole.specs.Upto.{any_default}
 use Rattle.paper.specs.Legs.{Leg}
 use Rattle.paper.specs.Spread.{Join, mark}
@@ -13,6 +13,7 @@ use Rattle.laws_paths.specs.Paths.{In, Beside, Path, stay, hop, spread_sound, Li
 use Rattle.laws_paths.specs.Meaning.{leg_joins, marks_length}
 use Rattle.laws_paths.specs.Rounds.{Inside}
 use Rattle.laws_paths.specs.Reached.{spread_complete}
+use Rattle.step_legs.specs.declared.Wire.{Wire}
 use Rattle.step_legs.specs.Wires.{leg_at, legs_in, Wires}
 use Rattle.step_legs.specs.Leaving.{legs_length, leg_is}
 use Rattle.step_legs.specs.Free.{Free, first_here}
@@ -25,21 +26,21 @@ abbrev pub start : List ℕ → List ℕ
 start free = marks (loose free) Limits.node_end
 
 -- what the paper's rounds come to
-abbrev pub goal : List Words → List ℕ → List ℕ
+abbrev pub goal : List Wire → List ℕ → List ℕ
 goal legs free = reached (loose free) Limits.node_end (legs_in legs)
 
 -- what is marked 0 at the start still is, and what is marked 0 now is in the end
-pub record Marked (legs : List Words) (free m : List ℕ) : Type 0 where
+pub record Marked (legs : List Wire) (free m : List ℕ) : Type 0 where
   pub long : length m ≡ suc Limits.node_end
   pub kept : (n : ℕ) → mark (start free) n ≡ 0 → get_or m n 0 ≡ 0
   pub right : (n : ℕ) → get_or m n 0 ≡ 0 → n ≤ Limits.node_end → mark (goal legs free) n ≡ 0
 
 -- leg t is still gone over: in the visit of node n, which has come to leg j, or in that of a listed node
-pub data Due (legs : List Words) (list : List ℕ) (listed n j t : ℕ) : Type 0 where
+pub data Due (legs : List Wire) (list : List ℕ) (listed n j t : ℕ) : Type 0 where
   now : j ≤ t → meets (leg_at legs t) n ≡ true → Due legs list listed n j t
   later : (i : ℕ) → i < listed → meets (leg_at legs t) (get_or list i 0) ≡ true → Due legs list listed n j t
 
-pub record State (legs : List Words) (free m list : List ℕ) (listed n j : ℕ) : Type 0 where
+pub record State (legs : List Wire) (free m list : List ℕ) (listed n j : ℕ) : Type 0 where
   pub marked : Marked legs free m
   pub room : Room m listed
   pub places : length list ≡ suc Limits.node_end
@@ -50,7 +51,7 @@ abbrev pub left : ℕ → List ℕ → ℕ → ℕ → ℕ
 left legs m listed j = (2 * unseen m + listed) * (legs + 1) + (legs - j)
 
 -- ---- what the rounds come to
-module _ {legs : List Words} (w : Wires legs) (free : List ℕ) where
+module _ {legs : List Wire} (w : Wires legs) (free : List ℕ) where
   legs_inside : Inside (leg_joins (legs_in legs)) (suc Limits.node_end)
   unfolding Inside
   legs_inside =
@@ -84,7 +85,7 @@ module _ {legs : List Words} (w : Wires legs) (free : List ℕ) where
   }
 
 -- ---- one leg
-module _ {legs : List Words} (w : Wires legs) {free m list : List ℕ} {listed n j : ℕ} (s : State legs free m list listed n j) (here : j < length legs) where
+module _ {legs : List Wire} (w : Wires legs) {free m list : List ℕ} {listed n j : ℕ} (s : State legs free m list listed n j) (here : j < length legs) where
   abbrev l : Leg
   l = leg_at legs j
 
@@ -168,7 +169,7 @@ module _ {legs : List Words} (w : Wires legs) {free m list : List ℕ} {listed n
       fall k e = let f : 2 * k + (listed + 1) + 1 ≤ 2 * unseen m + listed = omega arith in omega (arith, mul-le-mul_right (length legs + 1) f)
 
 -- ---- the next visit
-module _ {legs : List Words} {free m list : List ℕ} {listed n j : ℕ} (s : State legs free m list listed n j) (over : length legs ≤ j) where
+module _ {legs : List Wire} {free m list : List ℕ} {listed n j : ℕ} (s : State legs free m list listed n j) (over : length legs ≤ j) where
   module _ (some : listed ≡ 0 → ⊥) where
     pub state_visit : State legs free m list (listed - 1) (get_or list (listed - 1) 0) 0
     state_visit = record {
@@ -206,7 +207,7 @@ module _ (js : List Join) (m : List ℕ) (even : (i : Join) → In i js → seen
   path_seen stay = refl
   path_seen (hop b w) = beside_seen b ∙ path_seen w
 
-module _ {legs : List Words} {free m list : List ℕ} {listed n j : ℕ} (s : State legs free m list listed n j) where
+module _ {legs : List Wire} {free m list : List ℕ} {listed n j : ℕ} (s : State legs free m list listed n j) where
   -- then what is not marked 0 never will be
   pub goal_seen : length legs ≤ j → listed ≡ 0 → (k : ℕ) → mark (goal legs free) k ≡ 0 → get_or m k 0 ≡ 0
   unfolding reached
@@ -222,10 +223,10 @@ module _ {legs : List Words} {free m list : List ℕ} {listed n j : ℕ} (s : St
           rw (leg_is legs t k) (reaches_not (leg_at legs t) m (calm s over none t k) (rw (leg_is legs t k) at c)))
 
 -- ---- free node after free node
-abbrev pub floats : List Words → List ℕ → ℕ → Bool
+abbrev pub floats : List Wire → List ℕ → ℕ → Bool
 floats legs free n = not (eqb (mark (goal legs free) n) 0)
 
-module _ {legs : List Words} {free m list : List ℕ} {listed n j : ℕ} (s : State legs free m list listed n j) (f : Free free) {i r : ℕ} (h : i < length free) (e : r ≡ first (floats legs free) (drop i free)) where
+module _ {legs : List Wire} {free m list : List ℕ} {listed n j : ℕ} (s : State legs free m list listed n j) (f : Free free) {i r : ℕ} (h : i < length free) (e : r ≡ first (floats legs free) (drop i free)) where
   pub search_on : get_or m (get_or free i 0) 0 ≡ 0 → r ≡ first (floats legs free) (drop (i + 1) free)
   search_on z = first_here (floats legs free) free i r h e false (rw (s.marked.right (get_or free i 0) z (f.node i h)))
 

@@ -5,3 +5,4 @@ pub mod Found
 pub mod Answer
 pub mod Free
 pub mod Local
+pub mod Visits

@@ -7,6 +7,7 @@ use Rattle.whole.specs.Size.{∣◌∣≤◌, sub, fits}
 use Rattle.paper.specs.Limits as Limits
 use Rattle.paper.specs.Legs.{Leg, current}
 use Rattle.paper.specs.Solve.{unbalanced}
+use Rattle.step_legs.specs.declared.Wire.{Wire}
 use Rattle.step_legs.specs.Wires.{legs_in, Sized}
 use Rattle.step_legs.specs.Leaving.{leaving, legs_length}
 use Rattle.step_legs.specs.Shares.{Volts, current_sum, imbalance_is}
@@ -28,7 +29,7 @@ from_one w p = get_or-drop 1 w p z
 one_long : (w : Words) → length w ≡ suc Limits.node_end → length (drop 1 w) ≡ Limits.node_end
 one_long w e = rw length-drop (omega arith)
 
-module _ {legs : List Words} {v inject w : Words} (s : Sized legs) (u : Volts v) (q : InjectsWithin inject) (a : Sums none (current v) (legs_in legs) w) where
+module _ {legs : List Wire} {v inject w : Words} (s : Sized legs) (u : Volts v) (q : InjectsWithin inject) (a : Sums none (current v) (legs_in legs) w) where
   sum : (p : ℕ) → ∣ leaving p (current v) (legs_in legs) ∣≤ 8960000000000000000
   sum p = rw (take-length (legs_in legs)) at (current_sum s p (length (legs_in legs)) (omega (arith, legs_length legs)) u)
 

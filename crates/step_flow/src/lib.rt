@@ -1,122 +1,96 @@
 #![tactic(auto)]
 
-// What flows once the voltages are known: each leg's current and i + g·u are worked out once and kept in its line. The balance at the free nodes (16)
+// What flows once the voltages are known: each leg's current and i + g·u are worked out once and kept in the leg. The balance at the free nodes (16)
 // is judged by the sums of these currents, and the values that are passed on (17) by what is kept.
 ghost use Rattle.std.specs.Prelude.{◌<◌, ◌≡◌};
-ghost use Rattle.whole.specs.Plain.{[], drop, map, T, non_neg, set, length, get_or, nat};
+ghost use Rattle.whole.specs.Plain.{drop, map, T, non_neg, nat};
+ghost use Rattle.whole.specs.Named.{named, placed};
 ghost use Rattle.paper.specs.Limits as Limits;
 ghost use Rattle.paper.specs.Legs.{current};
 ghost use Rattle.step_legs.specs.Wires.{Carries, Wires, Sized, legs_in};
 ghost use Rattle.step_legs.specs.Shares.{Volts};
 ghost use Rattle.step_legs.specs.Sums.{Sums, Near, none};
 ghost use Rattle.step_legs.specs.Free.{Free};
-ghost use Rattle.step_flow.specs.Flown.{Small, passed_by, found_of, keeping, flown};
+ghost use Rattle.step_flow.specs.Flown.{Small, passed_by, flown};
 ghost use Rattle.step_flow.specs.Past.{first_past};
 ghost use Rattle.step_flow.specs.Beyond.{first_row};
 
-use num_quantity::{CheckedHistory, History};
+use num_quantity::History;
 use paper::{Node, kinds};
-use step_legs::{Line, Wire};
+use step_legs::Wire;
 
 // L: "next h is i + g·u"; C: "next h is -i - g·u"; LINE: "It then sends -(g·v + i)." Of i + g·u, by the row's kind.
 fn passed_on(kind: usize, echo: i64) -> i64
     requires { Small echo }
     ensures { result ≡ passed_by kind echo }
 {
-    if kind == kinds::L {
-        return echo;
+    match kind {
+        kinds::L => echo,
+        kinds::C | kinds::LINE => -echo,
+        _ => 0,
     }
-    if kind == kinds::C || kind == kinds::LINE {
-        return -echo;
-    }
-    0
 }
 
-// What a step finds of a leg.
-#[derive(Clone, Copy)]
-struct Found {
-    current: i64,
-    passed: i64,
-}
-
-// i = g·u + h and i + g·u, by one product
-fn carried(l: Wire, v: &[i64; Node::PLACES]) -> Found
+// The leg with what the step finds of it: i = g·u + h, and what it passes on of i + g·u, by one product.
+fn carried(l: Wire, v: &[i64; Node::PLACES]) -> Wire
     requires { Carries l × Volts v.now }
-    ensures { result ≡ found_of v.now l }
+    ensures { result ≡ flown v.now l }
 {
-    let gu = step_legs::through(l, v);
-    let i = gu + l.h;
-    let passed = passed_on(l.kind, i + gu);
-    Found {
-        current: i,
-        passed: passed,
+    let gu = l.through(v);
+    let current = gu + l.h;
+    let passed = passed_on(l.kind, current + gu);
+    Wire {
+        current,
+        passed,
+        ..l
     }
 }
 
-fn keep(legs: &mut [Line], j: usize, f: Found)
-    requires { j < length legs.old }
-    ensures { legs.new ≡ set legs.old j (keeping f (get_or legs.old j [])) }
-{
-    step_legs::put_word(legs, j, 7, f.current);
-    step_legs::put_word(legs, j, 8, f.passed);
-}
-
-// Each leg's current and what it passes on, into its line. The currents that leave each node, summed.
-pub fn flow(legs: &mut [Line], v: &[i64; Node::PLACES]) -> [i64; Node::PLACES]
+// Each leg's current and what it passes on, into the leg. The currents that leave each node, summed.
+pub fn flow(legs: &mut [Wire], v: &[i64; Node::PLACES]) -> [i64; Node::PLACES]
     requires { Sized legs.old × Volts v.now }
     ensures sums { Sums none (current v.now) (legs_in legs.old) result }
     ensures legs_value { legs.new ≡ map (flown v.now) legs.old }
 {
     let mut leaving = [0; Node::PLACES];
-    let mut j = 0;
-    while j < legs.len() {
-        let l = step_legs::leg_at(legs, j);
-        let f = carried(l, v);
-        step_legs::add(&mut leaving, l.near, f.current);
-        keep(legs, j, f);
-        j += 1;
+    for leg in legs.iter_mut() {
+        *leg = carried(*leg, v);
+        leaving[leg.near] += leg.current;
     }
     leaving
 }
 
 // "At each free node the exact whole-number sum of currents leaving, minus injection, has magnitude at most the limit.": the lowest at which it has
-// not, or 0. What is injected stands by node, that of node 1 in the place `one`.
+// not. What is injected stands by node, that of node 1 in the place `one`: the edit change_for_balance of step_try hands in another table.
 pub fn balance(
     leaving: &[i64; Node::PLACES],
     injected: &[i64],
     one: usize,
     free: &[usize],
     limit: i64,
-) -> usize
+) -> Option<usize>
     requires free { Free free.now × T (non_neg limit) }
     requires near { Near Limits.node_end (drop 1 leaving.now) (drop one injected.now) }
-    ensures { result ≡ first_past (nat limit) (drop 1 leaving.now) (drop one injected.now) free.now }
+    ensures { result ≡ named (first_past (nat limit) (drop 1 leaving.now) (drop one injected.now) free.now) }
 {
-    let mut i = 0;
-    while i < free.len() {
-        let p = free[i];
+    for &p in free {
         let at = one + (p - 1);
-        let ok = whole::within(leaving[p] - injected[at], limit);
-        if !ok {
-            return p;
+        if !whole::within(leaving[p] - injected[at], limit) {
+            return Some(p);
         }
-        i += 1;
     }
-    0
+    None
 }
 
-// 17 HISTORY, "a next history or sent value beyond 10^17": the place, from 1, of the first row of which a leg passes on so much; 0 where none does.
-pub fn first_beyond(legs: &[Line]) -> usize
+// 17 HISTORY, "a next history or sent value beyond 10^17": the place of the first row of which a leg passes on so much.
+pub fn first_beyond(legs: &[Wire]) -> Option<usize>
     requires { Wires legs.now }
-    ensures { result ≡ first_row legs.now }
+    ensures { result ≡ placed (first_row legs.now) }
 {
-    let mut j = 0;
-    while j < legs.len() {
-        let w = legs[j];
-        let CheckedHistory::Good(_) = History::new(w[8]) else {
-            return w[2] as usize + 1;
-        };
-        j += 1;
+    for l in legs {
+        if History::new(l.passed).is_none() {
+            return Some(l.row);
+        }
     }
-    0
+    None
 }

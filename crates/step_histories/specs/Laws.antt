@@ -1,26 +1,28 @@
 -- What is heard, of a network's own legs: the rings are there, and the legs are then laid. Assumes nothing.
 use Rattle.std.specs.Prelude.{◌/◌, ◌≤◌, ◌<◌, ◌≡◌}
-use Rattle.whole.specs.Plain.{ℕ, refl, sym, ap, ◌∙◌, true, cond, List, [], map, ℤ, length, get_or}
-use Rattle.whole.specs.Plain.{length-map, get_or-set_same, eq-eqb, le_of_lt, mod-lt, arith, Words, z, word, nat}
+use Rattle.whole.specs.Plain.{ℕ, refl, sym, ap, ◌∙◌, true, cond, List, map, ℤ, length}
+use Rattle.whole.specs.Plain.{length-map, eq-eqb, le_of_lt, mod-lt, arith, Words, word}
 use Rattle.whole.specs.Folds.{get_d_map}
 use Rattle.paper.specs.Rows.{is_line}
 use Rattle.paper.specs.Faults.{delay, rest, slots}
 use Rattle.paper.specs.Areas.{Net, step}
 use Rattle.paper.specs.Records.{offset, history_at}
+use Rattle.paper.specs.Sides.{side_by}
 use Rattle.paper.specs.Legs.{sent_to}
 use Rattle.laws_facts.specs.Nets.{NetSound, row_at, slots_within}
 use Rattle.num_share.specs.Mixed.{Shared}
 use Rattle.step_received.specs.Received.{heard_is}
 use Rattle.plan_rows.specs.declared.Row.{Row}
-use Rattle.plan_rows.specs.Planned.{row_in, row_of, Planned}
+use Rattle.plan_rows.specs.Planned.{Plan, row_in, row_of, Planned}
 use Rattle.plan_ends.specs.Own.{row_of_end, side_of_end, end_at}
-use Rattle.step_legs.specs.Wires.{wire_at}
+use Rattle.step_legs.specs.declared.Wire.{Wire}
+use Rattle.step_legs.specs.Wires.{no_wire, wire_at}
 use Rattle.step_own.specs.Ends.{far_store, facing, h_at, Kept}
 use Rattle.step_own.specs.Laid.{Conducting, Laid, end_own, conducting_wires, conducting_same}
-use Rattle.step_histories.specs.Heard.{Ring, Hears, sent_by, received_by, history_of, heard_line, all_heard}
+use Rattle.step_histories.specs.Heard.{Ring, Hears, sent_by, received_by, history_of, far_is, heard_leg, all_heard}
 
 -- ---- the plan's row
-module _ {N : Net} {plan : List (List ℕ)} (p : Planned N plan) (i : ℕ) (h : i < length N.rows) where
+module _ {N : Net} {plan : Plan} (p : Planned N plan) (i : ℕ) (h : i < length N.rows) where
   place_is : (row_in plan i).place ≡ offset N i
   unfolding row_of
   place_is = ap (λ (r : Row). r.place) (p.row i h)
@@ -54,12 +56,12 @@ module _ {N : Net} {plan : List (List ℕ)} (p : Planned N plan) (i : ℕ) (h : 
       }
 
   -- what its end receives
-  received_is : (side : ℕ) (froms tos : Words) (k : ℕ) → received_by (row_in plan i) side froms tos k ≡ sent_to N k i (row_at N i) (far_store side froms tos)
+  received_is : (end : ℕ) (froms tos : Words) (k : ℕ) → received_by (row_in plan i) (side_by end) froms tos k ≡ sent_to N k i (row_at N i) (far_store end froms tos)
   unfolding received_by sent_by
-  received_is side froms tos k = simp (place_is, slots_are, delay_is, rest_is, step_is) (heard_is N k i (row_at N i) (far_store side froms tos))
+  received_is end froms tos k = rw (far_is end froms tos) (simp (place_is, slots_are, delay_is, rest_is, step_is) (heard_is N k i (row_at N i) (far_store end froms tos)))
 
 -- ---- the area's legs
-module _ {N : Net} {a k : ℕ} {plan : List (List ℕ)} {recs : Words} {legs : List Words} (s : NetSound N) (p : Planned N plan) (c : Conducting N a k recs legs) where
+module _ {N : Net} {a k : ℕ} {plan : Plan} {recs : Words} {legs : List Wire} (s : NetSound N) (p : Planned N plan) (c : Conducting N a k recs legs) where
   row_in_lem : (j : ℕ) → j < length legs → end_at N a j / 2 < length N.rows
   row_in_lem j h = omega (arith, (end_own N a j (omega (arith, c.framed.long))).0)
 
@@ -69,7 +71,7 @@ module _ {N : Net} {a k : ℕ} {plan : List (List ℕ)} {recs : Words} {legs : L
       ring : (j : ℕ) → j < length legs → (wire_at legs j).kind ≡ 4 → Ring (row_in plan (wire_at legs j).row)
       ring j h e =
           let f = c.framed.line j h in
-          rw f.row (ring_of p (end_at N a j / 2) (row_in_lem j h) s (eq-eqb _ 4 (sym (ap nat f.kind) ∙ e)))
+          rw f.row (ring_of p (end_at N a j / 2) (row_in_lem j h) s (eq-eqb _ 4 (sym f.kind ∙ e)))
 
   module _ (froms tos : Words) where
     history_is : (j : ℕ) → j < length legs → history_of plan recs froms tos k (wire_at legs j) ≡ h_at N k recs froms tos (end_at N a j)
@@ -80,11 +82,11 @@ module _ {N : Net} {a k : ℕ} {plan : List (List ℕ)} {recs : Words} {legs : L
         rw (f.kind, f.row, f.end)
         (ap (λ (x : ℤ). cond (is_line (row_of_end N e)) x (facing (side_of_end e) (word recs (history_at (e / 2))))) (received_is p (e / 2) (row_in_lem j h) (side_of_end e) froms tos k))
 
-    pub heard_laid : Laid N a k recs froms tos (map (heard_line plan recs froms tos k) legs)
-    unfolding heard_line
+    pub heard_laid : Laid N a k recs froms tos (map (heard_leg plan recs froms tos k) legs)
+    unfolding heard_leg
     heard_laid = record {
       conducting = conducting_same (all_heard plan recs froms tos k legs refl) c;
       h = λ j h.
-          let i : j < length legs = rw (length-map legs (heard_line plan recs froms tos k)) at h in
-          rw (get_d_map (heard_line plan recs froms tos k) legs j [] [] i) (get_or-set_same (get_or legs j []) 6 _ z (omega (arith, (c.framed.line j i).long)) ∙ history_is j i);
+          let i : j < length legs = rw (length-map legs (heard_leg plan recs froms tos k)) at h in
+          rw (get_d_map (heard_leg plan recs froms tos k) legs j no_wire no_wire i) (history_is j i);
     }

@@ -2,12 +2,14 @@
 use Rattle.whole.specs.Plain.{ℕ, sym, ap, subst, ◌∙◌, inl, inr, List, length, length-set}
 use Rattle.whole.specs.Plain.{ℕ_discrete, dec_lt, arith, Words}
 use borrow.Rule.Slice.PartMut.{mid_len}
-use Rattle.std.specs.Prelude.{Float, ◌+◌, ◌-◌, ◌≤◌, ◌<◌, ◌≡◌, ◌⊎◌}
+use Rattle.std.specs.Prelude.{Float, Result, Ok, Err, ◌+◌, ◌-◌, ◌≤◌, ◌<◌, ◌≡◌, ◌⊎◌}
 use Rattle.paper.specs.Limits as Limits
 use Rattle.paper.specs.Areas.{Net, area_count, free_of}
 use Rattle.laws_facts.specs.Nets.{NetSound, area_count_most}
 use Rattle.plan_ends.specs.Own.{Framed}
-use Rattle.plan_rows.specs.Planned.{Planned}
+use Rattle.plan_rows.specs.Planned.{Plan, Planned}
+use Rattle.step_legs.specs.declared.Wire.{Wire}
+use Rattle.step_legs.specs.declared.Source.{Source}
 use Rattle.plan_own.specs.declared.Own.{Own}
 use Rattle.plan_lay.specs.Grown.{part}
 use Rattle.plan_own.specs.Owns as Owns
@@ -15,16 +17,16 @@ use Rattle.plan_own.specs.Owns.{own_in, prepared, until_put, Ours, Apart}
 use Rattle.plan_own.specs.Kept.{legs_put, tables_legs, ours_legs, other_below, other_above, end_in, new_long, put_here, put_below, put_above, own_put, own_other}
 use Rattle.step_factors.specs.Factors.{Square}
 use Rattle.step_factors.specs.Blocks.{Renewed, serves_beside}
-use Rattle.step_prepare.specs.declared.Prepared.{Prepared}
+use Rattle.step_prepare.specs.declared.Floating.{Floating}
 use Rattle.step_own.specs.Laid.{SameLatches}
-use Rattle.step_prepare.specs.Serving.{Serving, Standing, Prepares, floats, serving_latched}
+use Rattle.step_prepare.specs.Serving.{unless_floating, unless_none, unless_ok, unless_err, Serving, Standing, Prepares, floats, serving_latched}
 
 -- an area's own lines
-abbrev pub own_legs : List (List ℕ) → ℕ → List Words → List Words
+abbrev pub own_legs : List Own → ℕ → List Wire → List Wire
 own_legs owns a legs = part (own_in owns a).legs (own_in owns a).legs_end legs
 
 -- of areas low to high, with what is kept from step k on by the latches in the records
-pub record Tables (N : Net) (low high k : ℕ) (recs : Words) (plan owns : List (List ℕ)) (legs : List Words) (nodes : List ℕ) (sources : List Words) (f : List (List Float)) : Type 0 where
+pub record Tables (N : Net) (low high k : ℕ) (recs : Words) (plan : Plan) (owns : List Own) (legs : List Wire) (nodes : List ℕ) (sources : List Source) (f : List (List Float)) : Type 0 where
   pub sound : NetSound N
   pub planned : Planned N plan
   pub least : 1 ≤ low
@@ -37,7 +39,7 @@ pub record Tables (N : Net) (low high k : ℕ) (recs : Words) (plan owns : List 
   pub kept : (a j : ℕ) → low ≤ a → a ≤ high → k ≤ j → j < (own_in owns a).until → Serving N a j recs (own_in owns a).base (own_legs owns a legs) f
 
 -- a later step
-pub tables_later : {N : Net} {low high k : ℕ} {recs : Words} {plan owns : List (List ℕ)} {legs : List Words} {nodes : List ℕ} {sources : List Words} {f : List (List Float)} (i : ℕ) → k ≤ i
+pub tables_later : {N : Net} {low high k : ℕ} {recs : Words} {plan : Plan} {owns : List Own} {legs : List Wire} {nodes : List ℕ} {sources : List Source} {f : List (List Float)} (i : ℕ) → k ≤ i
     → Tables N low high k recs plan owns legs nodes sources f → Tables N low high i recs plan owns legs nodes sources f
 tables_later i h t = record {
   sound = t.sound;
@@ -52,7 +54,7 @@ tables_later i h t = record {
   kept = λ a j l m q r. t.kept a j l m (omega arith) r;
 }
 
-module _ {N : Net} {low high k : ℕ} {recs : Words} {plan owns : List (List ℕ)} {legs : List Words} {nodes : List ℕ} {sources : List Words} {f : List (List Float)}
+module _ {N : Net} {low high k : ℕ} {recs : Words} {plan : Plan} {owns : List Own} {legs : List Wire} {nodes : List ℕ} {sources : List Source} {f : List (List Float)}
     (t : Tables N low high k recs plan owns legs nodes sources f) (a : ℕ) (l : low ≤ a) (m : a ≤ high) where
   abbrev o : Own
   o = own_in owns a
@@ -79,7 +81,7 @@ module _ {N : Net} {low high k : ℕ} {recs : Words} {plan owns : List (List ℕ
       }
 
 -- other records: what is kept of an area serves on, where none of its switches has parted
-pub tables_latched : {N : Net} {low high k : ℕ} {recs recs' : Words} {plan owns : List (List ℕ)} {legs : List Words} {nodes : List ℕ} {sources : List Words} {f : List (List Float)}
+pub tables_latched : {N : Net} {low high k : ℕ} {recs recs' : Words} {plan : Plan} {owns : List Own} {legs : List Wire} {nodes : List ℕ} {sources : List Source} {f : List (List Float)}
     → ((a : ℕ) → low ≤ a → a ≤ high → 0 < (own_in owns a).until → SameLatches N a recs recs') → Tables N low high k recs plan owns legs nodes sources f → Tables N low high k recs' plan owns legs nodes sources f
 tables_latched same t = record {
   sound = t.sound;
@@ -95,13 +97,13 @@ tables_latched same t = record {
 }
 
 -- ---- one area's lines written anew, and its part of the factors
-module _ {N : Net} {low high k : ℕ} {recs : Words} {plan owns : List (List ℕ)} {legs : List Words} {nodes : List ℕ} {sources : List Words} {f : List (List Float)}
+module _ {N : Net} {low high k : ℕ} {recs : Words} {plan : Plan} {owns : List Own} {legs : List Wire} {nodes : List ℕ} {sources : List Source} {f : List (List Float)}
     (t : Tables N low high k recs plan owns legs nodes sources f) (a : ℕ) (l : low ≤ a) (m : a ≤ high) where
   block_end : (b : ℕ) → low ≤ b → b ≤ high → (own_in owns b).base + length (free_of N b) ≤ (own_in owns b).nodes_end
   block_end b p q = let w = t.ours b p q in omega (arith, free_length t b p q, w.nodes_in.0, w.nodes_in.1)
 
   -- another area's factors stay where this one's are renewed
-  beside : {f' : List (List Float)} → Renewed (own_in owns a).base (length (free_of N a)) f f' → (b j : ℕ) → low ≤ b → b ≤ high → (b ≡ a → ⊥) → {x : List Words} → Serving N b j recs (own_in owns b).base x f
+  beside : {f' : List (List Float)} → Renewed (own_in owns a).base (length (free_of N a)) f f' → (b j : ℕ) → low ≤ b → b ≤ high → (b ≡ a → ⊥) → {x : List Wire} → Serving N b j recs (own_in owns b).base x f
       → Serving N b j recs (own_in owns b).base x f'
   beside r b j p q n s = record { conducts = s.conducts; serves = serves_beside r (by (dec_lt b a)) s.serves; grounded = s.grounded }
     where
@@ -109,11 +111,11 @@ module _ {N : Net} {low high k : ℕ} {recs : Words} {plan owns : List (List ℕ
       by (yes h) = inl (omega (arith, (t.apart b a p h m).nodes, block_end b p q))
       by (no h) = inr (omega (arith, (t.apart a b l (omega arith) q).nodes, block_end a l m))
 
-  module _ (new : List Words) (fr : Framed N a new) where
+  module _ (new : List Wire) (fr : Framed N a new) where
     w : Ours N a (own_in owns a) legs nodes sources
     w = t.ours a l m
 
-    abbrev put : List Words
+    abbrev put : List Wire
     put = legs_put (own_in owns a) legs new
 
     pub put_own : own_legs owns a put ≡ new
@@ -191,46 +193,46 @@ module _ {N : Net} {low high k : ℕ} {recs : Words} {plan owns : List (List ℕ
 
 -- ---- what is kept, renewed where it does not serve step k
 
-pub record Known (k : ℕ) (recs : Words) (plan owns : List (List ℕ)) (legs : List Words) (nodes : List ℕ) (f : List (List Float)) (a : ℕ) : Type 0 where
+pub record Known (k : ℕ) (recs : Words) (plan : Plan) (owns : List Own) (legs : List Wire) (nodes : List ℕ) (f : List (List Float)) (a : ℕ) : Type 0 where
   pub net : Net
   pub low : ℕ
   pub high : ℕ
-  pub sources : List Words
+  pub sources : List Source
   pub tables : Tables net low high k recs plan owns legs nodes sources f
   pub least : low ≤ a
   pub most : a ≤ high
   pub few : k ≤ Limits.steps_end
   pub long : length recs ≡ Limits.record_words
 
-pub record Renewing (N : Net) (low high k a : ℕ) (recs : Words) (plan : List (List ℕ)) (nodes : List ℕ) (sources : List Words) (r : ℕ) (owns : List (List ℕ)) (legs : List Words) (f : List (List Float)) : Type 0 where
-  pub node : r ≡ floats N a k recs
+pub record Renewing (N : Net) (low high k a : ℕ) (recs : Words) (plan : Plan) (nodes : List ℕ) (sources : List Source) (r : Result (Unit {0}) Floating) (owns : List Own) (legs : List Wire) (f : List (List Float)) : Type 0 where
+  pub answer : r ≡ unless_floating (floats N a k recs) tt
   pub tables : Tables N low high k recs plan owns legs nodes sources f
-  pub serving : r ≡ 0 → Serving N a k recs (own_in owns a).base (own_legs owns a legs) f
+  pub serving : r ≡ Ok tt → Serving N a k recs (own_in owns a).base (own_legs owns a legs) f
 
-pub record Renews (k a : ℕ) (recs : Words) (plan : List (List ℕ)) (nodes : List ℕ) (owns : List (List ℕ)) (legs : List Words) (f : List (List Float)) (r : ℕ) (owns' : List (List ℕ)) (legs' : List Words) (f' : List (List Float)) : Type 0 where
-  pub of : (N : Net) (low high : ℕ) (sources : List Words) → Tables N low high k recs plan owns legs nodes sources f → low ≤ a → a ≤ high → Renewing N low high k a recs plan nodes sources r owns' legs' f'
+pub record Renews (k a : ℕ) (recs : Words) (plan : Plan) (nodes : List ℕ) (owns : List Own) (legs : List Wire) (f : List (List Float)) (r : Result (Unit {0}) Floating) (owns' : List Own) (legs' : List Wire) (f' : List (List Float)) : Type 0 where
+  pub of : (N : Net) (low high : ℕ) (sources : List Source) → Tables N low high k recs plan owns legs nodes sources f → low ≤ a → a ≤ high → Renewing N low high k a recs plan nodes sources r owns' legs' f'
 
 -- ---- of the own that was read
-module _ {k a : ℕ} {recs : Words} {plan owns : List (List ℕ)} {legs : List Words} {nodes : List ℕ} {f : List (List Float)} {o : Own} (e : o ≡ own_in owns a) where
-  pub ours_read : {N : Net} {low high : ℕ} {sources : List Words} → Tables N low high k recs plan owns legs nodes sources f → low ≤ a → a ≤ high → Ours N a o legs nodes sources
+module _ {k a : ℕ} {recs : Words} {plan : Plan} {owns : List Own} {legs : List Wire} {nodes : List ℕ} {f : List (List Float)} {o : Own} (e : o ≡ own_in owns a) where
+  pub ours_read : {N : Net} {low high : ℕ} {sources : List Source} → Tables N low high k recs plan owns legs nodes sources f → low ≤ a → a ≤ high → Ours N a o legs nodes sources
   ours_read t l m = rw e (t.ours a l m)
 
-  pub stands_read : {N : Net} {low high : ℕ} {sources : List Words} → Tables N low high k recs plan owns legs nodes sources f → low ≤ a → a ≤ high
+  pub stands_read : {N : Net} {low high : ℕ} {sources : List Source} → Tables N low high k recs plan owns legs nodes sources f → low ≤ a → a ≤ high
       → Standing N a plan (part o.legs o.legs_end legs) (part o.base o.free_end nodes) o.base
   stands_read {N} t l m = subst (λ (x : Own). Standing N a plan (part x.legs x.legs_end legs) (part x.base x.free_end nodes) x.base) (sym e) (standing t a l m)
 
   -- what was prepared goes on serving
-  pub renews_none : k < o.until → Renews k a recs plan nodes owns legs f 0 owns legs f
+  pub renews_none : k < o.until → Renews k a recs plan nodes owns legs f (Ok tt) owns legs f
   renews_none h = record {
     of = λ N low high sources t l m.
         let s = t.kept a k l m (omega arith) (subst (λ (x : Own). k < x.until) e h) in
-        record { node = sym s.grounded; tables = t; serving = λ z. s };
+        record { answer = unless_none _ tt s.grounded; tables = t; serving = λ z. s };
   }
 
-  module _ {p : Prepared} {new : List Words} {f' : List (List Float)} (late : o.until ≤ k)
+  module _ {p : Result ℕ Floating} {new : List Wire} {f' : List (List Float)} (late : o.until ≤ k)
       (r : (N : Net) (n : ℕ) → Standing N n plan (part o.legs o.legs_end legs) (part o.base o.free_end nodes) o.base → Prepares N n k recs o.base p new f')
       (w : Renewed o.base (length (part o.base o.free_end nodes)) f f') where
-    module _ {N : Net} {low high : ℕ} {sources : List Words} (t : Tables N low high k recs plan owns legs nodes sources f) (l : low ≤ a) (m : a ≤ high) where
+    module _ {N : Net} {low high : ℕ} {sources : List Source} (t : Tables N low high k recs plan owns legs nodes sources f) (l : low ≤ a) (m : a ≤ high) where
       found : Prepares N a k recs (own_in owns a).base p new f'
       found = subst (λ (x : Own). Prepares N a k recs x.base p new f') e (r N a (stands_read t l m))
 
@@ -240,23 +242,28 @@ module _ {k a : ℕ} {recs : Words} {plan owns : List (List ℕ)} {legs : List W
           (rw (t.ours a l m).free at (subst (λ (x : Own). Renewed x.base (length (part x.base x.free_end nodes)) f f') e w))
           (λ j x y. absurd (omega (arith, ap (λ (x : Own). x.until) e)))
 
-    pub renews_stop : (p.node ≡ 0 → ⊥) → Renews k a recs plan nodes owns legs f p.node owns (legs_put o legs new) f'
-    renews_stop n = record {
+    pub renews_stop : {d : Floating} → p ≡ Err d → Renews k a recs plan nodes owns legs f (Err d) owns (legs_put o legs new) f'
+    renews_stop {d} q = record {
       of = λ N low high sources t l m.
-          record { node = (found t l m).node; tables = subst (λ (x : Own). Tables N low high k recs plan owns (legs_put x legs new) nodes sources f') (sym e) (anew t l m); serving = λ z. absurd (n z) };
+          record {
+            answer = unless_err (floats N a k recs) (found t l m).until tt (sym q ∙ (found t l m).answer);
+            tables = subst (λ (x : Own). Tables N low high k recs plan owns (legs_put x legs new) nodes sources f') (sym e) (anew t l m);
+            serving = λ z. cc;
+          };
     }
 
-    pub renews_on : {owns' : List (List ℕ)} → p.node ≡ 0 → owns' ≡ until_put owns a p.until → Renews k a recs plan nodes owns legs f 0 owns' (legs_put o legs new) f'
-    renews_on z q = record { of = λ N low high sources t l m. rw q (renewed t l m) }
+    pub renews_on : {owns' : List Own} {u : ℕ} → p ≡ Ok u → owns' ≡ until_put owns a u → Renews k a recs plan nodes owns legs f (Ok tt) owns' (legs_put o legs new) f'
+    renews_on {u = u} z q = record { of = λ N low high sources t l m. rw q (renewed t l m) }
       where
-        renewed : {N : Net} {low high : ℕ} {sources : List Words} → Tables N low high k recs plan owns legs nodes sources f → low ≤ a → a ≤ high → Renewing N low high k a recs plan nodes sources 0 (until_put owns a p.until) (legs_put o legs new) f'
+        renewed : {N : Net} {low high : ℕ} {sources : List Source} → Tables N low high k recs plan owns legs nodes sources f → low ≤ a → a ≤ high → Renewing N low high k a recs plan nodes sources (Ok tt) (until_put owns a u) (legs_put o legs new) f'
         renewed {N} {low} {high} {sources} t l m =
             let g = found t l m in
-            let u = tables_until (anew t l m) a l m p.until (λ j x y. rw (put_own t a l m new g.framed) (g.serving z j x y)) in
-            let h = own_put owns a (prepared (own_in owns a) p.until) (omega (arith, t.long, area_few t a l m)) in
-            subst (λ (x : Own). Renewing N low high k a recs plan nodes sources 0 (until_put owns a p.until) (legs_put x legs new) f') (sym e)
+            let y = unless_ok (floats N a k recs) (sym z ∙ g.answer) in
+            let i = tables_until (anew t l m) a l m u (λ j x b. rw (put_own t a l m new g.framed) (g.serving y.0 j x (rw y.1 at b))) in
+            let h = own_put owns a (prepared (own_in owns a) u) (omega (arith, t.long, area_few t a l m)) in
+            subst (λ (x : Own). Renewing N low high k a recs plan nodes sources (Ok tt) (until_put owns a u) (legs_put x legs new) f') (sym e)
             (record {
-              node = sym z ∙ g.node;
-              tables = u;
-              serving = λ y. u.kept a k l m (omega arith) (subst (λ (x : Own). k < x.until) (sym h) (g.on z));
+              answer = unless_none (floats N a k recs) tt y.0;
+              tables = i;
+              serving = λ b. i.kept a k l m (omega arith) (subst (λ (x : Own). k < x.until) (sym h) (rw (sym y.1) at g.on));
             })

@@ -1,6 +1,6 @@
 -- A breaker's parting, by the plan's rows and by the words of the records. Assumes nothing.
 use Rattle.std.specs.Prelude.{◌≡◌, ◌&&◌}
-use Rattle.whole.specs.Plain.{ℕ, zero, suc, refl, sym, Bool, true, false, cond, not, true≢false, List, eqb, ℤ, pos, negsuc, lt_z, lt-ltb, le-ltb}
+use Rattle.whole.specs.Plain.{ℕ, zero, suc, refl, sym, Bool, true, false, cond, not, true≢false, eqb, ℤ, pos, negsuc, lt_z, lt-ltb, le-ltb}
 use Rattle.whole.specs.Plain.{arith, Words, z, word}
 use Rattle.paper.specs.Records.{current_at, latch_at}
 use Rattle.paper.specs.Rows as Rows
@@ -9,7 +9,7 @@ use Rattle.paper.specs.Advance.{put_if}
 use Rattle.paper.specs.Areas.{Net}
 use Rattle.laws_facts.specs.Nets.{row_at}
 use Rattle.plan_rows.specs.declared.Row.{Row}
-use Rattle.plan_rows.specs.Planned.{row_in, row_of}
+use Rattle.plan_rows.specs.Planned.{Plan, row_in, row_of}
 use Rattle.plan_rows.specs.Switching.{may_part_by, may_paper}
 use Rattle.step_legs.specs.declared.Wire.{Wire}
 
@@ -17,12 +17,12 @@ use Rattle.step_legs.specs.declared.Wire.{Wire}
 unfoldable pub parts_by : ℕ → Row → ℤ → ℤ → ℤ → Bool
 parts_by k r before now p = not (lt_z z p) && (may_part_by k r && crosses before now)
 
--- of a leg with current i, and records that have the current of the step before
-unfoldable pub leg_parts : List (List ℕ) → ℕ → Wire → ℤ → Words → Bool
-leg_parts plan k w i recs = eqb w.kind 5 && parts_by k (row_in plan w.row) (word recs (current_at w.row)) i (word recs (latch_at w.row))
+-- of a leg, and records that have the current of the step before
+unfoldable pub leg_parts : Plan → ℕ → Wire → Words → Bool
+leg_parts plan k w recs = eqb w.kind 5 && parts_by k (row_in plan w.row) (word recs (current_at w.row)) w.current (word recs (latch_at w.row))
 
-unfoldable pub latch_put : List (List ℕ) → ℕ → Wire → ℤ → Words → Words
-latch_put plan k w i recs = put_if (leg_parts plan k w i recs) recs (latch_at w.row) (pos k)
+unfoldable pub latch_put : Plan → ℕ → Wire → Words → Words
+latch_put plan k w recs = put_if (leg_parts plan k w recs) recs (latch_at w.row) (pos k)
 
 -- as the paper has it
 pub parts_paper : (N : Net) (i k : ℕ) (before now p : ℤ) → parts_by k (row_of N i) before now p ≡ (not (lt_z z p) && parts k (row_at N i) before now)

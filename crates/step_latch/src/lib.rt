@@ -30,29 +30,22 @@ fn parts(r: Row, before: i64, now: i64, latch: i64, k: usize) -> bool
     requires { k ≤ Limits.steps_end }
     ensures { result ≡ parts_by k r before now latch }
 {
-    if 0 < latch {
-        return false;
-    }
-    if !plan_rows::may_part(r, k) {
-        return false;
-    }
-    crosses(before, now)
+    latch <= 0 && r.may_part(k) && crosses(before, now)
 }
 
 // A leg that is an SW's: its latch is set where it parts at step k. The current in the records is still that of the step before.
-pub fn part(plan: &Table, l: Wire, current: i64, records: &mut [i64], k: usize) -> bool
+pub fn part(plan: &Table, l: Wire, records: &mut [i64], k: usize) -> bool
     requires { (l.row < Limits.row_end) × (length records.old ≡ Limits.record_words) × (k ≤ Limits.steps_end) }
-    ensures value { result ≡ leg_parts plan.now k l current records.old }
-    ensures records_value { records.new ≡ latch_put plan.now k l current records.old }
+    ensures value { result ≡ leg_parts plan.now k l records.old }
+    ensures records_value { records.new ≡ latch_put plan.now k l records.old }
 {
     if l.kind != kinds::SW {
         return false;
     }
     let row = l.row;
-    let r = plan_rows::row_at(plan, row);
     let last = records[sections::CURRENTS + row];
     let latch = records[sections::LATCHES + row];
-    if !parts(r, last, current, latch, k) {
+    if !parts(plan[row], last, l.current, latch, k) {
         return false;
     }
     records[sections::LATCHES + row] = k as i64;

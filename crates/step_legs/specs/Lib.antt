@@ -4,3 +4,4 @@ pub mod Shares
 pub mod Sums
 pub mod Free
 pub mod Written
+pub mod Side

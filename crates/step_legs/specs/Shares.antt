@@ -107,14 +107,14 @@ module _ {w : Wire} (s : Carries w) where
   drawn_size u = sub s.h_end (mul (g_size s.wired) (volt_size u w.far))
 
 -- of a sum over the first j legs
-module _ {legs : List Words} (s : Wires legs) (p j : ℕ) (l : j ≤ length legs) where
+module _ {legs : List Wire} (s : Wires legs) (p j : ℕ) (l : j ≤ length legs) where
   pub conductance_sum : ∣ leaving p conductance (take j (legs_in legs)) ∣≤ 64000000000
   conductance_sum = leaving_size p conductance 1000000000 s (λ i k. g_size (s.wired i k)) j l
 
   pub toward_sum : (q : ℕ) → ∣ leaving p (toward q) (take j (legs_in legs)) ∣≤ 64000000000
   toward_sum q = leaving_size p (toward q) 1000000000 s (λ i k. toward_size (s.wired i k) q) j l
 
-module _ {legs : List Words} (s : Sized legs) (p j : ℕ) (l : j ≤ length legs) where
+module _ {legs : List Wire} (s : Sized legs) (p j : ℕ) (l : j ≤ length legs) where
   pub drawn_sum : {still : Words} → Volts still → ∣ leaving p (drawn still) (take j (legs_in legs)) ∣≤ 7680000000000000000
   drawn_sum {still} u = leaving_size p (drawn still) 120000000000000000 s.wires (λ i k. drawn_size (carries s i k) u) j l
 

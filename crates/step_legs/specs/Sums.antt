@@ -9,6 +9,7 @@ use Rattle.whole.specs.Filled.{get_d_same}
 use Rattle.paper.specs.Limits as Limits
 use Rattle.paper.specs.Legs.{Leg}
 use Rattle.paper.specs.Solve.{leaves}
+use Rattle.step_legs.specs.declared.Wire.{Wire}
 use Rattle.step_legs.specs.Wires.{leg_at, legs_in}
 use Rattle.step_legs.specs.Leaving.{leaving, leaving_more}
 
@@ -17,7 +18,7 @@ pub record Sums (start : Words) (f : Leg → ℤ) (legs : List Leg) (w : Words) 
   pub long : length w ≡ suc Limits.node_end
   pub at : (p : ℕ) → p ≤ Limits.node_end → word w p ≡ word start p +ℤ leaving p f legs
 
-pub sums_start : {start : Words} (f : Leg → ℤ) (legs : List Words) → length start ≡ suc Limits.node_end → Sums start f (take 0 (legs_in legs)) start
+pub sums_start : {start : Words} (f : Leg → ℤ) (legs : List Wire) → length start ≡ suc Limits.node_end → Sums start f (take 0 (legs_in legs)) start
 unfolding leaving total
 sums_start {start} f legs e = record { long = e; at = λ p l. sym (+ℤ_idr (word start p)) }
 
@@ -31,7 +32,7 @@ from_none p x = ap (λ (y : ℤ). y +ℤ x) (get_d_same (suc Limits.node_end) p 
 pub sums_at : {f : Leg → ℤ} {legs : List Leg} {w : Words} → Sums none f legs w → (p : ℕ) → p ≤ Limits.node_end → word w p ≡ leaving p f legs
 sums_at {f} {legs} s p l = s.at p l ∙ from_none p (leaving p f legs)
 
-module _ {start : Words} (f : Leg → ℤ) (legs : List Words) (j : ℕ) (h : j < length legs) {w : Words} (s : Sums start f (take j (legs_in legs)) w) (node : (leg_at legs j).near ≤ Limits.node_end) where
+module _ {start : Words} (f : Leg → ℤ) (legs : List Wire) (j : ℕ) (h : j < length legs) {w : Words} (s : Sums start f (take j (legs_in legs)) w) (node : (leg_at legs j).near ≤ Limits.node_end) where
   abbrev near : ℕ
   near = (leg_at legs j).near
 
@@ -60,7 +61,7 @@ module _ {start : Words} (f : Leg → ℤ) (legs : List Words) (j : ℕ) (h : j 
   sum_after = sym (get_or-set_same w near _ z (omega (arith, s.long))) ∙ sums_more.at near node
 
 -- the sum at the leg's node, from 0, before the leg and after it
-pub sum_room : (f : Leg → ℤ) (legs : List Words) (j : ℕ) → j < length legs → {w : Words} → Sums none f (take j (legs_in legs)) w → (node : (leg_at legs j).near ≤ Limits.node_end)
+pub sum_room : (f : Leg → ℤ) (legs : List Wire) (j : ℕ) → j < length legs → {w : Words} → Sums none f (take j (legs_in legs)) w → (node : (leg_at legs j).near ≤ Limits.node_end)
     → ((i : ℕ) → i ≤ length legs → SFits w64 (leaving (leg_at legs j).near f (take i (legs_in legs))))
     → ((leg_at legs j).near < suc Limits.node_end) × SFits w64 (word w (leg_at legs j).near) × SFits w64 (word w (leg_at legs j).near +ℤ f (leg_at legs j))
 sum_room f legs j h s node fit =

@@ -1,20 +1,23 @@
 #![tactic(auto)]
 
-// An area's legs as a step keeps them: a line of words for each end of its own, in table order. Of a line the first five words are the network's, g is
-// the position of the switches, h the step; the last two are what the step found: the current, and what the leg passes on to the next step.
+// An area's legs as a step keeps them, one for each end of its own, in table order. Of a leg the first five words are the network's, g is the position of
+// the switches, h the step; the last two are what the step found: the current, and what the leg passes on to the next step.
 ghost use Rattle.std.specs.Prelude.{◌+◌, ◌<◌, ◌≡◌, ◌+ℤ◌};
-ghost use Rattle.whole.specs.Plain.{[], set, length, get_or, word};
+ghost use Rattle.whole.specs.Plain.{set, word};
 ghost use Rattle.std.specs.Int.{w64};
 ghost use Rattle.std.proofs.Common.{SFits};
 ghost use Rattle.paper.specs.Limits as Limits;
 ghost use Rattle.paper.specs.Legs.{through};
-ghost use Rattle.step_legs.specs.Wires.{leg_of, wire_at, Wired, Carries, Wires};
+ghost use Rattle.paper.specs.Sides.{side_by};
+ghost use Rattle.step_legs.specs.Wires.{leg_of, Wired, Carries};
 ghost use Rattle.step_legs.specs.Shares.{Volts, drawn};
 
-use paper::Node;
+use paper::{Kind, Node, Side};
 
-// One end of a row: from its node to another, with conductance g and history h; and which row's end it is, 1 the from end and 2 the to end.
+// One end of a row: from its node to another, with conductance g and history h; and which row's end it is, 1 the from end and 2 the to end. C lends the
+// table of these as nine words each, in this order, so the end and the kind stay numbers in it.
 #[derive(Clone, Copy)]
+#[repr(C)]
 pub struct Wire {
     pub near: usize,
     pub far: usize,
@@ -23,56 +26,64 @@ pub struct Wire {
     pub kind: usize,
     pub g: i64,
     pub h: i64,
+    pub current: i64,
+    pub passed: i64,
 }
 
-// near, far, row, end, kind, g, h, current, passed on
-pub type Line = [i64; 9];
+impl Wire {
+    pub const NONE: Wire = Wire {
+        near: 0,
+        far: 0,
+        row: 0,
+        end: 0,
+        kind: 0,
+        g: 0,
+        h: 0,
+        current: 0,
+        passed: 0,
+    };
 
-// A source as a line of words: kind, node, peak, start, and its rise, or minus a VC's pace.
-pub type SourceLine = [i64; 5];
+    pub fn side(self) -> Side
+        ensures { result ≡ side_by self.end }
+    {
+        if self.end == 1 { Side::From } else { Side::To }
+    }
 
-pub fn leg_at(legs: &[Line], j: usize) -> Wire
-    requires { Wires legs.now × (j < length legs.now) }
-    ensures { result ≡ wire_at legs.now j }
-{
-    let w = legs[j];
-    Wire {
-        near: w[0] as usize,
-        far: w[1] as usize,
-        row: w[2] as usize,
-        end: w[3] as usize,
-        kind: w[4] as usize,
-        g: w[5],
-        h: w[6],
+    // g·u
+    pub fn through(self, v: &[i64; Node::PLACES]) -> i64
+        requires { Wired self × Volts v.now }
+        ensures { result ≡ through v.now (leg_of self) }
+    {
+        self.g * (v[self.near] - v[self.far])
+    }
+
+    // what would leave by the leg with its near node at 0: "histories" less "conductance times fixed neighbour voltages"
+    pub fn drawn(self, still: &[i64; Node::PLACES]) -> i64
+        requires { Carries self × Volts still.now }
+        ensures { result ≡ drawn still.now (leg_of self) }
+    {
+        self.h - self.g * still[self.far]
     }
 }
 
-// Word i of leg j.
-pub fn put_word(legs: &mut [Line], j: usize, i: usize, x: i64)
-    requires { (j < length legs.old) × (i < 9) }
-    ensures { legs.new ≡ set legs.old j (set (get_or legs.old j []) i x) }
-{
-    legs[j][i] = x;
+// A source of an area: its kind, its node, its peak, its start, and its rise, or minus a VC's pace.
+#[derive(Clone, Copy)]
+pub struct Source {
+    pub kind: Kind,
+    pub node: usize,
+    pub peak: i64,
+    pub start: i64,
+    pub pace: i64,
 }
 
-// g·u
-pub fn through(l: Wire, v: &[i64; Node::PLACES]) -> i64
-    requires { Wired l × Volts v.now }
-    ensures { result ≡ through v.now (leg_of l) }
-{
-    let p = l.near;
-    let q = l.far;
-    l.g * (v[p] - v[q])
-}
-
-// what would leave by the leg with its near node at 0: "histories" less "conductance times fixed neighbour voltages"
-pub fn drawn(l: Wire, still: &[i64; Node::PLACES]) -> i64
-    requires { Carries l × Volts still.now }
-    ensures { result ≡ drawn still.now (leg_of l) }
-{
-    let q = l.far;
-    let fixed = l.g * still[q];
-    l.h - fixed
+impl Source {
+    pub const NONE: Source = Source {
+        kind: Kind::Study,
+        node: 0,
+        peak: 0,
+        start: 0,
+        pace: 0,
+    };
 }
 
 // x more at node p
@@ -80,5 +91,5 @@ pub fn add(sums: &mut [i64; Node::PLACES], p: usize, x: i64)
     requires { (p < Limits.node_end + 1) × SFits w64 (word sums.old p) × SFits w64 (word sums.old p +ℤ x) }
     ensures { sums.new ≡ set sums.old p (word sums.old p +ℤ x) }
 {
-    sums[p] = sums[p] + x;
+    sums[p] += x;
 }

@@ -2,7 +2,7 @@
 -- as legs are added, and how large it gets; the block of an area's free nodes, from line `base` of the table on, and its factors. Assumes nothing.
 use Rattle.whole.specs.Plain.{ℕ, refl, sym, ap, ◌∙◌, Bool, true, false, cond, List, map, eqb}
 use Rattle.whole.specs.Plain.{ℤ, pos, neg_ℤ, +ℤ_idr, neg_ℤ-+ℤ, get_or, length, take, get_or-replicate, take_all}
-use Rattle.whole.specs.Plain.{eqb-true, arith, Words, z, total}
+use Rattle.whole.specs.Plain.{eqb-true, arith, z, total}
 use Rattle.std.specs.Prelude.{Float, ◌+◌, ◌^◌, ◌≤◌, ◌<◌, ◌≡◌, ◌+ℤ◌, ◌-ℤ◌}
 use Rattle.std.specs.Float.{nan, binary64}
 use Rattle.std.specs.Float.Ieee.{of_int}
@@ -42,7 +42,7 @@ falls true true g x = neg_ℤ-+ℤ x (pos g)
 falls true false g x = ap neg_ℤ (+ℤ_idr x)
 falls false t g x = ap neg_ℤ (+ℤ_idr x)
 
-module _ {legs : List Words} (w : Wires legs) (j : ℕ) (p q : ℕ) where
+module _ {legs : List Wire} (w : Wires legs) (j : ℕ) (p q : ℕ) where
   abbrev some : List Leg
   some = take j (legs_in legs)
 
@@ -78,7 +78,7 @@ pub record Block (legs : List Leg) (free : List ℕ) (base : ℕ) (a b : List (L
   pub at : (p q : ℕ) → p < length free → q < length free → cell (line b (base + p)) q ≡ double (entry legs (get_or free p 0) (get_or free q 0))
 
 -- no leg
-pub block_none : {free : List ℕ} {base : ℕ} {a b : List (List Float)} (legs : List Words) → base + length free ≤ 32 → Cleared base (length free) (length free) a b
+pub block_none : {free : List ℕ} {base : ℕ} {a b : List (List Float)} (legs : List Wire) → base + length free ≤ 32 → Cleared base (length free) (length free) a b
     → Block (take 0 (legs_in legs)) free base b b
 unfolding entry total
 block_none {free} {base} legs room c = record {
@@ -98,7 +98,7 @@ cell_more true false true p q = less_exact p q
 cell_more true false false p q = refl
 cell_more false t u p q = refl
 
-module _ {legs : List Words} (w : Wires legs) {free place : List ℕ} (f : Free free) (s : Placed free place (length free)) {base : ℕ} (room : base + length free ≤ 32)
+module _ {legs : List Wire} (w : Wires legs) {free place : List ℕ} (f : Free free) (s : Placed free place (length free)) {base : ℕ} (room : base + length free ≤ 32)
     (j : ℕ) (h : j < length legs) {a b : List (List Float)} (r : Block (take j (legs_in legs)) free base a b) where
   abbrev leg : Wire
   leg = wire_at legs j
@@ -122,7 +122,7 @@ module _ {legs : List Words} (w : Wires legs) {free place : List ℕ} (f : Free 
       })
 
 -- all legs, over the cleared block
-pub block_all : (legs : List Words) {free : List ℕ} {base : ℕ} (j : ℕ) {a b c : List (List Float)} → length legs ≤ j → Cleared base (length free) (length free) a b
+pub block_all : (legs : List Wire) {free : List ℕ} {base : ℕ} (j : ℕ) {a b c : List (List Float)} → length legs ≤ j → Cleared base (length free) (length free) a b
     → Block (take j (legs_in legs)) free base b c → Block (legs_in legs) free base a c
 block_all legs j h d r =
     let e : take j (legs_in legs) ≡ legs_in legs = take_all j (legs_in legs) (omega (arith, legs_length legs)) in

@@ -18,7 +18,7 @@ ghost use Rattle.step_matrix.specs.Block.{Block};
 
 use paper::Node;
 use step_factors::{ByFree, Matrix};
-use step_legs::Line;
+use step_legs::Wire;
 
 // by node its place among the free nodes; 32 for a node that is none of them
 fn places(free: &[usize]) -> [usize; Node::PLACES]
@@ -26,11 +26,8 @@ fn places(free: &[usize]) -> [usize; Node::PLACES]
     ensures { Placed free.now result (length free.now) }
 {
     let mut place = [Node::MAX as usize; Node::PLACES];
-    let mut i = 0;
-    while i < free.len() {
-        let k = free[i];
+    for (i, &k) in free.iter().enumerate() {
         place[k] = i;
-        i += 1;
     }
     place
 }
@@ -40,11 +37,8 @@ fn clear(a: &mut Matrix, base: usize, n: usize)
     requires { (base + n ≤ Limits.node_end) × Square a.old }
     ensures { Cleared base n n a.old a.new }
 {
-    let none = [0.0; Node::MAX as usize];
-    let mut p = 0;
-    while p < n {
-        a[base + p] = none;
-        p += 1;
+    for p in 0..n {
+        a[base + p] = [0.0; Node::MAX as usize];
     }
 }
 
@@ -55,7 +49,7 @@ fn join_line(line: &mut ByFree, n: usize, p: usize, q: usize, g: f64)
 {
     let pivot = line[p] + g;
     if q < n {
-        line[q] = line[q] - g;
+        line[q] -= g;
     }
     line[p] = pivot;
 }
@@ -71,25 +65,20 @@ fn join(a: &mut Matrix, base: usize, n: usize, p: usize, q: usize, g: f64)
 }
 
 // the block, leg by leg
-fn fill(legs: &[Line], free: &[usize], place: &[usize; Node::PLACES], base: usize, a: &mut Matrix)
+fn fill(legs: &[Wire], free: &[usize], place: &[usize; Node::PLACES], base: usize, a: &mut Matrix)
     requires wires { Wires legs.now × Free free.now × Placed free.now place.now (length free.now) }
     requires free_bound { (base + length free.now ≤ Limits.node_end) × Square a.old }
     ensures { Block (legs_in legs.now) free.now base a.old a.new }
 {
     let n = free.len();
     clear(a, base, n);
-    let mut j = 0;
-    while j < legs.len() {
-        let l = step_legs::leg_at(legs, j);
-        let near = l.near;
-        let far = l.far;
-        join(a, base, n, place[near], place[far], l.g as f64);
-        j += 1;
+    for l in legs {
+        join(a, base, n, place[l.near], place[l.far], l.g as f64);
     }
 }
 
 // Lines base .. base + n of the table become the factors of the matrix of these legs; what they held does not matter.
-pub fn prepare(legs: &[Line], free: &[usize], base: usize, a: &mut Matrix)
+pub fn prepare(legs: &[Wire], free: &[usize], base: usize, a: &mut Matrix)
     requires { Wires legs.now × Free free.now × (base + length free.now ≤ Limits.node_end) × Square a.old }
     ensures serves { Serves base (length free.now) (matrix_of (map bare (legs_in legs.now)) free.now) a.new }
     ensures renewed { Renewed base (length free.now) a.old a.new }

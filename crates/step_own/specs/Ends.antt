@@ -29,13 +29,13 @@ h_at N k recs froms tos e =
     cond (is_line (row_of_end N e)) (sent_to N k (e / 2) (row_of_end N e) (far_store (side_of_end e) froms tos))
     (facing (side_of_end e) (word recs (Records.history_at (e / 2))))
 
--- the end's leg, as the paper has it and as the code has it
+-- the end's leg, as the paper has it and as the code has it before the step finds what it carries
 abbrev pub leg_of_end : Net → ℕ → Words → Words → Words → ℕ → Leg
 leg_of_end N k recs froms tos e = leg (near_of N e) (far_of N e) (g_at N k recs e) (h_at N k recs froms tos e)
 
 abbrev pub wire_of : Net → ℕ → Words → Words → Words → ℕ → Wire
 wire_of N k recs froms tos e =
-    record { near = near_of N e; far = far_of N e; row = e / 2; end = side_of_end e; kind = kind (row_of_end N e); g = pos (g_at N k recs e); h = h_at N k recs froms tos e }
+    record { near = near_of N e; far = far_of N e; row = e / 2; end = side_of_end e; kind = kind (row_of_end N e); g = pos (g_at N k recs e); h = h_at N k recs froms tos e; current = z; passed = z }
 
 -- its leg without a history
 abbrev pub bare_of_end : Net → ℕ → Words → ℕ → Leg

@@ -1,8 +1,8 @@
--- The lines of an area's own ends: with the conductances of a step, and with its histories too. They are the legs of those ends, and sums over them fit a
+-- The wires of an area's own ends: with the conductances of a step, and with its histories too. They are the legs of those ends, and sums over them fit a
 -- word. Assumes nothing.
 use Rattle.std.specs.Prelude.{◌+◌, ◌*◌, ◌/◌, ◌%◌, ◌≤◌, ◌<◌, ◌≡◌, ◌∷◌}
 use Rattle.whole.specs.Plain.{ℕ, zero, suc, refl, sym, ap, ◌∙◌, Bool, true, false}
-use Rattle.whole.specs.Plain.{cond, List, [], map, map-map, eqb, pos, length, get_or, take, length-map, ext_get_or}
+use Rattle.whole.specs.Plain.{cond, List, [], map, map-map, eqb, pos, length, take, length-map, ext_get_or}
 use Rattle.whole.specs.Plain.{eqb-true, le_trans, arith, Words, z, word, nat, numbers, keep, count}
 use Rattle.std.proofs.Math.Numerals.{add-one}
 use Rattle.whole.specs.Folds.{get_d_map, count_append, count_map, count_next, keep_append, numbers_more}
@@ -18,35 +18,34 @@ use Rattle.paper.specs.Solve.{leaves}
 use Rattle.laws_facts.specs.Nets.{NetSound, row_at, conducts_same}
 use Rattle.plan_ends.specs.Own.{row_of_end, own_end, own_ends, end_at, near_of, FrameOf, Framed}
 use Rattle.step_legs.specs.declared.Wire.{Wire}
-use Rattle.step_legs.specs.Wires.{leg_from, wire_in, wire_at, wires_in, legs_in, Wired, Wires, Sized}
+use Rattle.step_legs.specs.Wires.{leg_of, no_wire, settled, unfound, wire_at, wires_in, legs_in, Wired, Wires, Sized}
 use Rattle.step_legs.specs.Written.{SameBut}
 use Rattle.step_own.specs.Ends.{g_at, h_at, leg_of_end, wire_of, bare_of_end, Kept}
 use Rattle.step_own.specs.EndSizes as Sizes
 
 -- with the conductances that the switches have at step k, by the latches in the records
-pub record Conducting (N : Net) (a k : ℕ) (recs : Words) (legs : List Words) : Type 0 where
+pub record Conducting (N : Net) (a k : ℕ) (recs : Words) (legs : List Wire) : Type 0 where
   pub framed : Framed N a legs
-  pub g : (j : ℕ) → j < length legs → word (get_or legs j []) 5 ≡ pos (g_at N k recs (end_at N a j))
+  pub g : (j : ℕ) → j < length legs → (wire_at legs j).g ≡ pos (g_at N k recs (end_at N a j))
 
-pub record Laid (N : Net) (a k : ℕ) (recs froms tos : Words) (legs : List Words) : Type 0 where
+pub record Laid (N : Net) (a k : ℕ) (recs froms tos : Words) (legs : List Wire) : Type 0 where
   pub conducting : Conducting N a k recs legs
-  pub h : (j : ℕ) → j < length legs → word (get_or legs j []) 6 ≡ h_at N k recs froms tos (end_at N a j)
+  pub h : (j : ℕ) → j < length legs → (wire_at legs j).h ≡ h_at N k recs froms tos (end_at N a j)
 
--- a line that keeps its first five words keeps its frame
-pub frame_kept : {N : Net} {e : ℕ} {l m : Words} → length m ≡ length l → ((i : ℕ) → i < 5 → word m i ≡ word l i) → FrameOf N e l → FrameOf N e m
-frame_kept n w f = record {
-  long = n ∙ f.long;
-  near = w 0 (omega arith) ∙ f.near;
-  far = w 1 (omega arith) ∙ f.far;
-  row = w 2 (omega arith) ∙ f.row;
-  end = w 3 (omega arith) ∙ f.end;
-  kind = w 4 (omega arith) ∙ f.kind;
+-- a wire that keeps what the network and the switches settle keeps its frame
+pub frame_kept : {N : Net} {e : ℕ} {v w : Wire} → settled w ≡ settled v → FrameOf N e v → FrameOf N e w
+frame_kept e f = record {
+  near = ap (λ (x : Wire). x.near) e ∙ f.near;
+  far = ap (λ (x : Wire). x.far) e ∙ f.far;
+  row = ap (λ (x : Wire). x.row) e ∙ f.row;
+  end = ap (λ (x : Wire). x.end) e ∙ f.end;
+  kind = ap (λ (x : Wire). x.kind) e ∙ f.kind;
 }
 
-pub conducting_same : {N : Net} {a k : ℕ} {recs : Words} {before after : List Words} → SameBut before after → Conducting N a k recs before → Conducting N a k recs after
+pub conducting_same : {N : Net} {a k : ℕ} {recs : Words} {before after : List Wire} → SameBut before after → Conducting N a k recs before → Conducting N a k recs after
 conducting_same s c = record {
-  framed = record { long = s.long ∙ c.framed.long; line = λ j h. let l : j < _ = rw s.long at h in frame_kept (s.nine j l) (λ i q. s.word j i l (omega arith)) (c.framed.line j l) };
-  g = λ j h. let l : j < _ = rw s.long at h in s.word j 5 l (omega arith) ∙ c.g j l;
+  framed = record { long = s.long ∙ c.framed.long; line = λ j h. let l : j < _ = rw s.long at h in frame_kept (s.same j l) (c.framed.line j l) };
+  g = λ j h. let l : j < _ = rw s.long at h in ap (λ (x : Wire). x.g) (s.same j l) ∙ c.g j l;
 }
 
 -- an own end, by its place
@@ -60,7 +59,7 @@ end_own N a j h =
 pub record SameLatches (N : Net) (a : ℕ) (recs recs' : Words) : Type 0 where
   pub latch : (i : ℕ) → i < length N.rows → is_breaker (row_at N i) ≡ true → row_area N (row_at N i) ≡ a → word recs (latch_at i) ≡ word recs' (latch_at i)
 
-pub conducting_latched : {N : Net} {a k : ℕ} {recs recs' : Words} {legs : List Words} → NetSound N → 1 ≤ a → SameLatches N a recs recs' → Conducting N a k recs legs → Conducting N a k recs' legs
+pub conducting_latched : {N : Net} {a k : ℕ} {recs recs' : Words} {legs : List Wire} → NetSound N → 1 ≤ a → SameLatches N a recs recs' → Conducting N a k recs legs → Conducting N a k recs' legs
 conducting_latched {N} {a} {k} {recs} {recs'} s one same c = record {
   framed = c.framed;
   g = λ j h.
@@ -69,35 +68,35 @@ conducting_latched {N} {a} {k} {recs} {recs'} s one same c = record {
       c.g j h ∙ ap pos (conducts_same N recs recs' k (e / 2) (λ b. same.latch (e / 2) (omega (arith, o.0)) b (Sizes.own_breaker N s a one e o.0 o.1 b)));
 }
 
--- ---- line by line
-lines_are : {N : Net} {a : ℕ} {legs : List Words} {B : Type 0} → Framed N a legs → (f : Words → B) (g : ℕ → B) (d : B) → ((j : ℕ) → j < length legs → f (get_or legs j []) ≡ g (end_at N a j))
+-- ---- wire by wire
+lines_are : {N : Net} {a : ℕ} {legs : List Wire} {B : Type 0} → Framed N a legs → (f : Wire → B) (g : ℕ → B) (d : B) → ((j : ℕ) → j < length legs → f (wire_at legs j) ≡ g (end_at N a j))
     → map f legs ≡ map g (own_ends N a)
 lines_are {N} {a} {legs} r f g d e =
     ext_get_or d (map f legs) (map g (own_ends N a)) (length-map legs f ∙ r.long ∙ sym (length-map (own_ends N a) g))
     (λ j h.
     let i : j < length legs = rw (length-map legs f) at h in
-    get_d_map f legs j [] d i ∙ e j i ∙ sym (get_d_map g (own_ends N a) j 0 d (omega (arith, r.long))))
+    get_d_map f legs j no_wire d i ∙ e j i ∙ sym (get_d_map g (own_ends N a) j 0 d (omega (arith, r.long))))
 
-module _ {N : Net} {a k : ℕ} {recs froms tos : Words} {legs : List Words} (l : Laid N a k recs froms tos legs) where
-  pub wire_at_lem : (j : ℕ) → j < length legs → wire_at legs j ≡ wire_of N k recs froms tos (end_at N a j)
+module _ {N : Net} {a k : ℕ} {recs froms tos : Words} {legs : List Wire} (l : Laid N a k recs froms tos legs) where
+  pub wire_at_lem : (j : ℕ) → j < length legs → unfound (wire_at legs j) ≡ wire_of N k recs froms tos (end_at N a j)
   wire_at_lem j h =
       let f = l.conducting.framed.line j h in
       rw (f.near, f.far, f.row, f.end, f.kind, l.conducting.g j h, l.h j h)
 
   pub wires_are : wires_in legs ≡ map (wire_of N k recs froms tos) (own_ends N a)
   unfolding wires_in
-  wires_are = lines_are l.conducting.framed wire_in (wire_of N k recs froms tos) (wire_in []) wire_at_lem
+  wires_are = lines_are l.conducting.framed unfound (wire_of N k recs froms tos) no_wire wire_at_lem
 
   pub legs_are : legs_in legs ≡ map (leg_of_end N k recs froms tos) (own_ends N a)
   unfolding legs_in
-  legs_are = lines_are l.conducting.framed leg_from (leg_of_end N k recs froms tos) idle (λ j h. ap (λ (w : Wire). leg w.near w.far (nat w.g) w.h) (wire_at_lem j h))
+  legs_are = lines_are l.conducting.framed leg_of (leg_of_end N k recs froms tos) idle (λ j h. ap leg_of (wire_at_lem j h))
 
 -- without their histories
-pub bares_are : {N : Net} {a k : ℕ} {recs : Words} {legs : List Words} → Conducting N a k recs legs → map (λ x. leg x.near x.far x.g z) (legs_in legs) ≡ map (bare_of_end N k recs) (own_ends N a)
+pub bares_are : {N : Net} {a k : ℕ} {recs : Words} {legs : List Wire} → Conducting N a k recs legs → map (λ x. leg x.near x.far x.g z) (legs_in legs) ≡ map (bare_of_end N k recs) (own_ends N a)
 unfolding legs_in
 bares_are {N} {a} {k} {recs} {legs} c =
-    map-map (λ (x : Leg). leg x.near x.far x.g z) leg_from legs
-    ∙ lines_are c.framed (λ l. leg (leg_from l).near (leg_from l).far (leg_from l).g z) (bare_of_end N k recs) idle (λ j h. let f = c.framed.line j h in rw (f.near, f.far, c.g j h))
+    map-map (λ (x : Leg). leg x.near x.far x.g z) leg_of legs
+    ∙ lines_are c.framed (λ w. leg w.near w.far (nat w.g) z) (bare_of_end N k recs) idle (λ j h. let f = c.framed.line j h in rw (f.near, f.far, c.g j h))
 
 -- ---- at most one of a row's two ends leaves a node
 small : (b : Bool) → cond b 1 0 ≤ 1
@@ -161,25 +160,17 @@ module _ (N : Net) (s : NetSound N) (a : ℕ) (one : 1 ≤ a) (p : ℕ) where
       let e : 2 * suc i ≡ 2 * i + 1 + 1 = omega arith in
       rw e (omega (arith, some_more (2 * i + 1), some_more (2 * i), some_few i (omega arith), row_ends i (omega arith), rw add-one at (count_next is_branch N.rows i [] (omega arith))))
 
-  pub few : {k : ℕ} {recs : Words} {legs : List Words} → Conducting N a k recs legs → count (leaves p) (legs_in legs) ≤ Limits.branch_end
+  pub few : {k : ℕ} {recs : Words} {legs : List Wire} → Conducting N a k recs legs → count (leaves p) (legs_in legs) ≤ Limits.branch_end
   unfolding leaves own_ends
   few {k} {recs} {legs} c =
       let e = sym (count_map (leaves p) (λ x. leg x.near x.far x.g z) (legs_in legs)) ∙ ap (count (leaves p)) (bares_are c) ∙ count_map (leaves p) (bare_of_end N k recs) (own_ends N a) in
       rw e (omega (arith, some_few (length N.rows) (omega arith), count_take is_branch N.rows (length N.rows), s.branch_most))
 
 -- ---- what makes sums over them fit
-module _ {N : Net} {a k : ℕ} {legs : List Words} (s : NetSound N) (one : 1 ≤ a) where
+module _ {N : Net} {a k : ℕ} {legs : List Wire} (s : NetSound N) (one : 1 ≤ a) where
   pub conducting_wires : {recs : Words} → Conducting N a k recs legs → Wires legs
-  conducting_wires {recs} c = record { number = number; wired = wired; few = λ p. few N s a one p c }
+  conducting_wires {recs} c = record { wired = wired; few = λ p. few N s a one p c }
     where
-      number : (j i : ℕ) → j < length legs → i < 5 → word (get_or legs j []) i ≡ pos (nat (word (get_or legs j []) i))
-      number j zero h b = let q = (c.framed.line j h).near in rw q
-      number j (suc zero) h b = let q = (c.framed.line j h).far in rw q
-      number j (suc (suc zero)) h b = let q = (c.framed.line j h).row in rw q
-      number j (suc (suc (suc zero))) h b = let q = (c.framed.line j h).end in rw q
-      number j (suc (suc (suc (suc zero)))) h b = let q = (c.framed.line j h).kind in rw q
-      number j (suc (suc (suc (suc (suc i))))) h b = absurd (omega arith)
-
       wired : (j : ℕ) → j < length legs → Wired (wire_at legs j)
       wired j h =
           let f = c.framed.line j h in

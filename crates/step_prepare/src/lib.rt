@@ -8,28 +8,37 @@ ghost use Rattle.paper.specs.Limits as Limits;
 ghost use Rattle.paper.specs.Areas.{Net};
 ghost use Rattle.step_factors.specs.Factors.{Square};
 ghost use Rattle.step_factors.specs.Blocks.{Renewed};
-ghost use Rattle.step_prepare.specs.Serving.{Standing, Known, Prepares};
+ghost use Rattle.step_prepare.specs.Serving.{refused_of, Standing, Known, Prepares};
 
+use paper::Refusal;
 use plan_rows::Table;
 use step_factors::Matrix;
-use step_legs::Line;
+use step_legs::Wire;
 
-// The lowest floating node, or 0 and the step before which what was prepared serves.
+// the lowest node of an area that floats: 14
 #[derive(Clone, Copy)]
-pub struct Prepared {
+pub struct Floating {
     pub node: usize,
-    pub until: usize,
 }
 
+impl From<Floating> for Refusal {
+    ghost from_gives = { λ floating refusal. refusal ≡ refused_of floating };
+
+    fn from(floating: Floating) -> Refusal {
+        Refusal::Floating(floating.node as u64)
+    }
+}
+
+// The step before which what is prepared serves.
 pub fn prepare(
     plan: &Table,
-    legs: &mut [Line],
+    legs: &mut [Wire],
     free: &[usize],
     base: usize,
     a: &mut Matrix,
     records: &[i64],
     k: usize,
-) -> Prepared
+) -> Result<usize, Floating>
     requires known { Known plan.now legs.old free.now base × Square a.old × (k ≤ Limits.steps_end) }
     requires records_len { length records.now ≡ Limits.record_words }
     ensures prepares { (N : Net) (n : ℕ) → Standing N n plan.now legs.old free.now base
@@ -37,16 +46,9 @@ pub fn prepare(
     ensures renewed { Renewed base (length free.now) a.old a.new }
 {
     let until = step_conduct::conduct(plan, legs, records, k);
-    let node = step_floating::floating(legs, free);
-    if node != 0 {
-        return Prepared {
-            node: node,
-            until: 0,
-        };
+    if let Some(node) = step_floating::floating(legs, free) {
+        return Err(Floating { node });
     }
     step_matrix::prepare(legs, free, base, a);
-    Prepared {
-        node: 0,
-        until: until,
-    }
+    Ok(until)
 }

@@ -9,8 +9,8 @@ use Rattle.paper.specs.Faults.{slots, delay, rest}
 use Rattle.paper.specs.Areas.{Net, step}
 use Rattle.paper.specs.Records.{offset}
 use Rattle.paper.specs.Legs.{sent_to, received, sent_at}
-use Rattle.step_received.specs.declared.Side.{Side}
-use Rattle.step_received.specs.declared.Side.TheVariants.{From, To}
+use Rattle.paper.specs.declared.Side.{Side}
+use Rattle.paper.specs.declared.Side.TheVariants.{From, To}
 
 -- the from end hears the to-end store, and the to end the from-end store
 abbrev pub far_store : Side → Words → Words → Words

@@ -6,13 +6,9 @@ ghost use Rattle.std.specs.Prelude.{◌+◌, ◌≤◌, ◌<◌, ◌≡◌};
 ghost use Rattle.whole.specs.Plain.{length};
 ghost use Rattle.step_received.specs.Received.{far_store, far_part, heard_from};
 
-// the end that reads
-#[derive(Clone, Copy)]
-pub enum Side {
-    From,
-    To,
-}
+use paper::Side;
 
+// The far end's part, by the end that reads.
 fn far<'a>(froms: &'a [i64], tos: &'a [i64], side: Side, start: usize, end: usize) -> &'a [i64]
     requires { (start ≤ end) × ((end ≤ length froms.now) × (end ≤ length tos.now)) }
     ensures { result.now ≡ far_part side froms.now tos.now start end }

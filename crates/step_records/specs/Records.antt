@@ -2,20 +2,21 @@
 use Rattle.std.specs.Prelude.{◌+◌, ◌-◌, ◌≤◌, ◌<◌, ◌≡◌, ◌⊎◌, ◌&&◌, ◌||◌, ◌∷◌}
 use Rattle.whole.specs.Plain.{ℕ, suc, refl, sym, ◌∙◌, true≢false, inr, ⊎_elim, Bool, true, false, cond, List, [], eqb, ℤ, pos, nat_abs}
 use Rattle.whole.specs.Plain.{length, get_or, set, get_or-set_other, ne_eqb, ℕ_discrete, arith, Words, z, word, fold}
+use Rattle.plan_rows.specs.Planned.{Plan}
 use Rattle.paper.specs.Limits as Limits
 use Rattle.paper.specs.Records.{counts, voltages, outdone, histories, peaks, peak_steps, latches, current_at, to_current_at, history_at, latch_at}
 use Rattle.paper.specs.Advance.{put_if}
 use Rattle.step_legs.specs.declared.Wire.{Wire}
-use Rattle.step_legs.specs.Wires.{wire_in, current_in, passed_in, Wires}
+use Rattle.step_legs.specs.Wires.{Wires}
 use Rattle.step_legs.specs.Shares.{Volts}
 use Rattle.step_latch.specs.Parting.{leg_parts, latch_put}
 
 -- a leg's part of its row's words, by its current and what it passes on: at the from end the latch of an SW that parts, the current, and the history of
 -- an L or a C; a line's current at its to end
-unfoldable pub leg_put : List (List ℕ) → ℕ → Wire → ℤ → ℤ → Words → Words
-leg_put plan k w i p r =
-    cond (eqb w.end 1) (put_if (eqb w.kind 2 || eqb w.kind 3) (set (latch_put plan k w i r) (current_at w.row) i) (history_at w.row) p)
-    (put_if (eqb w.kind 4) r (to_current_at w.row) i)
+unfoldable pub leg_put : Plan → ℕ → Wire → Words → Words
+leg_put plan k w r =
+    cond (eqb w.end 1) (put_if (eqb w.kind 2 || eqb w.kind 3) (set (latch_put plan k w r) (current_at w.row) w.current) (history_at w.row) w.passed)
+    (put_if (eqb w.kind 4) r (to_current_at w.row) w.current)
 
 -- the voltage x of node n, from 1; and its peak with the peak's step, at step 1 and where its magnitude is greater
 unfoldable pub node_put : ℕ → ℕ → ℤ → Words → Words
@@ -33,20 +34,20 @@ unfoldable pub area_put : ℕ → Words → List ℕ → ℕ → Words → Words
 area_put k v nodes a r = nodes_put k v nodes (set r (counts.start + (a - 1)) (pos k))
 
 -- the legs' parts, one after the other
-abbrev pub line_put : List (List ℕ) → ℕ → Words → Words → Words
-line_put plan k r l = leg_put plan k (wire_in l) (current_in l) (passed_in l) r
+abbrev pub leg_turn : Plan → ℕ → Words → Wire → Words
+leg_turn plan k r w = leg_put plan k w r
 
-unfoldable pub lines_put : List (List ℕ) → ℕ → List Words → Words → Words
-lines_put plan k legs r = fold (line_put plan k) r legs
+unfoldable pub legs_put : Plan → ℕ → List Wire → Words → Words
+legs_put plan k legs r = fold (leg_turn plan k) r legs
 
-abbrev pub records_put : List (List ℕ) → List Words → List ℕ → Words → ℕ → ℕ → Words → Words
-records_put plan legs nodes v a k r = lines_put plan k legs (area_put k v nodes a r)
+abbrev pub records_put : Plan → List Wire → List ℕ → Words → ℕ → ℕ → Words → Words
+records_put plan legs nodes v a k r = legs_put plan k legs (area_put k v nodes a r)
 
 pub record Nodes (nodes : List ℕ) : Type 0 where
   pub end : (i : ℕ) → i < length nodes → get_or nodes i 0 ≤ Limits.node_end
 
 -- the legs, nodes and voltages of a step, and records to be written
-pub record Recordable (legs : List Words) (nodes : List ℕ) (v records : Words) (area k : ℕ) : Type 0 where
+pub record Recordable (legs : List Wire) (nodes : List ℕ) (v records : Words) (area k : ℕ) : Type 0 where
   pub wires : Wires legs
   pub nodes_end : Nodes nodes
   pub volts : Volts v
@@ -56,9 +57,9 @@ pub record Recordable (legs : List Words) (nodes : List ℕ) (v records : Words)
   pub step_most : k ≤ Limits.steps_end
 
 -- an L or a C is no breaker
-pub held_unparted : (plan : List (List ℕ)) (k : ℕ) (w : Wire) (i : ℤ) (r : Words) → (eqb w.kind 2 || eqb w.kind 3) ≡ true → leg_parts plan k w i r ≡ false
+pub held_unparted : (plan : Plan) (k : ℕ) (w : Wire) (r : Words) → (eqb w.kind 2 || eqb w.kind 3) ≡ true → leg_parts plan k w r ≡ false
 unfolding leg_parts
-held_unparted plan k w i r h = rw (no_breaker w.kind h)
+held_unparted plan k w r h = rw (no_breaker w.kind h)
   where
     no_breaker : (n : ℕ) → (eqb n 2 || eqb n 3) ≡ true → eqb n 5 ≡ false
     no_breaker n e = elim (ℕ_discrete n 5) [ yes q ↦ absurd (true≢false (sym (rw q at e))) | no q ↦ ne_eqb n 5 q ]
@@ -73,14 +74,17 @@ put_else true r i j x h = get_or-set_other r i j x z h
 put_else false r i j x h = refl
 
 -- a leg's turn
-pub leg_latches : (plan : List (List ℕ)) (k : ℕ) (w : Wire) (i p : ℤ) (r : Words) → w.row < Limits.row_end → (eqb w.end 1 && leg_parts plan k w i r) ≡ false
-    → (j : ℕ) → word (leg_put plan k w i p r) (latch_at j) ≡ word r (latch_at j)
+pub leg_latches : (plan : Plan) (k : ℕ) (w : Wire) (r : Words) → w.row < Limits.row_end → (eqb w.end 1 && leg_parts plan k w r) ≡ false
+    → (j : ℕ) → word (leg_put plan k w r) (latch_at j) ≡ word r (latch_at j)
 unfolding leg_put latch_put put_if
-leg_latches plan k w i p r h e j = go (eqb w.end 1) e
+leg_latches plan k w r h e j = go (eqb w.end 1) e
   where
-    go : (b : Bool) → (b && leg_parts plan k w i r) ≡ false
-        → word (cond b (put_if (eqb w.kind 2 || eqb w.kind 3) (set (put_if (leg_parts plan k w i r) r (latch_at w.row) (pos k)) (current_at w.row) i) (history_at w.row) p) (put_if (eqb w.kind 4) r (to_current_at w.row) i)) (latch_at j) ≡ word r (latch_at j)
-    go true q = put_else (eqb w.kind 2 || eqb w.kind 3) _ (history_at w.row) (latch_at j) p (λ d. omega arith) ∙ get_or-set_other (put_if (leg_parts plan k w i r) r (latch_at w.row) (pos k)) (current_at w.row) (latch_at j) i z (λ d. omega arith) ∙ rw q
+    i : ℤ
+    i = w.current
+
+    go : (b : Bool) → (b && leg_parts plan k w r) ≡ false
+        → word (cond b (put_if (eqb w.kind 2 || eqb w.kind 3) (set (put_if (leg_parts plan k w r) r (latch_at w.row) (pos k)) (current_at w.row) i) (history_at w.row) w.passed) (put_if (eqb w.kind 4) r (to_current_at w.row) i)) (latch_at j) ≡ word r (latch_at j)
+    go true q = put_else (eqb w.kind 2 || eqb w.kind 3) _ (history_at w.row) (latch_at j) w.passed (λ d. omega arith) ∙ get_or-set_other (put_if (leg_parts plan k w r) r (latch_at w.row) (pos k)) (current_at w.row) (latch_at j) i z (λ d. omega arith) ∙ rw q
     go false q = put_else (eqb w.kind 4) r (to_current_at w.row) (latch_at j) i (λ d. omega arith)
 
 -- the nodes' turns leave the currents and the latches

@@ -9,17 +9,9 @@ ghost use Rattle.step_legs.specs.Shares.{Volts};
 ghost use Rattle.step_latch.specs.Parting.{leg_parts};
 ghost use Rattle.step_records.specs.Records.{node_put, nodes_put, area_put, leg_put, Nodes};
 
-use paper::{Node, kinds, sections};
+use paper::{Node, Side, kinds, sections};
 use plan_rows::Table;
 use step_legs::Wire;
-
-// A voltage's magnitude.
-fn size(x: i64) -> i64
-    requires { nat_abs x ≤ Limits.voltage_end }
-    ensures { result ≡ pos (nat_abs x) }
-{
-    if x < 0 { -x } else { x }
-}
 
 // A node's voltage; and its peak and the peak's step, at step 1 and where the magnitude is greater than any before.
 fn put_node(n: usize, x: i64, records: &mut [i64], k: usize)
@@ -28,7 +20,7 @@ fn put_node(n: usize, x: i64, records: &mut [i64], k: usize)
     ensures { records.new ≡ node_put k n x records.old }
 {
     records[sections::VOLTS + n - 1] = x;
-    let reached = size(x);
+    let reached = x.abs();
     let peak = records[sections::PEAKS + n - 1];
     if (k == 1) | (peak < reached) {
         records[sections::PEAKS + n - 1] = reached;
@@ -42,11 +34,8 @@ fn put_nodes(nodes: &[usize], v: &[i64; Node::PLACES], records: &mut [i64], k: u
     requires records_len { length records.old ≡ Limits.record_words }
     ensures { records.new ≡ nodes_put k v.now nodes.now records.old }
 {
-    let mut i = 0;
-    while i < nodes.len() {
-        let n = nodes[i];
+    for &n in nodes {
         put_node(n, v[n], records, k);
-        i += 1;
     }
 }
 
@@ -68,32 +57,27 @@ pub fn put_area(
 
 // A leg's part of its row's words: at the from end the current, the history of an L or a C, and the latch of an SW that parts; a line's current at its to
 // end. Whether a breaker parted. An L or a C is asked for first: none of them is a breaker.
-pub fn put_leg(
-    plan: &Table,
-    l: Wire,
-    current: i64,
-    passed: i64,
-    records: &mut [i64],
-    k: usize,
-) -> bool
+pub fn put_leg(plan: &Table, l: Wire, records: &mut [i64], k: usize) -> bool
     requires { (l.row < Limits.row_end) × (length records.old ≡ Limits.record_words) × (k ≤ Limits.steps_end) }
-    ensures records_value { records.new ≡ leg_put plan.now k l current passed records.old }
-    ensures value { result ≡ (eqb l.end 1 && leg_parts plan.now k l current records.old) }
+    ensures records_value { records.new ≡ leg_put plan.now k l records.old }
+    ensures value { result ≡ (eqb l.end 1 && leg_parts plan.now k l records.old) }
 {
     let row = l.row;
-    if l.end != 1 {
-        if l.kind != kinds::LINE {
-            return false;
+    match (l.side(), l.kind) {
+        (Side::From, kinds::L | kinds::C) => {
+            records[sections::CURRENTS + row] = l.current;
+            records[sections::HISTORIES + row] = l.passed;
+            false
         }
-        records[sections::TO_CURRENTS + row] = current;
-        return false;
+        (Side::From, _) => {
+            let parted = step_latch::part(plan, l, records, k);
+            records[sections::CURRENTS + row] = l.current;
+            parted
+        }
+        (Side::To, kinds::LINE) => {
+            records[sections::TO_CURRENTS + row] = l.current;
+            false
+        }
+        (Side::To, _) => false,
     }
-    if (l.kind == kinds::L) | (l.kind == kinds::C) {
-        records[sections::CURRENTS + row] = current;
-        records[sections::HISTORIES + row] = passed;
-        return false;
-    }
-    let parted = step_latch::part(plan, l, current, records, k);
-    records[sections::CURRENTS + row] = current;
-    parted
 }

@@ -6,7 +6,7 @@ ghost use Rattle.whole.specs.Plain.{length, set};
 ghost use Rattle.paper.specs.Limits as Limits;
 ghost use Rattle.step_send.specs.Stores.{is_from_end, is_to_end, sent_put, Slotted};
 
-use paper::kinds;
+use paper::{Side, kinds};
 use plan_rows::Table;
 use step_legs::Wire;
 
@@ -19,7 +19,7 @@ fn put_slot(ring: &mut [i64], k: usize, x: i64)
     ring[at] = x;
 }
 
-// The line's words, which start in mid-store, are lent on to be written.
+// "the line's 2d words, starting in mid-store, lent on to be written": so the slot is put by a function of its own.
 fn put_sent(store: &mut [i64], start: usize, slots: usize, k: usize, x: i64)
     requires { (start + slots ≤ length store.old) × (0 < slots) }
     ensures { store.new ≡ set store.old (start + k % slots) x }
@@ -29,18 +29,17 @@ fn put_sent(store: &mut [i64], start: usize, slots: usize, k: usize, x: i64)
 }
 
 // What a leg passes on, where it is a line's end, into that end's store.
-pub fn send_leg(plan: &Table, l: Wire, x: i64, froms: &mut [i64], tos: &mut [i64], k: usize)
+pub fn send_leg(plan: &Table, l: Wire, froms: &mut [i64], tos: &mut [i64], k: usize)
     requires slotted { Slotted plan.now l }
     requires froms_len { (length froms.old ≡ Limits.store_words) × (length tos.old ≡ Limits.store_words) }
-    ensures froms_value { froms.new ≡ sent_put plan.now k is_from_end l x froms.old }
-    ensures tos_value { tos.new ≡ sent_put plan.now k is_to_end l x tos.old }
+    ensures froms_value { froms.new ≡ sent_put plan.now k is_from_end l froms.old }
+    ensures tos_value { tos.new ≡ sent_put plan.now k is_to_end l tos.old }
 {
     if l.kind == kinds::LINE {
-        let r = plan_rows::row_at(plan, l.row);
-        if l.end == 1 {
-            put_sent(froms, r.place, r.slots, k, x);
-        } else {
-            put_sent(tos, r.place, r.slots, k, x);
+        let r = plan[l.row];
+        match l.side() {
+            Side::From => put_sent(froms, r.place, r.slots, k, l.passed),
+            Side::To => put_sent(tos, r.place, r.slots, k, l.passed),
         }
     }
 }

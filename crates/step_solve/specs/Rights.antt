@@ -10,6 +10,7 @@ use Rattle.paper.specs.Doubles.{double}
 use Rattle.paper.specs.Elimination.{cell}
 use Rattle.paper.specs.Solve.{right_side}
 use Rattle.step_factors.specs.Factored.{row_forward, forward, row_back, back, substituted}
+use Rattle.step_legs.specs.declared.Wire.{Wire}
 use Rattle.step_legs.specs.Wires.{legs_in, Sized}
 use Rattle.step_legs.specs.Leaving.{leaving, legs_length}
 use Rattle.step_legs.specs.Shares.{Volts, drawn, drawn_sum, right_is}
@@ -30,7 +31,7 @@ rights_more {n} {free} {inject} {drawn} {b} h r = record { long = length-set b n
     by i l (no e) = get_or-set_other b n i _ nan e ∙ r.at i (omega arith)
 
 -- ---- of the legs' sums
-module _ {legs : List Words} {still inject d : Words} (s : Sized legs) (u : Volts still) (q : InjectsWithin inject) (a : Sums none (drawn still) (legs_in legs) d) where
+module _ {legs : List Wire} {still inject d : Words} (s : Sized legs) (u : Volts still) (q : InjectsWithin inject) (a : Sums none (drawn still) (legs_in legs) d) where
   pub near : Near (suc Limits.node_end) inject d
   near = record {
     long = omega (arith, q.long);

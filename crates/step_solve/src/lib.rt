@@ -5,8 +5,7 @@
 ghost use Rattle.std.specs.Prelude.{◌+◌, ◌≤◌, ◌<◌, ◌≡◌};
 ghost use Rattle.whole.specs.Plain.{suc, map, length, word};
 ghost use Rattle.paper.specs.Limits as Limits;
-ghost use Rattle.paper.specs.Doubles.{in_range, nearest_of};
-ghost use Rattle.paper.specs.Solve.{settle, proposed};
+ghost use Rattle.paper.specs.Solve.{proposed};
 ghost use Rattle.step_legs.specs.Wires.{legs_in, Sized};
 ghost use Rattle.step_legs.specs.Shares.{Volts, drawn};
 ghost use Rattle.step_legs.specs.Sums.{Sums, none, Near};
@@ -15,25 +14,34 @@ ghost use Rattle.step_factors.specs.Factors.{Serves};
 ghost use Rattle.step_factors.specs.Positions.{bare};
 ghost use Rattle.step_factors.specs.Proposed.{matrix_of};
 ghost use Rattle.step_solve.specs.Rights.{Rights};
-ghost use Rattle.step_solve.specs.Settling.{Solved, rounded};
+ghost use Rattle.step_solve.specs.Settling.{refusal_of, Solved, rounded};
 
-use num_quantity::CheckedVoltage;
-use paper::Node;
+use paper::{Node, Refusal};
 use step_factors::{ByFree, Matrix};
-use step_legs::Line;
+use step_legs::Wire;
+
+// the lowest node whose double is outside the range: 15
+#[derive(Clone, Copy)]
+pub struct OutOfRange {
+    pub node: usize,
+}
+
+impl From<OutOfRange> for Refusal {
+    ghost from_gives = { λ out refusal. refusal ≡ refusal_of out };
+
+    fn from(out: OutOfRange) -> Refusal {
+        Refusal::Range(out.node as u64)
+    }
+}
 
 // by node, what its legs would draw with the node at 0
-fn draws(legs: &[Line], still: &[i64; Node::PLACES]) -> [i64; Node::PLACES]
+fn draws(legs: &[Wire], still: &[i64; Node::PLACES]) -> [i64; Node::PLACES]
     requires { Sized legs.now × Volts still.now }
     ensures { Sums none (drawn still.now) (legs_in legs.now) result }
 {
     let mut sums = [0; Node::PLACES];
-    let mut j = 0;
-    while j < legs.len() {
-        let l = step_legs::leg_at(legs, j);
-        let x = step_legs::drawn(l, still);
-        step_legs::add(&mut sums, l.near, x);
-        j += 1;
+    for leg in legs {
+        sums[leg.near] += leg.drawn(still);
     }
     sums
 }
@@ -49,58 +57,32 @@ fn right_sides(
     requires b_long { length b.old ≡ Limits.node_end }
     ensures { Rights (length free.now) free.now inject.now drawn.now b.new }
 {
-    let mut i = 0;
-    while i < free.len() {
-        let p = free[i];
-        let side = num_double::to_double(inject[p] - drawn[p]);
-        b[i] = side;
-        i += 1;
+    for (i, &p) in free.iter().enumerate() {
+        b[i] = num_double::to_double(inject[p] - drawn[p]);
     }
 }
 
-// node p's voltage from its double, and whether it is within the range
-fn put(v: &mut [i64; Node::PLACES], p: usize, x: f64) -> bool
-    requires { p < Limits.node_end + 1 }
-    ensures value { result ≡ in_range x }
-    ensures v_value { v.new ≡ settle v.old p (nearest_of x) }
-{
-    let near = num_double::nearest(x);
-    match near {
-        CheckedVoltage::Good(good) => {
-            let y = good.tenths;
-            v[p] = y;
-            true
-        }
-        CheckedVoltage::Refused => false,
-    }
-}
-
-// "Each x within the voltage range goes to the nearest whole number .. one that isn't within it, not-a-number included, is RANGE."
-fn put_all(xs: &ByFree, free: &[usize], v: &mut [i64; Node::PLACES]) -> usize
+// "Each x within the voltage range goes to the nearest whole number .. one that isn't within it, not-a-number included, is RANGE.": the lowest such node.
+fn put_all(xs: &ByFree, free: &[usize], v: &mut [i64; Node::PLACES]) -> Result<(), OutOfRange>
     requires { Free free.now × (length free.now ≤ length xs.now) }
     ensures { Solved free.now (rounded (length free.now) xs.now) v.old v.new result }
 {
-    let mut i = 0;
-    while i < free.len() {
-        let p = free[i];
-        let ok = put(v, p, xs[i]);
-        if !ok {
-            return p;
-        }
-        i += 1;
+    for (i, &p) in free.iter().enumerate() {
+        let near = num_double::nearest(xs[i]).ok_or(OutOfRange { node: p })?;
+        v[p] = near.tenths;
     }
-    0
+    Ok(())
 }
 
-// v has the fixed nodes' voltages at entry, and all the area's where the answer is 0.
+// v has the fixed nodes' voltages at entry, and all the area's where none is refused.
 pub fn solve(
-    legs: &[Line],
+    legs: &[Wire],
     free: &[usize],
     inject: &[i64; Node::PLACES],
     a: &Matrix,
     base: usize,
     v: &mut [i64; Node::PLACES],
-) -> usize
+) -> Result<(), OutOfRange>
     requires sized { Sized legs.now × Volts v.old × InjectsWithin inject.now × Free free.now }
     requires free_bound { base + length free.now ≤ Limits.node_end }
     requires serves { Serves base (length free.now) (matrix_of (map bare (legs_in legs.now)) free.now) a.now }

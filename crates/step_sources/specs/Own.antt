@@ -1,27 +1,31 @@
 -- An area's own sources: their lines may be driven, and they give what the paper's sums over all rows have at the area's nodes. Assumes nothing.
 use Rattle.std.specs.Prelude.{◌-◌, ◌*◌, ◌≤◌, ◌<◌, ◌≡◌, ◌&&◌, ◌∷◌, ◌+ℤ◌, ◌*ℤ◌}
 use Rattle.whole.specs.Plain.{ℕ, zero, suc, refl, sym, ◌∙◌, ap, Bool, true, false, cond, [], List}
-use Rattle.whole.specs.Plain.{eqb, ltb, ℤ, pos, negsuc, neg_ℤ, nat_abs, lt_z, quot_z, +ℤ_idl, length, get_or, length-map, ext_get_or, eq-eqb, eqb-true, le_trans, mul-le-mul_left, mul-le-mul_right}
+use Rattle.whole.specs.Plain.{eqb, ltb, ℤ, pos, negsuc, neg_ℤ, nat_abs, lt_z, quot_z, +ℤ_idl, length, get_or, length-map, ext_get_or, eq-eqb, ne_eqb, eqb-true, le_trans, mul-le-mul_left, mul-le-mul_right}
 use Rattle.whole.specs.Plain.{arith, z, word, total, keep}
 use Rattle.whole.specs.Int.{abs_neg}
 use Rattle.whole.specs.Folds.{and_left, and_right, length_keep, get_d_map}
 use Rattle.whole.specs.Totals.{total_cong, total_map}
 use Rattle.whole.specs.Written.{count_imply, total_if}
 use Rattle.paper.specs.Limits as Limits
-use Rattle.paper.specs.Rows.{Row, kinds, kind, fixing_kind, is_fixing, is_iS, is_vC, is_source, at, peak, start, rise, frequency}
+use Rattle.paper.specs.Kinds.{number}
+use Rattle.paper.specs.Rows.{Row, kinds, kind, source_kind, fixing_kind, is_fixing, is_iS, is_vC, is_source, at, peak, start, rise, frequency}
 use Rattle.paper.specs.Classes.{fixing_source, injecting_source}
 use Rattle.paper.specs.Faults.{fixes}
 use Rattle.paper.specs.Areas.{Net, step, area_of}
 use Rattle.paper.specs.Sources.{risen, phase, swung, source, held, injected}
 use Rattle.paper.specs.Solve.{still_of}
 use Rattle.paper.proofs.Kept.{either}
-use Rattle.laws_facts.specs.Fields.{Within, wider}
+use Rattle.laws_facts.specs.Fields.{Within}
 use Rattle.laws_facts.specs.Sound.{StudySound, SourceSound}
 use Rattle.laws_facts.specs.Nets.{NetSound, row_at}
 use Rattle.laws_volts.proofs.Still.{area_node, still_at, still_length, still_end}
+use Rattle.step_legs.specs.declared.Source.{Source}
+use Rattle.plan_ends.specs.Kinds.{kind_at, class_at}
 use Rattle.plan_ends.specs.Own.{own_source, own_sources, pace_of, source_line, source_lines}
 use Rattle.step_legs.specs.Shares.{Volts}
-use Rattle.step_sources.specs.Table.{LineSound, Sources, ramp_of, swing_of, value_of, given}
+use Rattle.step_sources.specs.Table as Table
+use Rattle.step_sources.specs.Table.{no_source, LineSound, Sources, ramp_of, swing_of, value_of, given}
 use Rattle.step_sources.specs.Values.{over, since_is}
 use Rattle.step_sources.specs.Given.{share, given_at, given_length}
 
@@ -50,6 +54,22 @@ module _ {A : Type 0} (q : A → Bool) where
       by true e (suc j) k more = more j (omega arith)
       by false e j k more = more j k
 
+-- ---- the classes of a source's kind
+
+source_at : (n : ℕ) → source_kind (number (kind_at n)) ≡ source_kind n
+unfolding source_kind kinds
+source_at = class_at source_kind (λ n. refl)
+
+fixing_at : (n : ℕ) → fixing_kind (number (kind_at n)) ≡ fixing_kind n
+unfolding fixing_kind kinds
+fixing_at = class_at fixing_kind (λ n. refl)
+
+injects_at : (n : ℕ) → eqb (number (kind_at n)) 7 ≡ eqb n 7
+injects_at = class_at (λ n. eqb n 7) (λ n. ne_eqb (suc (suc (suc (suc (suc (suc (suc (suc (suc (suc n)))))))))) 7 (λ e. omega arith))
+
+swings_at : (n : ℕ) → eqb (number (kind_at n)) 8 ≡ eqb n 8
+swings_at = class_at (λ n. eqb n 8) (λ n. ne_eqb (suc (suc (suc (suc (suc (suc (suc (suc (suc (suc n)))))))))) 8 (λ e. omega arith))
+
 -- ---- the table's record
 
 module _ (N : Net) (h : StudySound N.head) (r : Row) (one : is_source r ≡ true) {nodes : ℕ} (m : nodes ≤ Limits.node_end) (s : SourceSound nodes r) where
@@ -77,15 +97,14 @@ module _ (N : Net) (h : StudySound N.head) (r : Row) (one : is_source r ≡ true
   unfolding source_line
   line_sound =
       record {
-        kind_is = refl;
-        kind_in = one;
-        at_in = rw s.at_in.is_nat at (wider {a = 1} {b = Limits.node_end} s.at_in (omega arith) m);
+        kind_in = source_at (kind r) ∙ one;
+        at_in = (s.at_in.least, le_trans s.at_in.most m);
         start_in = rw s.start_in.is_nat at s.start_in;
-        rise_in = pace_rise;
-        pace_is = pace_swing;
+        rise_in = λ e. pace_rise (sym (swings_at (kind r)) ∙ e);
+        pace_is = λ e. pace_swing (sym (swings_at (kind r)) ∙ e);
         pace_most = pace_most_lem;
         peak_most = s.peak_most;
-        volt_most = λ e. s.volt_most (fixing e);
+        volt_most = λ e. s.volt_most (fixing (sym (swings_at (kind r)) ∙ e));
       }
 
 pub own_sources_lem : (N : Net) → NetSound N → (a : ℕ) → Sources (source_lines N a)
@@ -107,14 +126,14 @@ own_sources_lem N s a =
     long : length (source_lines N a) ≡ length (own_sources N a)
     long = length-map (own_sources N a) (source_line N)
 
-    line : (j : ℕ) → j < length (source_lines N a) → get_or (source_lines N a) j [] ≡ source_line N (get_or (own_sources N a) j [])
-    line j h = get_d_map (source_line N) (own_sources N a) j [] [] (rw long at h)
+    line : (j : ℕ) → j < length (source_lines N a) → get_or (source_lines N a) j no_source ≡ source_line N (get_or (own_sources N a) j [])
+    line j h = get_d_map (source_line N) (own_sources N a) j [] no_source (rw long at h)
 
 -- ---- what they give
 
 line_value : (N : Net) (k : ℕ) (r : Row) → value_of k (source_line N r) ≡ source N k r
 unfolding value_of ramp_of swing_of risen source source_line pace_of
-line_value N k r = rw (since_is k (start r)) (by (is_vC r) (ltb k (start r)))
+line_value N k r = rw (swings_at (kind r), since_is k (start r)) (by (is_vC r) (ltb k (start r)))
   where
     n : ℕ
     n = k - start r
@@ -135,12 +154,12 @@ line_value N k r = rw (since_is k (start r)) (by (is_vC r) (ltb k (start r)))
     by false false = rw (over n)
 
 -- those that pass by their kind
-module _ (N : Net) (a k : ℕ) (p : Row → Bool) (lined : (r : Row) → p (source_line N r) ≡ p r) (some : (r : Row) → p r ≡ true → is_source r ≡ true) where
+module _ (N : Net) (a k : ℕ) (p : Row → Bool) (q : Source → Bool) (lined : (r : Row) → q (source_line N r) ≡ p r) (some : (r : Row) → p r ≡ true → is_source r ≡ true) where
   -- what a source of the network gives at node n
   abbrev given_by : ℕ → Row → ℤ
   given_by n r = cond (p r && eqb (at r) n) (source N k r) z
 
-  by_row : (n : ℕ) (r : Row) → cond (own_source N a r) (share p k n (source_line N r)) z ≡ cond (eqb (area_of N n) a) (given_by n r) z
+  by_row : (n : ℕ) (r : Row) → cond (own_source N a r) (share q k n (source_line N r)) z ≡ cond (eqb (area_of N n) a) (given_by n r) z
   unfolding own_source source_line
   by_row n r = rw (lined r, line_value N k r) (by (p r && eqb (at r) n) refl)
     where
@@ -153,23 +172,23 @@ module _ (N : Net) (a k : ℕ) (p : Row → Bool) (lined : (r : Row) → p (sour
       by true e = rw (some r (and_left (p r) (eqb (at r) n) e), eqb-true (at r) n (and_right (p r) (eqb (at r) n) e))
       by false e = never (is_source r && eqb (area_of N (at r)) a) ∙ sym (never (eqb (area_of N n) a))
 
-  own_at : (n : ℕ) → n ≤ Limits.node_end → word (given p k (source_lines N a)) n ≡ cond (eqb (area_of N n) a) (total (given_by n) N.rows) z
+  own_at : (n : ℕ) → n ≤ Limits.node_end → word (given q k (source_lines N a)) n ≡ cond (eqb (area_of N n) a) (total (given_by n) N.rows) z
   unfolding own_sources
   own_at n h =
-      given_at p k (source_lines N a) n h
-      ∙ total_map (share p k n) (source_line N) (own_sources N a)
-      ∙ total_keep (own_source N a) (λ r. share p k n (source_line N r)) N.rows
+      given_at q k (source_lines N a) n h
+      ∙ total_map (share q k n) (source_line N) (own_sources N a)
+      ∙ total_keep (own_source N a) (λ r. share q k n (source_line N r)) N.rows
       ∙ total_cong _ _ N.rows (by_row n)
       ∙ total_if (eqb (area_of N n) a) (given_by n) N.rows
 
 module _ (N : Net) (s : NetSound N) (a k : ℕ) (one : 1 ≤ a) where
-  pub own_injected : (n : ℕ) → area_of N n ≡ a → word (given is_iS k (source_lines N a)) n ≡ injected N k n
+  pub own_injected : (n : ℕ) → area_of N n ≡ a → word (given Table.is_iS k (source_lines N a)) n ≡ injected N k n
   unfolding injected source_line
-  own_injected n e = own_at N a k is_iS (λ r. refl) injecting_source n (le_trans (area_node N s a one n e).1 s.node_most) ∙ rw (eq-eqb (area_of N n) a e)
+  own_injected n e = own_at N a k is_iS Table.is_iS (λ r. injects_at (kind r)) injecting_source n (le_trans (area_node N s a one n e).1 s.node_most) ∙ rw (eq-eqb (area_of N n) a e)
 
-  pub own_still : given is_fixing k (source_lines N a) ≡ still_of N a k
+  pub own_still : given Table.is_fixing k (source_lines N a) ≡ still_of N a k
   unfolding held fixes source_line
   own_still =
-      let long = given_length is_fixing k (source_lines N a) in
-      ext_get_or z (given is_fixing k (source_lines N a)) (still_of N a k) (long ∙ sym (still_length N s a k))
-      (λ n h. let l : n ≤ Limits.node_end = omega (arith, long) in own_at N a k is_fixing (λ r. refl) fixing_source n l ∙ sym (still_at N s a k n l))
+      let long = given_length Table.is_fixing k (source_lines N a) in
+      ext_get_or z (given Table.is_fixing k (source_lines N a)) (still_of N a k) (long ∙ sym (still_length N s a k))
+      (λ n h. let l : n ≤ Limits.node_end = omega (arith, long) in own_at N a k is_fixing Table.is_fixing (λ r. fixing_at (kind r)) fixing_source n l ∙ sym (still_at N s a k n l))

@@ -1,7 +1,7 @@
 -- A source's value in its cases, before, during and after the rise, and as it swings; that the products on the way fit. Assumes nothing.
 use Rattle.std.specs.Prelude.{◌+◌, ◌-◌, ◌*◌, ◌/◌, ◌%◌, ◌^◌, ◌≤◌, ◌≡◌, ◌-ℤ◌, ◌*ℤ◌}
 use Rattle.whole.specs.Plain.{ℕ, zero, suc, refl, sym, ap, ◌∙◌, Bool, true, false, false≢true, cond, ltb, ltb-true, lt-ltb, le-ltb, ℤ, pos, negsuc, neg_ℤ, nat_abs}
-use Rattle.whole.specs.Plain.{sub_ℕ, lt_z, le_z, leb-true, le-leb, quot_z, mul-le-mul_left, mul-le-mul_right, le_trans, arith, z, word, nat}
+use Rattle.whole.specs.Plain.{sub_ℕ, lt_z, le_z, leb-true, le-leb, quot_z, mul-le-mul_left, mul-le-mul_right, le_trans, arith, z, nat}
 use Rattle.std.specs.Int.{w64}
 use Rattle.std.proofs.Common.{SFits}
 use Rattle.whole.specs.Int.{subℕ_ge}
@@ -10,11 +10,11 @@ use Rattle.whole.specs.Rounding.{part_size}
 use Rattle.num_cosine.specs.Cosine.{cosine}
 use Rattle.num_cosine.proofs.Most.{cosine_most}
 use Rattle.paper.specs.Limits as Limits
-use Rattle.paper.specs.Rows.{Row, is_vC, peak}
 use Rattle.paper.specs.Sources.{phase, index, swung}
 use Rattle.paper.proofs.Kept.{either}
 use Rattle.laws_volts.specs.Sources.{swung_size}
-use Rattle.step_sources.specs.Table.{pace, since, ramp_of, swing_of, value_of}
+use Rattle.step_legs.specs.declared.Source.{Source}
+use Rattle.step_sources.specs.Table.{is_vC, pace, since, ramp_of, swing_of, value_of}
 
 pub over : (n : ℕ) → lt_z (pos n) z ≡ false
 over n = le-ltb n 0 (omega arith)
@@ -101,16 +101,16 @@ pace_below (suc d) m = refl
 
 -- ---- whose value it is, by the kind
 
-module _ (k : ℕ) (l : Row) where
-  pub ramps : is_vC l ≡ false → ramp_of (peak l) (since k l) (word l 4) ≡ value_of k l
+module _ (k : ℕ) (l : Source) where
+  pub ramps : is_vC l ≡ false → ramp_of l.peak (since k l) l.pace ≡ value_of k l
   unfolding value_of
   ramps e = rw e
 
-  pub swinging : is_vC l ≡ true → word l 4 ≡ neg_ℤ (pos (pace l)) → swing_of (ramp_of (peak l) (since k l) (word l 4)) (since k l) (pace l) ≡ value_of k l
+  pub swinging : is_vC l ≡ true → l.pace ≡ neg_ℤ (pos (pace l)) → swing_of (ramp_of l.peak (since k l) l.pace) (since k l) (pace l) ≡ value_of k l
   unfolding value_of
-  swinging e m = ap (λ (d : ℤ). swing_of (ramp_of (peak l) (since k l) d) (since k l) (pace l)) m ∙ swing_whole (peak l) (since k l) (pace l) (pace l) ∙ rw e
+  swinging e m = ap (λ (d : ℤ). swing_of (ramp_of l.peak (since k l) d) (since k l) (pace l)) m ∙ swing_whole l.peak (since k l) (pace l) (pace l) ∙ rw e
 
   -- it is never larger than the peak
-  pub value_size : nat_abs (value_of k l) ≤ nat_abs (peak l)
+  pub value_size : nat_abs (value_of k l) ≤ nat_abs l.peak
   unfolding value_of
-  value_size = either (λ x. nat_abs x ≤ nat_abs (peak l)) (is_vC l) _ _ (swing_size (peak l) (since k l) (pace l)) (ramp_size (peak l) (since k l) (word l 4))
+  value_size = either (λ x. nat_abs x ≤ nat_abs l.peak) (is_vC l) _ _ (swing_size l.peak (since k l) (pace l)) (ramp_size l.peak (since k l) l.pace)

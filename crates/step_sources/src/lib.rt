@@ -1,40 +1,15 @@
 #![tactic(auto)]
 
 // "A source before its start is 0; from start, with n steps since": what an area's sources hold and inject at one step.
-ghost use Rattle.std.specs.Prelude.{◌*◌, ◌≤◌, ◌<◌, ◌≡◌};
-ghost use Rattle.whole.specs.Plain.{true, [], pos, nat_abs, le_z, length, get_or, nat};
+ghost use Rattle.std.specs.Prelude.{◌-◌, ◌*◌, ◌≤◌, ◌≡◌};
+ghost use Rattle.whole.specs.Plain.{true, pos, nat_abs, le_z, nat};
 ghost use Rattle.paper.specs.Limits as Limits;
-ghost use Rattle.paper.specs.Rows.{is_fixing, is_iS};
 ghost use Rattle.step_legs.specs.Sums.{none};
 ghost use Rattle.step_legs.specs.Free.{InjectsWithin};
-ghost use Rattle.step_sources.specs.Table.{source_at, ramp_of, swing_of, Sources, Room, give, given};
+ghost use Rattle.step_sources.specs.Table.{is_fixing, is_iS, ramp_of, swing_of, LineSound, Sources, Room, give, given};
 
-use paper::{Node, kinds};
-use step_legs::SourceLine;
-
-// One source: a VS, an IS or a VC at its node; its pace is the rise, or minus that of a VC's phase.
-#[derive(Clone, Copy)]
-struct Source {
-    pub kind: usize,
-    pub node: usize,
-    pub peak: i64,
-    pub start: i64,
-    pub pace: i64,
-}
-
-fn source_at(sources: &[SourceLine], j: usize) -> Source
-    requires { Sources sources.now × (j < length sources.now) }
-    ensures { result ≡ source_at sources.now j }
-{
-    let w = sources[j];
-    Source {
-        kind: w[0] as usize,
-        node: w[1] as usize,
-        peak: w[2],
-        start: w[3],
-        pace: w[4],
-    }
-}
+use paper::{Kind, Node};
+use step_legs::Source;
 
 // "A source before its start is 0"; "it is peak · n / rise rounded toward zero while n < rise; at or after the rise it is the peak": a rise below 0 is over at once.
 fn ramp(peak: i64, n: i64, rise: i64) -> i64
@@ -71,29 +46,21 @@ fn swing(peak: i64, n: i64, pace: usize) -> i64
     0
 }
 
-// Source j's part: a VS or a VC holds its node at its value, an IS injects its value into its node. What swings has its whole peak from the ramp.
-fn drive_one(
-    sources: &[SourceLine],
-    j: usize,
-    k: usize,
-    v: &mut [i64; Node::PLACES],
-    inject: &mut [i64; Node::PLACES],
-)
-    requires sources { Sources sources.now × ((j < length sources.now) × (k ≤ Limits.steps_end)) }
-    requires room { Room j v.old × Room j inject.old }
-    ensures v_value { v.new ≡ give is_fixing k v.old (get_or sources.now j []) }
-    ensures inject_value { inject.new ≡ give is_iS k inject.old (get_or sources.now j []) }
+// A source's part: a VS or a VC holds its node at its value, an IS injects its value into its node. What swings has its whole peak from the ramp.
+fn drive_one(s: Source, k: usize, v: &mut [i64; Node::PLACES], inject: &mut [i64; Node::PLACES])
+    requires sound { LineSound s × (k ≤ Limits.steps_end) }
+    requires room { Room (Limits.source_end - 1) v.old × Room (Limits.source_end - 1) inject.old }
+    ensures v_value { v.new ≡ give is_fixing k v.old s }
+    ensures inject_value { inject.new ≡ give is_iS k inject.old s }
 {
-    let s = source_at(sources, j);
     let n = (k as i64) - s.start;
     let x = ramp(s.peak, n, s.pace);
-    let kind = s.kind;
-    match kind {
-        kinds::VS => step_legs::add(v, s.node, x),
-        kinds::IS => step_legs::add(inject, s.node, x),
+    match s.kind {
+        Kind::Vs => step_legs::add(v, s.node, x),
+        Kind::Is => step_legs::add(inject, s.node, x),
         // a VC
         _ => {
-            let swung = swing(x, n, (-s.pace) as usize);
+            let swung = swing(x, n, s.pace.unsigned_abs() as usize);
             step_legs::add(v, s.node, swung);
         }
     }
@@ -101,7 +68,7 @@ fn drive_one(
 
 // What the area's VS and VC hold and what its IS inject, by node, at step k.
 pub fn drive(
-    sources: &[SourceLine],
+    sources: &[Source],
     k: usize,
     v: &mut [i64; Node::PLACES],
     inject: &mut [i64; Node::PLACES],
@@ -112,9 +79,7 @@ pub fn drive(
     ensures inject_value { inject.new ≡ given is_iS k sources.now }
     ensures injects_within { InjectsWithin inject.new }
 {
-    let mut j = 0;
-    while j < sources.len() {
-        drive_one(sources, j, k, v, inject);
-        j += 1;
+    for source in sources {
+        drive_one(*source, k, v, inject);
     }
 }

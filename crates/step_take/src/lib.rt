@@ -5,11 +5,11 @@ ghost use Rattle.std.specs.Prelude.{◌≡◌};
 ghost use Rattle.paper.specs.Advance.{memory};
 ghost use Rattle.step_take.specs.Stepping.{at_of, Movable, Moves};
 
-use paper::{Advance, Node};
+use paper::{Node, Refusal};
 use plan_own::Own;
 use plan_rows::Table;
 use step_factors::Matrix;
-use step_legs::{Line, SourceLine};
+use step_legs::{Source, Wire};
 use step_try::At;
 
 // Whose step it is, which, and the limit of what may be out of balance.
@@ -31,62 +31,42 @@ fn at_of(o: Own, turn: Turn) -> At
     }
 }
 
-// What a step came to, and whether a breaker of the area parted in it.
-#[derive(Clone, Copy)]
-pub struct Outcome {
-    pub answer: Advance,
-    pub parted: bool,
-}
-
-// The step, from what is kept for it: where the area's own stands is `o`. "Every refusal leaves all lent memory unchanged."
+// The step, from what is kept for it: where the area's own stands is `o`. Whether a breaker of the area parted in it. "Every refusal leaves all lent
+// memory unchanged."
 pub fn stepped(
     plan: &Table,
-    legs: &mut [Line],
+    legs: &mut [Wire],
     nodes: &[usize],
-    sources: &[SourceLine],
+    sources: &[Source],
     factors: &Matrix,
     records: &mut [i64],
     froms: &mut [i64],
     tos: &mut [i64],
     o: Own,
     turn: Turn,
-) -> Outcome
+) -> Result<bool, Refusal>
     requires { Movable plan.now legs.old nodes.now sources.now factors.now records.old froms.old
         tos.old o turn }
     ensures { Moves plan.now nodes.now sources.now factors.now o turn legs.old
         (memory records.old froms.old tos.old) result legs.new (memory records.new froms.new tos.new) }
 {
-    let legs_from = o.legs;
-    let legs_to = o.legs_end;
-    let free_from = o.base;
-    let free_to = o.free_end;
-    let nodes_to = o.nodes_end;
-    let sources_from = o.sources;
-    let sources_to = o.sources_end;
-    let at = at_of(o, turn);
     let mut volts = [0; Node::PLACES];
-    let answer = step_try::try_step(
+    step_try::try_step(
         plan,
-        &sources[sources_from..sources_to],
-        &nodes[free_from..free_to],
-        &mut legs[legs_from..legs_to],
+        &sources[o.sources..o.sources_end],
+        &nodes[o.base..o.free_end],
+        &mut legs[o.legs..o.legs_end],
         factors,
         records,
         froms,
         tos,
-        at,
+        at_of(o, turn),
         &mut volts,
-    );
-    if !step_try::took(answer) {
-        return Outcome {
-            answer: answer,
-            parted: false,
-        };
-    }
+    )?;
     let parted = step_commit::commit(
         plan,
-        &legs[legs_from..legs_to],
-        &nodes[free_from..nodes_to],
+        &legs[o.legs..o.legs_end],
+        &nodes[o.base..o.nodes_end],
         &volts,
         records,
         froms,
@@ -94,8 +74,5 @@ pub fn stepped(
         turn.area,
         turn.k,
     );
-    Outcome {
-        answer: answer,
-        parted: parted,
-    }
+    Ok(parted)
 }

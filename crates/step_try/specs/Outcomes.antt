@@ -1,8 +1,9 @@
 -- What a step's outcome is answered by, and the refusals 15 to 17 in turn, by their places. Assumes nothing.
-use Rattle.std.specs.Prelude.{◌≡◌}
+use Rattle.std.specs.Prelude.{◌≡◌, Ok, Err}
 use Rattle.whole.specs.Plain.{ℕ, zero, suc, refl, sym, ap, ◌∙◌, List, arith, Words}
-use Rattle.paper.specs.declared.Advance.{Advance}
-use Rattle.paper.specs.declared.Advance.TheVariants.{Took, Range, Unbalanced, History}
+use Rattle.paper.specs.Replies.{Advance}
+use Rattle.paper.specs.declared.Refusal.{Refusal}
+use Rattle.paper.specs.declared.Refusal.TheVariants.{Range, Unbalanced, History}
 use Rattle.paper.specs.Rows.{limit}
 use Rattle.paper.specs.Areas.{Net, branch_number, free_of, fixed}
 use Rattle.paper.specs.Sources.{injected}
@@ -12,15 +13,15 @@ use Rattle.paper.specs.Solve.{Step, stop, move, still_of, proposed, settled, out
 
 -- at step k
 abbrev pub answered : ℕ → Step → Advance
-answered k (stop x) = x
-answered k (move bs v) = Took k
+answered k (stop x) = Err x
+answered k (move bs v) = Ok k
 
 -- the answer, and the voltages where the step is taken
 pub record Tried (k : ℕ) (s : Step) (v : Words) (r : Advance) : Type 0 where
   pub answer : r ≡ answered k s
   pub volts : (bs : List Branch) (w : Words) → s ≡ move bs w → v ≡ w
 
-pub tried_stop : (k : ℕ) {s : Step} {v : Words} {x : Advance} → s ≡ stop x → Tried k s v x
+pub tried_stop : (k : ℕ) {s : Step} {v : Words} {x : Refusal} → s ≡ stop x → Tried k s v (Err x)
 tried_stop k {s} {v} {x} e = record {
   answer = sym (ap (answered k) e);
   volts = λ bs w f. let d : stop x ≡ move bs w = sym e ∙ f in let z : ◌≡◌ {A = ℕ} 0 1 = cc in absurd (omega arith);
@@ -29,7 +30,7 @@ tried_stop k {s} {v} {x} e = record {
 same_move : {bs cs : List Branch} {v w : Words} → move bs v ≡ move cs w → v ≡ w
 same_move e = cc
 
-pub tried_move : (k : ℕ) {s : Step} (bs : List Branch) {v w : Words} → s ≡ move bs w → v ≡ w → Tried k s v (Took k)
+pub tried_move : (k : ℕ) {s : Step} (bs : List Branch) {v w : Words} → s ≡ move bs w → v ≡ w → Tried k s v (Ok k)
 tried_move k bs e f = record { answer = sym (ap (answered k) e); volts = λ cs u g. f ∙ same_move (sym e ∙ g) }
 
 -- ---- the refusals in turn, by their places

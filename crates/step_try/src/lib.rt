@@ -3,7 +3,6 @@
 // One step of one area tried, on what is kept for its switches' positions: 15, 16 and 17 in turn, or the voltages. Nothing lent for the study is written.
 ghost use Rattle.std.specs.Prelude.{◌-◌, ◌≡◌};
 ghost use Rattle.whole.specs.Plain.{ℕ, drop, nat};
-ghost use Rattle.paper.specs.Answers.{accepted};
 ghost use Rattle.paper.specs.Areas.{Net};
 ghost use Rattle.plan_rows.specs.Planned.{row_in};
 ghost use Rattle.step_legs.specs.Sums.{none};
@@ -12,10 +11,10 @@ ghost use Rattle.step_flow.specs.Past.{first_past};
 ghost use Rattle.step_flow.specs.Beyond.{first_row};
 ghost use Rattle.step_try.specs.Trying.{Trying, Known, Judging, in_flow, Tries};
 
-use paper::{Advance, Node};
+use paper::{Advance, Node, Refusal};
 use plan_rows::Table;
 use step_factors::Matrix;
-use step_legs::{Line, SourceLine};
+use step_legs::{Source, Wire};
 
 // What a step is tried at: where the area's factors begin, the step, and the limit of what may be out of balance.
 #[derive(Clone, Copy)]
@@ -25,29 +24,10 @@ pub struct At {
     pub limit: i64,
 }
 
-// Whether what is answered accepts the step.
-pub fn took(answer: Advance) -> bool
-    ensures { result ≡ accepted answer }
-{
-    match answer {
-        Advance::Took(_) => true,
-        Advance::Network => false,
-        Advance::Store => false,
-        Advance::State => false,
-        Advance::Area => false,
-        Advance::Done => false,
-        Advance::Wait(_) => false,
-        Advance::Floating(_) => false,
-        Advance::Range(_) => false,
-        Advance::Unbalanced(_) => false,
-        Advance::History(_) => false,
-    }
-}
-
-// 16 and 17, from what leaves each node and what is injected, that of node 1 in the place `one`, and from what each leg's line has of the step.
+// 16 and 17, from what leaves each node and what is injected, that of node 1 in the place `one`, and from what each leg has of the step.
 fn judged(
     plan: &Table,
-    legs: &[Line],
+    legs: &[Wire],
     free: &[usize],
     leaving: &[i64; Node::PLACES],
     injected: &[i64],
@@ -60,25 +40,22 @@ fn judged(
         (first_past (nat at.limit) (drop 1 leaving.now) (drop one injected.now) free.now) (first_row legs.now)
         (row_in plan.now (first_row legs.now - 1)).number }
 {
-    let node = step_flow::balance(leaving, injected, one, free, at.limit);
-    if node != 0 {
-        return Advance::Unbalanced(node as u64);
+    if let Some(node) = step_flow::balance(leaving, injected, one, free, at.limit) {
+        return Err(Refusal::Unbalanced(node as u64));
     }
-    let place = step_flow::first_beyond(legs);
-    if place != 0 {
-        let r = plan_rows::row_at(plan, place - 1);
-        return Advance::History(r.number as u64);
+    if let Some(row) = step_flow::first_beyond(legs) {
+        return Err(Refusal::History(plan[row].number as u64));
     }
-    Advance::Took(at.k as u64)
+    Ok(at.k as u64)
 }
 
 // The voltages go into v, by node: they hold where the step can be taken. What is injected, by node, serves twice: to find the voltages, and beside the
 // currents that then leave, to judge them.
 pub fn try_step<'a>(
     plan: &Table,
-    sources: &[SourceLine],
+    sources: &[Source],
     free: &[usize],
-    legs: &mut [Line],
+    legs: &mut [Wire],
     factors: &Matrix,
     records: &[i64],
     froms: &'a [i64],
@@ -96,11 +73,7 @@ pub fn try_step<'a>(
     let mut injected = [0; Node::PLACES];
     step_sources::drive(sources, at.k, v, &mut injected);
     step_histories::hear(plan, legs, records, froms, tos, at.k);
-    let node = step_solve::solve(legs, free, &injected, factors, at.base, v);
-    if node != 0 {
-        return Advance::Range(node as u64);
-    }
+    step_solve::solve(legs, free, &injected, factors, at.base, v)?;
     let leaving = step_flow::flow(legs, v);
-    let given = &injected[..];
-    judged(plan, legs, free, &leaving, given, 1, at)
+    judged(plan, legs, free, &leaving, &injected, 1, at)
 }

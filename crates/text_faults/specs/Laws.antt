@@ -1,17 +1,18 @@
 -- From a row's words to what its faults ask. Assumes nothing.
-use Rattle.std.specs.Prelude.{◌+◌, ◌%◌, ◌≤◌, ◌<◌, ◌≡◌, ◌&&◌, ◌||◌, ◌∷◌}
+use Rattle.std.specs.Prelude.{Option, Some, None}
+use Rattle.std.specs.Prelude.{◌+◌, ◌%◌, ◌≤◌, ◌<◌, ◌≡◌, ◌&&◌, ◌||◌}
 use Rattle.whole.specs.Plain.{ℕ, suc, refl, sym, ◌∙◌, ap, Bool, true, false, not, cond}
-use Rattle.whole.specs.Plain.{true≢false, false≢true, List, [], tail, T, leb, ltb, eqb, ℤ, pos, negsuc, nat_abs}
-use Rattle.whole.specs.Plain.{non_neg, length, ne_eqb, eqb-true, div-le_self, arith, Words, word, nat, between}
+use Rattle.whole.specs.Plain.{true≢false, false≢true, List, tail, leb, ltb, eqb, ℤ, pos}
+use Rattle.whole.specs.Plain.{length, ne_eqb, eqb-true, div-le_self, arith, Words, word, nat, between}
 use Rattle.whole.specs.Plain.{count}
+use Rattle.std.specs.Int.{from_bool}
 use Rattle.whole.specs.Folds.{or_left}
 use Rattle.whole.specs.Truths.{or_false, or-true}
 use Rattle.num_quantity.specs.declared.Conductance.{Conductance}
-use Rattle.num_quantity.specs.declared.CheckedConductance.{CheckedConductance}
-use Rattle.num_quantity.specs.declared.CheckedConductance.TheVariants.{Good, Refused}
 use Rattle.paper.specs.Limits as Limits
-use Rattle.paper.specs.Rows.{bytes, kinds, kind, fields_of, branch_kind, source_kind, is_study, is_branch, step_length, from, to, closes, opens, travel}
-use Rattle.paper.specs.Classes.{kind_count}
+use Rattle.paper.specs.declared.kinds.Kind.{Kind}
+use Rattle.paper.specs.Kinds.{number, number_few}
+use Rattle.paper.specs.Rows.{bytes, kinds, kind, fields_of, branch_kind, source_kind, is_study, is_branch, is_line, step_length, from, to, closes, opens, travel}
 use Rattle.paper.specs.Conductance.{conductance, of_ohms, of_henries, of_farads}
 use Rattle.paper.specs.Faults.{outside, node_fault, value_fault, travel_fault, depth, slots}
 use Rattle.text_kinds.specs.Table.{names_of, low, high, outside_from, in_range}
@@ -19,15 +20,10 @@ use Rattle.text_kinds.specs.Fields.{each, outside_names, outside_values, names_o
 use Rattle.text_faults.specs.declared.Seen.{Seen}
 use Rattle.text_faults.specs.Seen.{head_of, Sized, conductance_of, seen_double, seen_full, seen_fault, fixed_after, seen_after}
 
--- ---- the kind as an index
+-- ---- the kind
 
-pub kind_sign : (x : ℤ) → kind (x ∷ []) < 10 → T (non_neg x)
-kind_sign (pos k) h = tt
-kind_sign (negsuc n) h = absurd (omega (arith, kind_count))
-
-pub kind_size : (x : ℤ) → kind (x ∷ []) < 10 → nat_abs x ≡ kind (x ∷ [])
-kind_size (pos k) h = refl
-kind_size (negsuc n) h = absurd (omega (arith, kind_count))
+pub known_kind : (w : Words) (k : Kind) → number k ≡ kind w → kind w < 10
+known_kind w k e = rw (← e) (number_few k)
 
 -- ---- a branch's size
 
@@ -67,7 +63,7 @@ module _ (w : Words) (few : 6 ≤ length w) (known : kind w < 10) {k : ℕ} (e :
   -- by how many fields, from the first on, are in their ranges
   module _ {n : ℕ} (i : n ≡ in_range (kind w) w) where
     pub node_is : {m a b : ℕ} {br so : Bool} → a ≡ from w → b ≡ to w → m ≡ names_of k → br ≡ branch_kind k → so ≡ source_kind k
-        → (((ltb n m || (br && eqb a b)) || (so && eqb a 0)) || (eqb k 4 && (eqb a 0 || eqb b 0))) ≡ node_fault w
+        → (((ltb n m || (br && eqb a b)) || (so && eqb a 0)) || (is_line w && (eqb a 0 || eqb b 0))) ≡ node_fault w
     unfolding node_fault
     node_is p q r t u = rw (p, q, i, r, t, u, e, ← names_out (kind w) known w, outside_names w few (kind w) known)
 
@@ -89,26 +85,26 @@ module _ (w : Words) (few : 6 ≤ length w) (known : kind w < 10) {k : ℕ} (e :
       rw (o, n, ne_eqb (kind w) 5 (λ (f : kind w ≡ 5). true≢false (sym (ap branch_kind f) ∙ n)), ne_eqb (kind w) 9 (λ (f : kind w ≡ 9). true≢false (sym (ap branch_kind f) ∙ n)))
 
   -- of a branch whose fields are in range, by what the constructor of its conductance answers
-  module _ (step : ℕ) {br : Bool} {g size : ℕ} {made : CheckedConductance} (o : outside false (fields_of (kind w)) (tail w) ≡ false) (p : br ≡ branch_kind k) (q : br ≡ true)
+  module _ (step : ℕ) {br : Bool} {g size : ℕ} {made : Option Conductance} (o : outside false (fields_of (kind w)) (tail w) ≡ false) (p : br ≡ branch_kind k) (q : br ≡ true)
       (r : size ≡ nat (word w 3)) (s : g ≡ conductance_of step k size)
-      (m : made ≡ cond (leb Limits.conductance_low g && leb g Limits.conductance_end) (Good (record { nanos = g })) Refused) where
+      (m : made ≡ cond (leb Limits.conductance_low g && leb g Limits.conductance_end) (Some (record { nanos = g })) None) where
     value_by : (t : Bool) → (leb Limits.conductance_low g && leb g Limits.conductance_end) ≡ t → (((eqb k 5 || eqb k 9) && leb (opens w) (closes w)) || not t) ≡ value_fault (head_of step) w
     unfolding value_fault conductance of_ohms of_henries of_farads conductance_of
     value_by t f = let b : is_branch w ≡ true = rw (← e) (sym p ∙ q) in rw (o, b, ← f, s, r, e)
 
-    pub value_refused : made ≡ Refused → true ≡ value_fault (head_of step) w
+    pub value_refused : made ≡ None → true ≡ value_fault (head_of step) w
     value_refused f = by_test (leb Limits.conductance_low g && leb g Limits.conductance_end) refl
       where
         by_test : (t : Bool) → (leb Limits.conductance_low g && leb g Limits.conductance_end) ≡ t → true ≡ value_fault (head_of step) w
-        by_test true h = let d : made ≡ Good (record { nanos = g }) = rw h at m in let n : ◌≡◌ {A = ℕ} 0 1 = cc in absurd (omega arith)
+        by_test true h = let d : made ≡ Some (record { nanos = g }) = rw h at m in let n : ◌≡◌ {A = ℕ} 0 1 = cc in absurd (omega arith)
         by_test false h = sym (or-true ((eqb k 5 || eqb k 9) && leb (opens w) (closes w))) ∙ value_by false h
 
-    pub value_taken : {shut opened : ℕ} {sw : Bool} {c : Conductance} → made ≡ Good c → shut ≡ closes w → opened ≡ opens w → sw ≡ (eqb k 5 || eqb k 9) → (sw && leb opened shut) ≡ value_fault (head_of step) w
+    pub value_taken : {shut opened : ℕ} {sw : Bool} {c : Conductance} → made ≡ Some c → shut ≡ closes w → opened ≡ opens w → sw ≡ (eqb k 5 || eqb k 9) → (sw && leb opened shut) ≡ value_fault (head_of step) w
     value_taken {shut} {opened} {sw} f u v x = by_test (leb Limits.conductance_low g && leb g Limits.conductance_end) refl
       where
         by_test : (t : Bool) → (leb Limits.conductance_low g && leb g Limits.conductance_end) ≡ t → (sw && leb opened shut) ≡ value_fault (head_of step) w
         by_test true h = rw (u, v, x) (sym (or_false ((eqb k 5 || eqb k 9) && leb (opens w) (closes w))) ∙ value_by true h)
-        by_test false h = let d : made ≡ Refused = rw h at m in let n : ◌≡◌ {A = ℕ} 0 1 = cc in absurd (omega arith)
+        by_test false h = let d : made ≡ None = rw h at m in let n : ◌≡◌ {A = ℕ} 0 1 = cc in absurd (omega arith)
 
   -- the size of a branch, for its conductance
   pub sized : (step : ℕ) {br : Bool} {size : ℕ} → 1 ≤ step → step ≤ 1000000 → outside false (fields_of (kind w)) (tail w) ≡ false → br ≡ branch_kind k → br ≡ true
@@ -169,12 +165,13 @@ faultless s w e =
     let f = none_first (seen_full s w) 5 0 d.1 in
     record { node = a.0; value = b.0; travel = c.0; double = d.0; full = f.0 }
 
-pub one_most : (b : Bool) {n : ℕ} → n ≡ cond b 1 0 → n ≤ 1
-one_most true e = omega arith
-one_most false e = omega arith
+-- a bool as a number
+bit : (b : Bool) → from_bool b ≡ cond b 1 0
+bit true = refl
+bit false = refl
 
-pub after_is : (s : Seen) (w : Words) {k step n b o : ℕ} {br so : Bool} {fixed : List Bool} → k ≡ kind w → fixed ≡ fixed_after s.fixed w
-    → step ≡ cond (is_study w) (step_length w) s.step → br ≡ branch_kind k → b ≡ cond br 1 0 → so ≡ source_kind k → o ≡ cond so 1 0 → n ≡ slots (head_of s.step) w
-    → ◌≡◌ {A = Seen} (record { step = step; branches = s.branches + b; sources = s.sources + o; slots = s.slots + n; fixed = fixed }) (seen_after s w)
+pub after_is : (s : Seen) (w : Words) {k step n : ℕ} {br so : Bool} {fixed : List Bool} → k ≡ kind w → fixed ≡ fixed_after s.fixed w
+    → step ≡ cond (is_study w) (step_length w) s.step → br ≡ branch_kind k → so ≡ source_kind k → n ≡ slots (head_of s.step) w
+    → ◌≡◌ {A = Seen} (record { step = step; branches = s.branches + from_bool br; sources = s.sources + from_bool so; slots = s.slots + n; fixed = fixed }) (seen_after s w)
 unfolding seen_after
-after_is s w e f g h i j k l = rw (f, g, i, h, k, j, l, e)
+after_is s w {br} {so} e f g h j l = rw (f, g, bit br, bit so, h, j, l, e)

@@ -2,20 +2,26 @@
 
 // What may be wrong with a row whose spelling is right, after the rows before it: refusals 2 to 6. One function, for the reader's lines and for the rows of a
 // lent network record.
-ghost use Rattle.std.specs.Prelude.{◌≤◌, ◌<◌, ◌+◌, ◌*◌, ◌≡◌};
-ghost use Rattle.whole.specs.Plain.{false, true, cond, nat_abs, get_or, word};
+ghost use Rattle.std.specs.Prelude.{◌≤◌, ◌≡◌};
+ghost use Rattle.whole.specs.Plain.{false, cond, get_or};
 ghost use Rattle.paper.specs.Limits as Limits;
-ghost use Rattle.paper.specs.Rows.{kind, is_study, step_length};
+ghost use Rattle.paper.specs.Kinds.{number};
+ghost use Rattle.paper.specs.Rows.{is_study, step_length};
 ghost use Rattle.paper.specs.Faults as Faults;
+ghost use Rattle.paper.specs.Faulted.{fault_by};
 ghost use Rattle.text_kinds.specs.Table.{in_range};
 ghost use Rattle.text_faults.specs.Seen.{head_of, Held, conductance_of, seen_double, seen_full, seen_fault};
 ghost use Rattle.text_faults.specs.Seen.{fixed_after};
 ghost use Rattle.text_faults.specs.Seen.{seen_after, nothing_seen, Sized};
 
-use num_quantity::{CheckedConductance, Conductance};
-use paper::{Node, Room};
+pub mod rows;
+
+use num_quantity::Conductance;
+use paper::{Fault, Kind, Node, Room};
+pub use rows::Row;
 
 // What the rows before tell: the study's step length, how many branches and sources there are, the line slots of one end, and the nodes with a VS or a VC.
+// That it is `Held` stays a clause and no field: the definition `seen_after` is of any row, and only a row without fault keeps it so.
 #[derive(Clone, Copy)]
 pub struct Seen {
     pub step: u64,
@@ -38,194 +44,150 @@ pub fn nothing_seen() -> Seen
     }
 }
 
-// The magnitude of the word i of a row.
-fn field(row: [i64; 8], i: usize) -> u64
-    requires { i < 8 }
-    ensures { result ≡ nat_abs (word row i) }
-{
-    whole::magnitude(row[i])
-}
-
-pub fn kind_of(row: [i64; 8]) -> usize
-    requires { kind row < 10 }
-    ensures { result ≡ kind row }
-{
-    row[0] as usize
-}
-
 // 2 NODE: "node over 32, both ends equal, source or line end on ground"
-fn node_fault(row: [i64; 8], passed: usize) -> bool
-    requires { (kind row < 10) × (passed ≡ in_range (kind row) row) }
-    ensures { result ≡ Faults.node_fault row }
+fn node_fault(row: Row, passed: usize) -> bool
+    requires { passed ≡ in_range (number row.kind) row.words }
+    ensures { result ≡ Faults.node_fault row.words }
 {
-    let k = kind_of(row);
-    let a = field(row, 1);
-    let b = field(row, 2);
-    (passed < text_kinds::names(k))
-        | (paper::kinds::is_branch(k) & (a == b))
-        | (paper::kinds::is_source(k) & (a == 0))
-        | ((k == 4) & ((a == 0) | (b == 0)))
+    let kind = row.kind;
+    let a = row.field(1);
+    let b = row.field(2);
+    (passed < text_kinds::names(kind))
+        | (kind.is_branch() & (a == b))
+        | (kind.is_source() & (a == 0))
+        | (row.is_line() & ((a == 0) | (b == 0)))
 }
 
 // "R, SW closed, LINE: 10^12 / mΩ."; "L: 10^9 · step / (2 · nH)."; "C: 2·10^6 · pF / step."
-pub fn conductance(step: u64, kind: usize, size: u64) -> u64
-    requires { Sized step kind size }
-    ensures { result ≡ conductance_of step kind size }
+#[tactic(auto, unfolding(crate::specs::Seen::conductance_of))]
+pub fn conductance(step: u64, kind: Kind, size: u64) -> u64
+    requires { Sized step (number kind) size }
+    ensures { result ≡ conductance_of step (number kind) size }
 {
-    if kind == 2 {
-        return whole::nearest_quotient(1_000_000_000 * step, 2 * size);
+    match kind {
+        Kind::L => whole::nearest_quotient(1_000_000_000 * step, 2 * size),
+        Kind::C => whole::nearest_quotient(2_000_000 * size, step),
+        _ => whole::nearest_quotient(1_000_000_000_000, size),
     }
-    if kind == 3 {
-        return whole::nearest_quotient(2_000_000 * size, step);
-    }
-    whole::nearest_quotient(1_000_000_000_000, size)
 }
 
 // 3 VALUE: "a field, or its conductance, out of range"; SW: "1 ≤ close < open"
-fn value_fault(step: u64, row: [i64; 8], passed: usize) -> bool
-    requires row_bound { (kind row < 10) × ((Limits.step_length_low ≤ step) × (step ≤ Limits.step_length_end)) }
-    requires passed_value { (passed ≡ in_range (kind row) row) × (Faults.node_fault row ≡ false) }
-    ensures { result ≡ Faults.value_fault (head_of step) row }
+fn value_fault(step: u64, row: Row, passed: usize) -> bool
+    requires step_bound { (Limits.step_length_low ≤ step) × (step ≤ Limits.step_length_end) }
+    requires passed_value { (passed ≡ in_range (number row.kind) row.words) × (Faults.node_fault row.words ≡ false) }
+    ensures { result ≡ Faults.value_fault (head_of step) row.words }
 {
-    let k = kind_of(row);
-    if passed < text_kinds::fields(k) {
+    let kind = row.kind;
+    if passed < text_kinds::fields(kind) {
         return true;
     }
-    if !paper::kinds::is_branch(k) {
+    if !kind.is_branch() {
         return false;
     }
-    let CheckedConductance::Good(_) = Conductance::new(conductance(step, k, field(row, 3))) else {
+    let Some(_) = Conductance::new(conductance(step, kind, row.field(3))) else {
         return true;
     };
-    let close = field(row, 4);
-    let open = field(row, 5);
-    paper::kinds::is_switch(k) & (open <= close)
+    let close = row.field(4);
+    let open = row.field(5);
+    kind.is_switch() & (open <= close)
 }
 
 // 4 TRAVEL: "travel shorter than a step"
-fn travel_fault(step: u64, row: [i64; 8]) -> bool
-    requires { kind row < 10 }
-    ensures { result ≡ Faults.travel_fault (head_of step) row }
+#[tactic(auto, unfolding(paper::specs::Faults::travel_fault))]
+fn travel_fault(step: u64, row: Row) -> bool
+    ensures { result ≡ Faults.travel_fault (head_of step) row.words }
 {
-    let travel = field(row, 4);
-    (kind_of(row) == 4) & (travel < step)
-}
-
-fn fixed_at(fixed: [bool; Node::PLACES], node: u64) -> bool
-    ensures { result ≡ get_or fixed node false }
-{
-    if node < Node::PLACES as u64 {
-        let n = node as usize;
-        return fixed[n];
-    }
-    false
+    row.is_line() & (row.field(4) < step)
 }
 
 // 5 DOUBLE: "a second VS on a node"; "5 covers any two of VS and VC"
-fn double_fault(seen: Seen, row: [i64; 8]) -> bool
-    requires { kind row < 10 }
-    ensures { result ≡ seen_double seen row }
+fn double_fault(seen: Seen, row: Row) -> bool
+    ensures { result ≡ seen_double seen row.words }
 {
     let fixed = seen.fixed;
-    paper::kinds::is_fixing(kind_of(row)) & fixed_at(fixed, field(row, 1))
+    let node = row.field(1) as usize;
+    row.kind.is_fixing() & fixed.get(node).copied().unwrap_or(false)
 }
 
 // "a store needs 2q + 1 slots where r is not 0", and 2q where it is
-fn slots_of(step: u64, row: [i64; 8]) -> usize
-    requires { (kind row < 10) × ((1 ≤ step) × (Faults.value_fault (head_of step) row ≡ false)) }
-    ensures { result ≡ Faults.slots (head_of step) row }
+fn slots_of(step: u64, row: Row) -> usize
+    requires { (1 ≤ step) × (Faults.value_fault (head_of step) row.words ≡ false) }
+    ensures { result ≡ Faults.slots (head_of step) row.words }
 {
-    if kind_of(row) == 4 {
-        let travel = field(row, 4);
+    if row.is_line() {
+        let travel = row.field(4);
         return 2 * (travel / step) as usize + num_share::older(travel % step);
     }
     0
 }
 
 // 6 FULL: "65th branch, 17th source, or" the slots "summed over lines past 4,096"
-fn full_fault(seen: Seen, row: [i64; 8]) -> bool
-    requires { (kind row < 10) × (Held seen × (Faults.value_fault (head_of seen.step) row ≡ false)) }
-    ensures { result ≡ seen_full seen row }
+fn full_fault(seen: Seen, row: Row) -> bool
+    requires { Held seen × (Faults.value_fault (head_of seen.step) row.words ≡ false) }
+    ensures { result ≡ seen_full seen row.words }
 {
-    let k = kind_of(row);
-    (paper::kinds::is_branch(k) & (Room::BRANCHES <= seen.branches))
-        | (paper::kinds::is_source(k) & (Room::SOURCES <= seen.sources))
+    (row.kind.is_branch() & (Room::BRANCHES <= seen.branches))
+        | (row.kind.is_source() & (Room::SOURCES <= seen.sources))
         | (Room::STORE < seen.slots + slots_of(seen.step, row))
 }
 
-// "in it 1 to 6 in turn": the number of a row's first fault, or 0.
-pub fn line_fault(seen: Seen, row: [i64; 8]) -> u64
-    requires { (kind row < 10) × Held seen }
-    ensures { result ≡ seen_fault seen row }
+// "in it 1 to 6 in turn": a row's first fault, where it has one.
+#[tactic(auto, unfolding(crate::specs::Seen::seen_fault))]
+pub fn line_fault(seen: Seen, row: Row) -> Option<Fault>
+    requires { Held seen }
+    ensures { result ≡ fault_by (seen_fault seen row.words) }
 {
     // Once, for NODE and for VALUE: a kind's fields that name a node are its first.
-    let passed = text_kinds::in_range(kind_of(row), row);
+    let passed = text_kinds::in_range(row.kind, row.words);
     if node_fault(row, passed) {
-        return 2;
+        return Some(Fault::Node);
     }
     if value_fault(seen.step, row, passed) {
-        return 3;
+        return Some(Fault::Value);
     }
     if travel_fault(seen.step, row) {
-        return 4;
+        return Some(Fault::Travel);
     }
     if double_fault(seen, row) {
-        return 5;
+        return Some(Fault::Double);
     }
     if full_fault(seen, row) {
-        return 6;
+        return Some(Fault::Full);
     }
-    0
+    None
 }
 
-fn one_if(b: bool) -> usize
-    ensures { result ≡ cond b 1 0 }
+fn step_after(step: u64, row: Row) -> u64
+    ensures { result ≡ cond (is_study row.words) (step_length row.words) step }
 {
-    if b {
-        return 1;
-    }
-    0
-}
-
-fn step_after(step: u64, row: [i64; 8]) -> u64
-    requires { kind row < 10 }
-    ensures { result ≡ cond (is_study row) (step_length row) step }
-{
-    if kind_of(row) == 0 {
-        return field(row, 1);
+    if row.is_study() {
+        return row.field(1);
     }
     step
 }
 
 // "A node with a VS is fixed"; "A VC fixes its node like a VS."
-fn fixed_after(fixed: [bool; Node::PLACES], row: [i64; 8]) -> [bool; Node::PLACES]
-    requires { kind row < 10 }
-    ensures { result ≡ fixed_after fixed row }
+fn fixed_after(fixed: [bool; Node::PLACES], row: Row) -> [bool; Node::PLACES]
+    ensures { result ≡ fixed_after fixed row.words }
 {
     let mut next = fixed;
-    let node = field(row, 1);
-    if paper::kinds::is_fixing(kind_of(row)) {
-        if node < Node::PLACES as u64 {
-            let n = node as usize;
-            next[n] = true;
-        }
+    let node = row.field(1) as usize;
+    if row.kind.is_fixing() & (node < Node::PLACES) {
+        next[node] = true;
     }
     next
 }
 
 // What the rows tell with one more, which has no fault.
-pub fn seen_after(seen: Seen, row: [i64; 8]) -> Seen
-    requires { (kind row < 10) × (Held seen × (seen_fault seen row ≡ 0)) }
-    ensures { result ≡ seen_after seen row }
+pub fn seen_after(seen: Seen, row: Row) -> Seen
+    requires { Held seen × (seen_fault seen row.words ≡ 0) }
+    ensures { result ≡ seen_after seen row.words }
 {
-    let k = kind_of(row);
-    let before = seen.fixed;
-    let fixed = fixed_after(before, row);
     Seen {
         step: step_after(seen.step, row),
-        branches: seen.branches + one_if(paper::kinds::is_branch(k)),
-        sources: seen.sources + one_if(paper::kinds::is_source(k)),
+        branches: seen.branches + usize::from(row.kind.is_branch()),
+        sources: seen.sources + usize::from(row.kind.is_source()),
         slots: seen.slots + slots_of(seen.step, row),
-        fixed,
+        fixed: fixed_after(seen.fixed, row),
     }
 }

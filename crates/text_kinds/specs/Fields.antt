@@ -85,9 +85,3 @@ pub in_range_lem : (l h : ℕ) (x : ℤ) → between (pos l) (pos h) x ≡ true 
 unfolding between
 in_range_lem l h (pos n) e = (refl, (leb-true l n (and_left (leb l n) (leb n h) e), leb-true n h (and_right (leb l n) (leb n h) e)))
 in_range_lem l h (negsuc n) e = let c : ◌≡◌ {A = ℕ} 0 1 = cc in absurd (omega arith)
-
--- a kind that is none of the others
-pub the_last : (P : ℕ → Type 0) → P 9 → (k : ℕ) → k < 10 → (k ≡ 0 → ⊥) → (k ≡ 1 → ⊥) → (k ≡ 2 → ⊥) → (k ≡ 3 → ⊥) → (k ≡ 4 → ⊥) → (k ≡ 5 → ⊥) → (k ≡ 6 → ⊥) → (k ≡ 7 → ⊥) → (k ≡ 8 → ⊥) → P k
-the_last P x = each (λ k. (k ≡ 0 → ⊥) → (k ≡ 1 → ⊥) → (k ≡ 2 → ⊥) → (k ≡ 3 → ⊥) → (k ≡ 4 → ⊥) → (k ≡ 5 → ⊥) → (k ≡ 6 → ⊥) → (k ≡ 7 → ⊥) → (k ≡ 8 → ⊥) → P k)
-    (λ a b c d e f g h i. absurd (a refl)) (λ a b c d e f g h i. absurd (b refl)) (λ a b c d e f g h i. absurd (c refl)) (λ a b c d e f g h i. absurd (d refl)) (λ a b c d e f g h i. absurd (e refl))
-    (λ a b c d e f g h i. absurd (f refl)) (λ a b c d e f g h i. absurd (g refl)) (λ a b c d e f g h i. absurd (h refl)) (λ a b c d e f g h i. absurd (i refl)) (λ a b c d e f g h i. x)

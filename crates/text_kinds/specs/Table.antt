@@ -1,12 +1,12 @@
 -- The table of kinds as code holds it, flat, against the paper's lists of fields. Assumes nothing.
 use Rattle.std.specs.Prelude.{◌+◌, ◌-◌, ◌<◌, ◌≤◌, ◌≡◌, ◌||◌}
 use Rattle.whole.specs.Plain.{ℕ, zero, suc, sym, Bool, true, false, not, cond, List, ℤ}
-use Rattle.whole.specs.Plain.{get_or, length, ltb, lt-ltb, le-ltb, not-false, add-zero, arith, Words, z, word, between, count}
+use Rattle.whole.specs.Plain.{get_or, get_or-map, length, length-map, map, ltb, lt-ltb, le-ltb, not-false, add-zero, arith, Words, z, word, between, count}
 use Rattle.std.proofs.Math.Nat.{sub-zero}
 use Rattle.std.proofs.Common.{add-one, one-add}
 use Rattle.whole.specs.Folds.{or_left, or_right}
-use Rattle.whole.specs.Tables.{table, table_at}
 use Rattle.paper.specs.Rows.{Field, fields_of}
+use Rattle.text_kinds.specs.declared.Range.{Range}
 
 -- how many fields of a kind name a node
 unfoldable pub names_of : ℕ → ℕ
@@ -18,20 +18,20 @@ low k i = (get_or (fields_of k) i (record { names = false; low = z; high = z }))
 unfoldable pub high : ℕ → ℕ → ℤ
 high k i = (get_or (fields_of k) i (record { names = false; low = z; high = z })).high
 
--- the ends of a kind's fields, as code holds them
-unfoldable pub lows_of : ℕ → List ℤ
-lows_of k = table 5 (low k)
+-- the ranges of a kind's fields, as code holds them
+abbrev pub range_of : Field → Range
+range_of f = record { low = f.low; high = f.high }
 
-unfoldable pub highs_of : ℕ → List ℤ
-highs_of k = table 5 (high k)
+unfoldable pub ranges_of : ℕ → List Range
+ranges_of k = map range_of (fields_of k)
 
-pub low_at : (k i : ℕ) → i < 5 → get_or (lows_of k) i z ≡ low k i
-unfolding lows_of
-low_at k i h = table_at 5 (low k) z i h
+pub ranges_count : (k : ℕ) → length (ranges_of k) ≡ length (fields_of k)
+unfolding ranges_of
+ranges_count k = length-map (fields_of k) range_of
 
-pub high_at : (k i : ℕ) → i < 5 → get_or (highs_of k) i z ≡ high k i
-unfolding highs_of
-high_at k i h = table_at 5 (high k) z i h
+pub range_at : (k i : ℕ) → get_or (ranges_of k) i (record { low = z; high = z }) ≡ record { low = low k i; high = high k i }
+unfolding ranges_of low high
+range_at k i = get_or-map range_of (fields_of k) i (record { names = false; low = z; high = z })
 
 -- n fields from the place i on, one of them out of its range
 unfoldable pub any_outside : ℕ → ℕ → ℕ → Words → Bool

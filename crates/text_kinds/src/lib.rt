@@ -1,126 +1,150 @@
 #![tactic(auto)]
 
-// The table of kinds: study, R, L, C, LINE, SW, VS, IS, VC, SWT, kinds 0 to 9. A kind's fields that name a node are its first.
-ghost use Rattle.std.specs.Prelude.{◌<◌, ◌≡◌};
+// The table of kinds: the ranges of each kind's fields, of which those that name a node come first.
+ghost use Rattle.std.specs.Prelude.{◌≡◌};
 ghost use Rattle.whole.specs.Plain.{length, between};
+ghost use Rattle.paper.specs.Kinds.{number};
 ghost use Rattle.paper.specs.Rows.{fields_of};
-ghost use Rattle.text_kinds.specs.Table.{names_of, lows_of, highs_of, in_range};
+ghost use Rattle.text_kinds.specs.Table.{names_of, ranges_of, in_range};
 
 use paper::{
-    Balance, Farads, Frequency, Henries, Injection, Node, Ohms, Rise, Start, StepLength, Steps,
-    Switching, Travel, Voltage,
+    Balance, Farads, Frequency, Henries, Injection, Kind, Node, Ohms, Rise, Start, StepLength,
+    Steps, Switching, Travel, Voltage,
 };
 
-// Each is a match and no constant array, which would be laid out anew at each use.
-pub fn fields(kind: usize) -> usize
-    requires { kind < 10 }
-    ensures { result ≡ length (fields_of kind) }
-{
-    match kind {
-        4 => 4,
-        5 => 5,
-        6 => 4,
-        7 => 4,
-        8 => 4,
-        9 => 5,
-        _ => 3,
+// The least that a field may be, and the most.
+#[derive(Clone, Copy)]
+pub struct Range {
+    pub low: i64,
+    pub high: i64,
+}
+
+impl Range {
+    pub fn holds(&self, x: i64) -> bool
+        ensures { result ≡ between self.now.low self.now.high x }
+    {
+        (self.low <= x) & (x <= self.high)
     }
 }
 
-pub fn names(kind: usize) -> usize
-    requires { kind < 10 }
-    ensures { result ≡ names_of kind }
+const STEP_LENGTH: Range = Range {
+    low: StepLength::MIN,
+    high: StepLength::MAX,
+};
+
+const STEPS: Range = Range {
+    low: Steps::MIN,
+    high: Steps::MAX,
+};
+
+const LIMIT: Range = Range {
+    low: Balance::MIN,
+    high: Balance::MAX,
+};
+
+const NODE: Range = Range {
+    low: Node::MIN,
+    high: Node::MAX,
+};
+
+const OHMS: Range = Range {
+    low: Ohms::MIN,
+    high: Ohms::MAX,
+};
+
+const HENRIES: Range = Range {
+    low: Henries::MIN,
+    high: Henries::MAX,
+};
+
+const FARADS: Range = Range {
+    low: Farads::MIN,
+    high: Farads::MAX,
+};
+
+const TRAVEL: Range = Range {
+    low: Travel::MIN,
+    high: Travel::MAX,
+};
+
+const SWITCHING: Range = Range {
+    low: Switching::MIN,
+    high: Switching::MAX,
+};
+
+const VOLTAGE: Range = Range {
+    low: Voltage::MIN,
+    high: Voltage::MAX,
+};
+
+const INJECTION: Range = Range {
+    low: Injection::MIN,
+    high: Injection::MAX,
+};
+
+const START: Range = Range {
+    low: Start::MIN,
+    high: Start::MAX,
+};
+
+const RISE: Range = Range {
+    low: Rise::MIN,
+    high: Rise::MAX,
+};
+
+const FREQUENCY: Range = Range {
+    low: Frequency::MIN,
+    high: Frequency::MAX,
+};
+
+// The range of each field of a kind.
+#[tactic(auto, unfolding(crate::specs::Table::ranges_of, paper::specs::Rows::fields_of, paper::specs::Rows::kinds, paper::specs::Rows::bytes))]
+pub fn ranges(kind: Kind) -> &'static [Range]
+    ensures { result.now ≡ ranges_of (number kind) }
 {
     match kind {
-        0 => 0,
-        6 => 1,
-        7 => 1,
-        8 => 1,
+        Kind::Study => &[STEP_LENGTH, STEPS, LIMIT],
+        Kind::R => &[NODE, NODE, OHMS],
+        Kind::L => &[NODE, NODE, HENRIES],
+        Kind::C => &[NODE, NODE, FARADS],
+        Kind::Line => &[NODE, NODE, OHMS, TRAVEL],
+        Kind::Sw => &[NODE, NODE, OHMS, SWITCHING, SWITCHING],
+        Kind::Vs => &[NODE, VOLTAGE, START, RISE],
+        Kind::Is => &[NODE, INJECTION, START, RISE],
+        Kind::Vc => &[NODE, VOLTAGE, START, FREQUENCY],
+        Kind::Swt => &[NODE, NODE, OHMS, SWITCHING, SWITCHING],
+    }
+}
+
+// How many fields a kind has.
+#[tactic(auto, using(crate::specs::Table::ranges_count))]
+pub fn fields(kind: Kind) -> usize
+    ensures { result ≡ length (fields_of (number kind)) }
+{
+    ranges(kind).len()
+}
+
+// How many of them name a node.
+#[tactic(auto, unfolding(crate::specs::Table::names_of, paper::specs::Rows::fields_of, paper::specs::Rows::kinds, paper::specs::Rows::bytes, whole::specs::Lists::count))]
+pub fn names(kind: Kind) -> usize
+    ensures { result ≡ names_of (number kind) }
+{
+    match kind {
+        Kind::Study => 0,
+        Kind::Vs | Kind::Is | Kind::Vc => 1,
         _ => 2,
     }
 }
 
-// The least that each field of a kind may be, and the most.
-pub fn lows(kind: usize) -> [i64; 5]
-    requires { kind < 10 }
-    ensures { result ≡ lows_of kind }
-{
-    match kind {
-        0 => [StepLength::MIN, Steps::MIN, Balance::MIN, 0, 0],
-        1 => [Node::MIN, Node::MIN, Ohms::MIN, 0, 0],
-        2 => [Node::MIN, Node::MIN, Henries::MIN, 0, 0],
-        3 => [Node::MIN, Node::MIN, Farads::MIN, 0, 0],
-        4 => [Node::MIN, Node::MIN, Ohms::MIN, Travel::MIN, 0],
-        5 => [
-            Node::MIN,
-            Node::MIN,
-            Ohms::MIN,
-            Switching::MIN,
-            Switching::MIN,
-        ],
-        6 => [Node::MIN, Voltage::MIN, Start::MIN, Rise::MIN, 0],
-        7 => [Node::MIN, Injection::MIN, Start::MIN, Rise::MIN, 0],
-        8 => [Node::MIN, Voltage::MIN, Start::MIN, Frequency::MIN, 0],
-        _ => [
-            Node::MIN,
-            Node::MIN,
-            Ohms::MIN,
-            Switching::MIN,
-            Switching::MIN,
-        ],
-    }
-}
-
-fn highs(kind: usize) -> [i64; 5]
-    requires { kind < 10 }
-    ensures { result ≡ highs_of kind }
-{
-    match kind {
-        0 => [StepLength::MAX, Steps::MAX, Balance::MAX, 0, 0],
-        1 => [Node::MAX, Node::MAX, Ohms::MAX, 0, 0],
-        2 => [Node::MAX, Node::MAX, Henries::MAX, 0, 0],
-        3 => [Node::MAX, Node::MAX, Farads::MAX, 0, 0],
-        4 => [Node::MAX, Node::MAX, Ohms::MAX, Travel::MAX, 0],
-        5 => [
-            Node::MAX,
-            Node::MAX,
-            Ohms::MAX,
-            Switching::MAX,
-            Switching::MAX,
-        ],
-        6 => [Node::MAX, Voltage::MAX, Start::MAX, Rise::MAX, 0],
-        7 => [Node::MAX, Injection::MAX, Start::MAX, Rise::MAX, 0],
-        8 => [Node::MAX, Voltage::MAX, Start::MAX, Frequency::MAX, 0],
-        _ => [
-            Node::MAX,
-            Node::MAX,
-            Ohms::MAX,
-            Switching::MAX,
-            Switching::MAX,
-        ],
-    }
-}
-
-fn within(low: i64, high: i64, x: i64) -> bool
-    ensures { result ≡ between low high x }
-{
-    (low <= x) & (x <= high)
-}
-
 // How many of a kind's fields, from the first on, are in their ranges: all of them, or those before the first that is not.
-pub fn in_range(kind: usize, row: [i64; 8]) -> usize
-    requires { kind < 10 }
-    ensures { result ≡ in_range kind row }
+pub fn in_range(kind: Kind, row: [i64; 8]) -> usize
+    ensures { result ≡ in_range (number kind) row }
 {
-    let low = lows(kind);
-    let high = highs(kind);
-    let end = fields(kind);
-    let mut i = 0;
-    while i < end {
-        if !within(low[i], high[i], row[1 + i]) {
+    let all = ranges(kind);
+    for (i, range) in all.iter().enumerate() {
+        if !range.holds(row[1 + i]) {
             return i;
         }
-        i += 1;
     }
-    end
+    all.len()
 }

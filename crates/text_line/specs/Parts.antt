@@ -1,8 +1,9 @@
 -- The lines of a text and the fields of a line, as a reader meets them: the bytes up to the next LF, or up to the next tab or LF. Assumes nothing.
-use Rattle.std.specs.Prelude.{◌+◌, ◌≤◌, ◌<◌, ◌≡◌, ◌||◌, ◌∷◌}
-use Rattle.whole.specs.Plain.{ℕ, suc, refl, ap, Bool, true, false, cond, List, [], eqb}
-use Rattle.whole.specs.Plain.{get_or, length, drop, take, drop-cons, eqb-true, arith, any}
-use Rattle.std.proofs.Common.{add-one}
+use Rattle.std.specs.List.{position_or_len}
+use Rattle.std.specs.Prelude.{position, Option, Some, None}
+use Rattle.std.specs.Prelude.{◌+◌, ◌≤◌, ◌≡◌, ◌||◌, ◌∷◌}
+use Rattle.whole.specs.Plain.{ℕ, suc, refl, sym, ◌∙◌, ap, Bool, true, false, not, cond, ltb, ltb-false, List, [], eqb}
+use Rattle.whole.specs.Plain.{length, drop, take, eqb-true, arith, any}
 use Rattle.whole.specs.Folds.{or_left, or_right}
 use Rattle.paper.specs.Text.{LF, TAB, split, cut, push}
 
@@ -51,14 +52,25 @@ module _ (stop : ℕ → Bool) where
   before_length [] = omega arith
   before_length (b ∷ t) = elim (stop b) as (λ e. length (kept e b (before stop t)) ≤ suc (length t)) [ true ↦ omega arith | false ↦ omega (arith, before_length t) ]
 
-  -- one byte more of a text
-  pub before_here : (s : List ℕ) (i : ℕ) → i < length s → stop (get_or s i 0) ≡ true → length (before stop (drop i s)) ≡ 0
+  -- the first byte that stops, as a place
+  place_is : (s : List ℕ) → position_or_len stop s ≡ length (before stop s)
   unfolding before
-  before_here s i h e = rw (drop-cons s i 0 h, e)
+  place_is [] = refl
+  place_is (b ∷ t) = elim (stop b) as (λ e. cond (not e) (1 + position_or_len stop t) 0 ≡ length (kept e b (before stop t))) [ true ↦ refl | false ↦ omega (arith, place_is t) ]
 
-  pub before_next : (s : List ℕ) (i : ℕ) → i < length s → stop (get_or s i 0) ≡ false → length (before stop (drop i s)) ≡ suc (length (before stop (drop (i + 1) s)))
-  unfolding before
-  before_next s i h e = rw (add-one, drop-cons s i 0 h, e)
+  pub place_some : (s : List ℕ) (n : ℕ) → position stop s ≡ Some n → n ≡ length (before stop s)
+  place_some s n e = go (ltb (position_or_len stop s) (length s)) e
+    where
+      go : (t : Bool) → ◌≡◌ {A = Option ℕ} (cond t (Some (position_or_len stop s)) None) (Some n) → n ≡ length (before stop s)
+      go true q = let p : position_or_len stop s ≡ n = cc in sym p ∙ place_is s
+      go false q = cc
+
+  pub place_none : (s : List ℕ) → position stop s ≡ None → length s ≡ length (before stop s)
+  place_none s e = omega (arith, go (ltb (position_or_len stop s) (length s)) refl e, place_is s, before_length s)
+    where
+      go : (t : Bool) → ltb (position_or_len stop s) (length s) ≡ t → ◌≡◌ {A = Option ℕ} (cond t (Some (position_or_len stop s)) None) None → length s ≤ position_or_len stop s
+      go true f q = cc
+      go false f q = ltb-false _ _ f
 
   pub before_taken : (s : List ℕ) → take (length (before stop s)) s ≡ before stop s
   unfolding before

@@ -1,48 +1,59 @@
 -- A line, as far as it is read. Assumes nothing.
-use Rattle.std.specs.Prelude.{◌+◌, ◌-◌, ◌≤◌, ◌<◌, ◌≡◌, ◌&&◌, ◌∷◌}
-use Rattle.whole.specs.Plain.{ℕ, refl, sym, ◌∙◌, ap, Bool, true, false, not, cond}
-use Rattle.whole.specs.Plain.{false≢true, List, [], leb, eqb, ℤ, pos, lt_z, get_or, length, drop, take, set}
-use Rattle.whole.specs.Plain.{replicate, length-drop, drop_of_length-le, drop-cons, le-leb, lt-leb, not-true, not-false}
+use Rattle.std.specs.Prelude.{Option, Some, None, ◌+◌, ◌-◌, ◌≤◌, ◌<◌, ◌≡◌, ◌∷◌}
+use Rattle.whole.specs.Plain.{ℕ, zero, suc, refl, sym, ◌∙◌, ap, Bool, true, false, cond}
+use Rattle.whole.specs.Plain.{false≢true, List, [], leb, ℤ, pos, lt_z, length, drop, take, set}
+use Rattle.whole.specs.Plain.{replicate, length-drop, le-leb, lt-leb}
 use Rattle.whole.specs.Plain.{arith, z}
-use Rattle.whole.specs.Folds.{and_right}
-use Rattle.whole.specs.Turns.{turns}
+use Rattle.std.proofs.Common.{add-one}
+use Rattle.paper.specs.declared.kinds.Kind.{Kind}
+use Rattle.paper.specs.Kinds.{number, kind_by, number_by, number_few, none_by}
 use Rattle.paper.specs.Rows.{kinds, fields_of}
 use Rattle.paper.specs.Text.{LF, TAB, place_of}
 use Rattle.text_kinds.specs.Table.{low}
-use Rattle.text_words.specs.declared.Number.{Number}
 use Rattle.text_words.specs.Numbers.{read_number}
 use Rattle.text_line.specs.declared.Walk.{Walk}
 use Rattle.text_line.specs.Parts.{ends, field_of, starts_with, before_length, before_taken}
 
--- a line that is not well formed
-abbrev pub stopped : Walk → Walk
-stopped w = record { ok = false; at = w.at; row = w.row }
+-- what is left to do, where all went well so far
+abbrev pub next : {A B : Type 0} → Option A → (A → Option B) → Option B
+next None f = None
+next (Some a) f = f a
 
--- the field i of a line of a kind, after its tab
-abbrev pub taken : List ℕ → ℕ → ℕ → Walk → Walk
-taken s k i w =
-    let p = field_of (drop (w.at + 1) s) in
-    let n = read_number (lt_z (low k i) z) p in
-    record { ok = n.ok; at = w.at + 1 + length p; row = set w.row (1 + i) n.value }
+-- a number as the field i of a row
+abbrev pub laid : Walk → ℕ → ℕ → ℤ → Option Walk
+laid w i end x = Some (record { at = end; row = set w.row (1 + i) x })
 
-unfoldable pub field_at : List ℕ → ℕ → ℕ → Walk → Walk
-field_at s k i w = cond (w.ok && starts_with TAB (drop w.at s)) (taken s k i w) (stopped w)
+-- the field i of a line, of a least value, after its tab
+abbrev pub taken : List ℕ → ℤ → ℕ → Walk → Option Walk
+taken s l i w = let p = field_of (drop (w.at + 1) s) in next (read_number (lt_z l z) p) (laid w i (w.at + 1 + length p))
 
-unfoldable pub fields_at : List ℕ → ℕ → Walk → Walk
-fields_at s k w = turns 0 (length (fields_of k)) (field_at s k) w
+unfoldable pub field_at : List ℕ → ℤ → ℕ → Walk → Option Walk
+field_at s l i w = cond (starts_with TAB (drop w.at s)) (taken s l i w) None
+
+-- the field i of a line of a kind
+abbrev pub turn : List ℕ → ℕ → ℕ → Walk → Option Walk
+turn s k i = field_at s (low k i) i
+
+-- n fields from the field i on
+unfoldable pub fields_from_at : List ℕ → ℕ → ℕ → ℕ → Walk → Option Walk
+fields_from_at s k zero i w = Some w
+fields_from_at s k (suc n) i w = next (turn s k i w) (fields_from_at s k n (suc i))
+
+unfoldable pub fields_at : List ℕ → ℕ → Walk → Option Walk
+fields_at s k w = fields_from_at s k (length (fields_of k)) 0 w
 
 -- the word, with its kind as the row's first word
 abbrev pub worded : List ℕ → ℕ → ℕ → Walk
-worded s at k = record { ok = true; at = at + length (field_of (drop at s)); row = set (replicate 8 z) 0 (pos k) }
+worded s at k = record { at = at + length (field_of (drop at s)); row = set (replicate 8 z) 0 (pos k) }
 
 -- the LF
-abbrev pub closed : List ℕ → Walk → Walk
-closed s w = record { ok = w.ok && starts_with LF (drop w.at s); at = w.at; row = w.row }
+abbrev pub ended_at : List ℕ → Walk → Option Walk
+ended_at s w = cond (starts_with LF (drop w.at s)) (Some w) None
 
-abbrev pub line_of_kind : List ℕ → ℕ → ℕ → Walk
-line_of_kind s at k = cond (leb 10 k) (record { ok = false; at = at; row = replicate 8 z }) (closed s (fields_at s k (worded s at k)))
+abbrev pub line_of_kind : List ℕ → ℕ → ℕ → Option Walk
+line_of_kind s at k = cond (leb 10 k) None (next (fields_at s k (worded s at k)) (ended_at s))
 
-unfoldable pub line_at : List ℕ → ℕ → Walk
+unfoldable pub line_at : List ℕ → ℕ → Option Walk
 line_at s at = line_of_kind s at (place_of 0 kinds (field_of (drop at s)))
 
 -- ---- the next byte stays within the text
@@ -55,19 +66,7 @@ starts_in b s at e =
 pub word_in : (s : List ℕ) (at : ℕ) → at ≤ length s → at + length (field_of (drop at s)) ≤ length s
 word_in s at h = omega (arith, before_length ends (drop at s), length-drop at s)
 
-pub field_in : (s : List ℕ) (k i : ℕ) (w : Walk) → w.at ≤ length s → (field_at s k i w).at ≤ length s
-unfolding field_at
-field_in s k i w h =
-    elim (w.ok && starts_with TAB (drop w.at s)) as (λ t. (w.ok && starts_with TAB (drop w.at s)) ≡ t → (cond t (taken s k i w) (stopped w)).at ≤ length s)
-    [ true ↦ λ e. word_in s (w.at + 1) (omega (arith, starts_in TAB s w.at (and_right w.ok (starts_with TAB (drop w.at s)) e))) | false ↦ λ e. h ] refl
-
 -- ---- the ways through the code
-
-pub starts_at : (b : ℕ) (s : List ℕ) (at : ℕ) → at < length s → eqb (get_or s at 0) b ≡ starts_with b (drop at s)
-starts_at b s at h = rw (drop-cons s at 0 h)
-
-pub starts_past : (b : ℕ) (s : List ℕ) (at : ℕ) → length s ≤ at → false ≡ starts_with b (drop at s)
-starts_past b s at h = rw (drop_of_length-le s h)
 
 -- the part from the start of a field to its end
 part_is : (s : List ℕ) (start end : ℕ) → end ≡ start + length (field_of (drop start s)) → take (end - start) (drop start s) ≡ field_of (drop start s)
@@ -75,30 +74,58 @@ part_is s start end e =
     let n : end - start ≡ length (field_of (drop start s)) = omega arith in
     rw n (before_taken ends (drop start s))
 
-module _ (s : List ℕ) (k i : ℕ) (w : Walk) where
-  pub field_none : {t : Bool} → t ≡ starts_with TAB (drop w.at s) → not (w.ok && t) ≡ true → stopped w ≡ field_at s k i w
+abbrev at_of : Option Walk → ℕ
+at_of None = 0
+at_of (Some w) = w.at
+
+module _ (s : List ℕ) (l : ℤ) (i : ℕ) (w : Walk) where
+  pub field_none : {t : Bool} → t ≡ starts_with TAB (drop w.at s) → t ≡ false → None ≡ field_at s l i w
   unfolding field_at
-  field_none e n = rw (sym (ap (λ (b : Bool). w.ok && b) e) ∙ not-true _ n)
+  field_none e n = rw (sym e ∙ n)
 
-  pub field_read : {t : Bool} {l : ℤ} {end : ℕ} {n : Number} → t ≡ starts_with TAB (drop w.at s) → not (w.ok && t) ≡ false
-      → end ≡ w.at + 1 + length (field_of (drop (w.at + 1) s)) → l ≡ low k i → n ≡ read_number (lt_z l z) (take (end - (w.at + 1)) (drop (w.at + 1) s))
-      → ◌≡◌ {A = Walk} (record { ok = n.ok; at = end; row = set w.row (1 + i) n.value }) (field_at s k i w)
+  pub field_read : {t : Bool} {end : ℕ} {m : ℤ} {n : Option ℤ} → t ≡ starts_with TAB (drop w.at s) → t ≡ true
+      → end ≡ w.at + 1 + length (field_of (drop (w.at + 1) s)) → m ≡ l → n ≡ read_number (lt_z m z) (take (end - (w.at + 1)) (drop (w.at + 1) s))
+      → next n (laid w i end) ≡ field_at s l i w
   unfolding field_at
-  field_read {t} {l} {end} {n} e f g h j =
-      rw (sym (ap (λ (b : Bool). w.ok && b) e) ∙ not-false _ f, j, h, part_is s (w.at + 1) end g, g)
+  field_read {t} {end} {m} {n} e f g h j =
+      rw (sym e ∙ f, j, h, part_is s (w.at + 1) end g, g)
 
-  pub tab_in : {t : Bool} → t ≡ starts_with TAB (drop w.at s) → not (w.ok && t) ≡ false → w.at < length s
-  tab_in {t} e f = starts_in TAB s w.at (sym e ∙ and_right w.ok t (not-false _ f))
+  pub tab_in : {t : Bool} → t ≡ starts_with TAB (drop w.at s) → t ≡ true → w.at < length s
+  tab_in {t} e f = starts_in TAB s w.at (sym e ∙ f)
 
-module _ (s : List ℕ) (at : ℕ) {end k : ℕ} (e : end ≡ at + length (field_of (drop at s))) (f : k ≡ place_of 0 kinds (take (end - at) (drop at s))) where
-  kind_is_lem : k ≡ place_of 0 kinds (field_of (drop at s))
-  kind_is_lem = f ∙ ap (place_of 0 kinds) (part_is s at end e)
+  taken_at : (n : Option ℤ) {end : ℕ} {v : Walk} → next n (laid w i end) ≡ Some v → v.at ≡ end
+  taken_at None e = cc
+  taken_at (Some x) e = ap (λ (o : Option Walk). at_of o) (sym e)
 
-  pub line_none : 10 ≤ k → ◌≡◌ {A = Walk} (record { ok = false; at = at; row = replicate 8 z }) (line_at s at)
+  pub field_in : w.at ≤ length s → {v : Walk} → field_at s l i w ≡ Some v → v.at ≤ length s
+  unfolding field_at
+  field_in h {v} e = go (starts_with TAB (drop w.at s)) refl e
+    where
+      go : (t : Bool) → starts_with TAB (drop w.at s) ≡ t → ◌≡◌ {A = Option Walk} (cond t (taken s l i w) None) (Some v) → v.at ≤ length s
+      go true f q = omega (arith, taken_at (read_number (lt_z l z) (field_of (drop (w.at + 1) s))) q, word_in s (w.at + 1) (omega (arith, starts_in TAB s w.at f)))
+      go false f q = cc
+
+-- a turn of the loop over the fields
+module _ (s : List ℕ) (k n i : ℕ) (w : Walk) where
+  pub fields_more : i < n → fields_from_at s k (n - i) i w ≡ next (turn s k i w) (fields_from_at s k (n - (i + 1)) (i + 1))
+  unfolding fields_from_at
+  fields_more h = let d : n - i ≡ suc (n - suc i) = omega arith in rw (add-one, d)
+
+  pub fields_done : n ≤ i → fields_from_at s k (n - i) i w ≡ Some w
+  unfolding fields_from_at
+  fields_done h = let d : n - i ≡ 0 = omega arith in rw d
+
+module _ (s : List ℕ) (at : ℕ) {end : ℕ} (e : end ≡ at + length (field_of (drop at s))) where
+  kind_part : place_of 0 kinds (take (end - at) (drop at s)) ≡ place_of 0 kinds (field_of (drop at s))
+  kind_part = ap (place_of 0 kinds) (part_is s at end e)
+
+  pub line_none : kind_by (place_of 0 kinds (take (end - at) (drop at s))) ≡ None → None ≡ line_at s at
   unfolding line_at
-  line_none h = rw (← kind_is_lem, le-leb 10 k h)
+  line_none h = let m : 10 ≤ place_of 0 kinds (field_of (drop at s)) = none_by _ (ap kind_by (sym kind_part) ∙ h) in rw (le-leb 10 _ m)
 
-  pub line_some : k < 10 → {w : Walk} {t : Bool} → w ≡ fields_at s k (record { ok = true; at = end; row = set (replicate 8 z) 0 (pos k) }) → t ≡ starts_with LF (drop w.at s)
-      → ◌≡◌ {A = Walk} (record { ok = w.ok && t; at = w.at; row = w.row }) (line_at s at)
+  pub line_some : {k : Kind} → kind_by (place_of 0 kinds (take (end - at) (drop at s))) ≡ Some k
+      → next (fields_at s (number k) (record { at = end; row = set (replicate 8 z) 0 (pos (number k)) })) (ended_at s) ≡ line_at s at
   unfolding line_at
-  line_some h {w} {t} g j = rw (← kind_is_lem, lt-leb 10 k h, j) (ap (closed s) (g ∙ ap (λ (n : ℕ). fields_at s k (record { ok = true; at = n; row = set (replicate 8 z) 0 (pos k) })) e))
+  line_some {k} h =
+      let m : number k ≡ place_of 0 kinds (field_of (drop at s)) = number_by _ h ∙ kind_part in
+      rw (← m, lt-leb 10 (number k) (number_few k), e)

@@ -1,23 +1,28 @@
 #![tactic(auto)]
 
 // One line of the study text as a row: "Lines end in LF, the last one too; fields are parted by one tab."
-ghost use Rattle.std.specs.Prelude.{◌≤◌, ◌<◌, ◌+◌, ◌≡◌};
+ghost use Rattle.std.specs.Prelude.{◌≤◌, ◌<◌, ◌+◌, ◌≡◌, position};
 ghost use Rattle.whole.specs.Plain.{length, drop};
+ghost use Rattle.paper.specs.Kinds.{number};
 ghost use Rattle.text_line.specs.Parts.{ends, field_of, starts_with};
 ghost use Rattle.text_line.specs.Walks.{field_at, fields_at, line_at};
 
-// A line as far as it is read: whether it is well formed so far, the next byte, and the row.
+use paper::Kind;
+use text_kinds::Range;
+
+// A well-formed line as far as it is read: the next byte, and the row.
 #[derive(Clone, Copy)]
 pub struct Walk {
-    pub ok: bool,
     pub at: usize,
     pub row: [i64; 8],
 }
 
-fn is_end(b: u8) -> bool
-    ensures { result ≡ ends b }
+// The place of the first tab or LF.
+#[tactic(auto, unfolding(crate::specs::Parts::ends))]
+fn first_end(text: &[u8]) -> Option<usize>
+    ensures { result ≡ position ends text.now }
 {
-    (b == b'\t') | (b == b'\n')
+    text.iter().position(|b| (*b == b'\t') | (*b == b'\n'))
 }
 
 // The next tab or LF, or the text's end.
@@ -25,89 +30,57 @@ fn end_of(text: &[u8], at: usize) -> usize
     requires { at ≤ length text.now }
     ensures { result ≡ at + length (field_of (drop at text.now)) }
 {
-    let mut i = at;
-    while i < text.len() {
-        if is_end(text[i]) {
-            return i;
-        }
-        i += 1;
+    match first_end(&text[at..]) {
+        Some(n) => at + n,
+        None => text.len(),
     }
-    i
 }
 
 fn is_at(text: &[u8], at: usize, b: u8) -> bool
     ensures { result ≡ starts_with b (drop at text.now) }
 {
-    if at < text.len() {
-        return text[at] == b;
-    }
-    false
+    text.get(at) == Some(&b)
 }
 
-// The field i of a line of a kind: a tab and a number.
-fn field_at(text: &[u8], kind: usize, i: usize, walk: Walk) -> Walk
-    requires { (kind < 10) × ((i < 5) × (walk.at ≤ length text.now)) }
-    ensures { result ≡ field_at text.now kind i walk }
+// The field i of a line, whose range is known: a tab and a number.
+fn field_at(text: &[u8], range: Range, i: usize, walk: Walk) -> Option<Walk>
+    requires { (i < 5) × (walk.at ≤ length text.now) }
+    ensures { result ≡ field_at text.now range.low i walk }
 {
-    let at = walk.at;
-    let mut row = walk.row;
-    if !(walk.ok & is_at(text, at, b'\t')) {
-        return Walk { ok: false, at, row };
+    let Walk { at, mut row } = walk;
+    if !is_at(text, at, b'\t') {
+        return None;
     }
     let start = at + 1;
     let end = end_of(text, start);
-    let low = text_kinds::lows(kind);
-    let n = text_words::read_number(&text[start..end], low[i] < 0);
-    let value = n.value;
-    row[1 + i] = value;
-    Walk {
-        ok: n.ok,
-        at: end,
-        row,
-    }
+    row[1 + i] = text_words::read_number(&text[start..end], range.low < 0)?;
+    Some(Walk { at: end, row })
 }
 
-fn fields_at(text: &[u8], kind: usize, first: Walk) -> Walk
-    requires { (kind < 10) × (first.at ≤ length text.now) }
-    ensures { result ≡ fields_at text.now kind first }
+fn fields_at(text: &[u8], kind: Kind, first: Walk) -> Option<Walk>
+    requires { first.at ≤ length text.now }
+    ensures { result ≡ fields_at text.now (number kind) first }
 {
-    let n = text_kinds::fields(kind);
     let mut walk = first;
-    let mut i = 0;
-    while i < n {
-        let next = field_at(text, kind, i, walk);
-        walk = next;
-        i += 1;
+    for (i, range) in text_kinds::ranges(kind).iter().enumerate() {
+        walk = field_at(text, *range, i, walk)?;
     }
-    walk
+    Some(walk)
 }
 
 // The line that begins at a place, up to its LF.
-pub fn line_at(text: &[u8], at: usize) -> Walk
+pub fn line_at(text: &[u8], at: usize) -> Option<Walk>
     requires { at ≤ length text.now }
     ensures { result ≡ line_at text.now at }
 {
     let end = end_of(text, at);
-    let kind = text_words::kind_of(&text[at..end]);
-    let mut row = [0i64; 8];
-    if paper::kinds::COUNT <= kind {
-        return Walk { ok: false, at, row };
-    }
-    row[0] = kind as i64;
-    let walk = fields_at(
-        text,
-        kind,
-        Walk {
-            ok: true,
-            at: end,
-            row,
-        },
-    );
-    let last = walk.at;
-    let words = walk.row;
-    Walk {
-        ok: walk.ok & is_at(text, last, b'\n'),
-        at: last,
-        row: words,
+    let kind = text_words::kind_of(&text[at..end])?;
+    let mut row = [0; 8];
+    row[0] = kind.number() as i64;
+    let walk = fields_at(text, kind, Walk { at: end, row })?;
+    if is_at(text, walk.at, b'\n') {
+        Some(walk)
+    } else {
+        None // its LF is missing
     }
 }

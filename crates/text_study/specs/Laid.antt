@@ -1,10 +1,9 @@
 -- One row more in the record: its eight words in their place, and the number of rows. Assumes nothing.
 use Rattle.std.specs.Prelude.{◌+◌, ◌*◌, ◌-◌, ◌≤◌, ◌<◌, ◌≡◌, ◌∷◌, ◌++◌}
-use Rattle.whole.specs.Plain.{ℕ, suc, refl, sym, ◌∙◌, ap, cond, List, []}
-use Rattle.whole.specs.Plain.{append_assoc, append-nil, ℤ, pos, get_or, length, drop, take, set, replicate, length-append}
-use Rattle.whole.specs.Plain.{length-replicate, take-suc, length-take-le, sets, sets-eq, take_at, drop-append-add}
+use Rattle.whole.specs.Plain.{ℕ, refl, sym, ◌∙◌, ap, cond, List, []}
+use Rattle.whole.specs.Plain.{append_assoc, append-nil, ℤ, pos, length, drop, set, replicate, length-append}
+use Rattle.whole.specs.Plain.{length-replicate, sets, sets-eq, take_at, drop-append-add}
 use Rattle.whole.specs.Plain.{set-append_left, arith, Words, z, word, filled}
-use Rattle.std.proofs.Common.{add-one}
 use Rattle.whole.specs.Filled.{length_filled}
 use Rattle.paper.specs.Rows.{Row, is_study}
 use Rattle.paper.specs.Network.{laid, network_of}
@@ -19,16 +18,6 @@ put_study w l = set (set (set l 0 (word w 1)) 1 (word w 2)) 2 (word w 3)
 
 unfoldable pub put_line : ℕ → Words → Words → Words
 put_line n w l = cond (is_study w) (put_study w l) (put_row n w l)
-
--- one word more
-sets_last : (l : Words) (p : ℕ) (w : Words) (x : ℤ) → sets l p (w ++ (x ∷ [])) ≡ set (sets l p w) (p + length w) x
-sets_last l p [] x = let e : p ≡ p + 0 = omega arith in ap (λ (j : ℕ). set l j x) e
-sets_last l p (y ∷ w) x = let e : suc p + length w ≡ p + suc (length w) = omega arith in sets_last (set l p y) (suc p) w x ∙ ap (λ (j : ℕ). set (sets (set l p y) (suc p) w) j x) e
-
-pub sets_more : (l : Words) (p : ℕ) (w : Words) (i : ℕ) → i < length w → sets l p (take (i + 1) w) ≡ set (sets l p (take i w)) (p + i) (get_or w i z)
-sets_more l p w i h =
-    let e : length (take i w) ≡ i = length-take-le i w (let g : i ≤ length w = omega arith in g) in
-    ap (sets l p) (ap (λ (j : ℕ). take j w) (add-one i) ∙ take-suc w i z h) ∙ sets_last l p (take i w) (get_or w i z) ∙ ap (λ (j : ℕ). set (sets l p (take i w)) (p + j) (get_or w i z)) e
 
 -- ---- rows laid one after the other
 

@@ -1,5 +1,5 @@
 -- The text as far as it is read. Assumes nothing.
-use Rattle.std.specs.Prelude.{◌+◌, ◌*◌, ◌≤◌, ◌<◌, ◌≡◌, ◌&&◌, ◌∷◌, ◌++◌}
+use Rattle.std.specs.Prelude.{Result, Ok, Err, ◌+◌, ◌*◌, ◌≤◌, ◌<◌, ◌≡◌, ◌∷◌, ◌++◌}
 use Rattle.whole.specs.Plain.{ℕ, suc, refl, sym, ◌∙◌, ap, Bool, true, false, cond}
 use Rattle.whole.specs.Plain.{bool_beq, true≢false, List, [], tail, eqb, get_or, length, drop, replicate}
 use Rattle.whole.specs.Plain.{length-append, length-replicate, eqb-true, eqb-false, arith, Words, z, empty, filled}
@@ -13,18 +13,18 @@ use Rattle.text_faults.specs.declared.Seen.{Seen}
 use Rattle.text_faults.specs.Seen.{nothing_seen, seen_fault, seen_after}
 use Rattle.text_faults.specs.Stands.{Stands, stands_none}
 use Rattle.text_line.specs.declared.Walk.{Walk}
+use Rattle.text_faults.specs.declared.rows.Row.{Row}
+use Rattle.paper.specs.Faulted.{fault_number}
 use Rattle.text_study.specs.declared.Progress.{Progress}
+use Rattle.text_study.specs.declared.BadLine.{BadLine}
 use Rattle.text_study.specs.Laid.{put_line, put_row_lem, put_study_lem, laid_one, network_none}
 use Rattle.text_study.specs.Texts.{lines_from, from_start, spelled}
 use Rattle.text_study.specs.Held.{held_row}
 use Rattle.text_study.specs.Rows as Line
 
--- 1, or the row's fault
+-- the fault of a well-formed line: 1, or its row's
 unfoldable pub fault_seen : Walk → Seen → Bool → ℕ
-fault_seen w s first = cond (w.ok && bool_beq first (is_study w.row)) (seen_fault s w.row) 1
-
-unfoldable pub closed_up : Progress → Progress
-closed_up p = cond (eqb p.fault 0 && eqb p.line 1) (record { at = p.at; line = p.line; fault = 1; seen = p.seen }) p
+fault_seen w s first = cond (bool_beq first (is_study w.row)) (seen_fault s w.row) 1
 
 -- how many rows there are, and how they lie
 pub record Kept (s : Seen) (t : Table) : Type 0 where
@@ -32,7 +32,7 @@ pub record Kept (s : Seen) (t : Table) : Type 0 where
   pub wide : length (laid (tail t)) ≡ 8 * length (tail t)
   pub head : empty t ≡ false → length (get_or t 0 []) ≡ 4
 
--- no fault so far: what the lines before have given
+-- what the lines before have given
 pub record Fine (text : List ℕ) (p : Progress) (net : Words) : Type 0 where
   pub t : Table
   pub line : p.line ≡ line_number t
@@ -45,8 +45,7 @@ pub record State (text : List ℕ) (p : Progress) (net : Words) : Type 0 where
   pub inside : p.at ≤ length text
   pub lines : p.line ≤ suc p.at
   pub wide : length net ≡ 1024
-  pub fine : p.fault ≡ 0 → Fine text p net
-  pub faulty : (p.fault ≡ 0 → ⊥) → lines_of text ≡ bad p.line p.fault
+  pub fine : Fine text p net
 
 -- the whole text
 pub record Accepted (ls : Lines) (net : Words) : Type 0 where
@@ -54,13 +53,27 @@ pub record Accepted (ls : Lines) (net : Words) : Type 0 where
   pub lines : ls ≡ good t
   pub written : net ≡ network_of t
 
-pub record Ends (ls : Lines) (p : Progress) (net : Words) : Type 0 where
-  pub accepted : p.fault ≡ 0 → Accepted ls net
-  pub refused : (p.fault ≡ 0 → ⊥) → ls ≡ bad p.line p.fault
+-- the first faulty line
+abbrev pub Faulty : Lines → BadLine → Type 0
+Faulty ls b = ls ≡ bad b.line (fault_number b.fault)
+
+abbrev pub Ends : Lines → Result (Unit {0}) BadLine → Words → Type 0
+Ends ls (Ok u) net = Accepted ls net
+Ends ls (Err b) net = Faulty ls b
+
+-- a well-formed line's row where it has no fault, or its fault
+abbrev pub Rows : Walk → Seen → ℕ → Result Row BadLine → Type 0
+Rows w s line (Ok r) = (r.words ≡ w.row) × (fault_seen w s (eqb line 1) ≡ 0)
+Rows w s line (Err b) = (b.line ≡ line) × (fault_number b.fault ≡ fault_seen w s (eqb line 1))
+
+-- one line more, or the first faulty one
+abbrev pub Next : List ℕ → Progress → Result Progress BadLine → Words → Type 0
+Next text p (Ok r) net = State text r net × (p.at < r.at)
+Next text p (Err b) net = Faulty (lines_of text) b
 
 -- ---- before the first line
 
-pub started : (text : List ℕ) (net : Words) → net ≡ replicate 1024 z → State text (record { at = 0; line = 1; fault = 0; seen = nothing_seen }) net
+pub started : (text : List ℕ) (net : Words) → net ≡ replicate 1024 z → State text (record { at = 0; line = 1; seen = nothing_seen }) net
 unfolding laid
 started text net e =
     let none : Kept nothing_seen [] = record { rows = refl; wide = refl; head = λ e. absurd (true≢false e) } in
@@ -68,8 +81,7 @@ started text net e =
       inside = omega arith;
       lines = omega arith;
       wide = rw e (length-replicate 1024 z);
-      fine = λ _. record { t = []; line = refl; stands = stands_none; kept = none; written = e ∙ sym network_none; rest = from_start text };
-      faulty = λ n. absurd (n refl);
+      fine = record { t = []; line = refl; stands = stands_none; kept = none; written = e ∙ sym network_none; rest = from_start text };
     }
 
 -- ---- a line without fault

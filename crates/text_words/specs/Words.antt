@@ -1,46 +1,22 @@
 -- The words of the study text. Assumes nothing.
-use Rattle.std.specs.Prelude.{◌+◌, ◌≤◌, ◌<◌, ◌≡◌, ◌&&◌, ◌∷◌}
-use Rattle.whole.specs.Plain.{ℕ, suc, refl, sym, ◌∙◌, ap, Bool, true, false, cond, List, []}
-use Rattle.whole.specs.Plain.{eqb, get_or, length, drop, drop_of_length-le, drop-cons, eq-eqb, ne_eqb, arith}
+use Rattle.std.specs.Prelude.{Option, Some, None, ◌≤◌, ◌≡◌, ◌&&◌, ◌∷◌}
+use Rattle.std.specs.Cmp.Lexicographic.{pointwise}
+use Rattle.whole.specs.Plain.{ℕ, suc, refl, sym, ◌∙◌, ap, Bool, cond, List, []}
+use Rattle.whole.specs.Plain.{eqb, get_or, length, ne_eqb, arith}
 use Rattle.whole.specs.Plain.{same_bytes}
-use Rattle.std.proofs.Common.{add-one}
-use Rattle.whole.specs.Tables.{table, table_at}
 use Rattle.whole.specs.Truths.{and-false}
 use Rattle.paper.specs.Rows.{bytes, kinds, word_of}
 use Rattle.paper.specs.Text.{place_of}
-use Rattle.paper.proofs.Kept.{either}
-use Rattle.text_kinds.specs.Fields.{each}
+use Rattle.paper.specs.declared.kinds.Kind.{Kind}
+use Rattle.paper.specs.Kinds.{number}
 
--- ---- the letters of a kind's word, as code holds them
-
-unfoldable pub letters_of : ℕ → List ℕ
-letters_of k = table 5 (λ i. get_or (word_of k) i 0)
-
-pub letter_at : (k i : ℕ) → i < 5 → get_or (letters_of k) i 0 ≡ get_or (word_of k) i 0
-unfolding letters_of
-letter_at k i h = table_at 5 (λ i. get_or (word_of k) i 0) 0 i h
-
-pub word_short : (k : ℕ) → k < 10 → length (word_of k) ≤ 5
-unfolding word_of kinds bytes
-word_short = each (λ k. length (word_of k) ≤ 5) (omega arith) (omega arith) (omega arith) (omega arith) (omega arith) (omega arith) (omega arith) (omega arith) (omega arith) (omega arith)
-
--- ---- two words, letter by letter
-
-pub same_other : (a w : List ℕ) → (length w ≡ length a → ⊥) → same_bytes a w ≡ false
+-- two words by `==`
+pub same_is : (a w : List ℕ) → same_bytes a w ≡ pointwise eqb a w
 unfolding same_bytes
-same_other [] [] h = absurd (h refl)
-same_other [] (y ∷ w) h = refl
-same_other (x ∷ a) [] h = refl
-same_other (x ∷ a) (y ∷ w) h = rw (same_other a w (λ (e : length w ≡ length a). h (ap suc e))) (and-false (eqb x y))
-
-same_more : (a w : List ℕ) (i : ℕ) → length w ≡ length a → i < length w
-    → same_bytes (drop i a) (drop i w) ≡ (eqb (get_or a i 0) (get_or w i 0) && same_bytes (drop (i + 1) a) (drop (i + 1) w))
-unfolding same_bytes
-same_more a w i e h = let g : i < length a = omega arith in rw (add-one, drop-cons a i 0 g, drop-cons w i 0 h)
-
-pub same_done : (a w : List ℕ) (i : ℕ) → length w ≡ length a → length w ≤ i → same_bytes (drop i a) (drop i w) ≡ true
-unfolding same_bytes
-same_done a w i e h = let g : length a ≤ i = omega arith in rw (drop_of_length-le a g, drop_of_length-le w h)
+same_is [] [] = refl
+same_is [] (y ∷ w) = refl
+same_is (x ∷ a) [] = refl
+same_is (x ∷ a) (y ∷ w) = ap (λ (b : Bool). eqb x y && b) (same_is a w)
 
 -- ---- the one kind whose word begins with two bytes, in words of a length; the second is 0 where there is none
 
@@ -126,14 +102,6 @@ module _ {b c n : ℕ} where
   unfolding place_of kinds bytes same_bytes word_of
   only_none o s = record { most = omega arith; only = λ t l q. rw (ne_eqb 115 b s, ne_eqb 82 b o.not_R, ne_eqb 76 b o.not_L, ne_eqb 67 b o.not_C, ne_eqb 83 b o.not_S, ne_eqb 86 b o.not_V, ne_eqb 73 b o.not_I) }
 
--- ---- a turn of the loop over a word's letters
-
-pub same_here : (a w : List ℕ) (i : ℕ) → length w ≡ length a → i < length w → (get_or w i 0 ≡ get_or a i 0 → ⊥) → same_bytes (drop i a) (drop i w) ≡ false
-same_here a w i e h n = rw (same_more a w i e h, ne_eqb (get_or a i 0) (get_or w i 0) (λ p. n (sym p)))
-
-pub same_next : (a w : List ℕ) (i : ℕ) → length w ≡ length a → i < length w → get_or w i 0 ≡ get_or a i 0 → same_bytes (drop i a) (drop i w) ≡ same_bytes (drop (i + 1) a) (drop (i + 1) w)
-same_next a w i e h n = rw (same_more a w i e h, eq-eqb (get_or a i 0) (get_or w i 0) (sym n))
-
 -- ---- the kind that a word names
 
 pub kind_none : (w : List ℕ) → length w ≡ 0 → 10 ≡ place_of 0 kinds w
@@ -149,10 +117,10 @@ module _ (w : List ℕ) (k : ℕ) (h : length w ≡ 0 → ⊥) {c : ℕ} (s : c 
       go [] h s o = absurd (h refl)
       go (b ∷ w) h s o = o.only w refl (sym s)
 
-  pub kind_past : 10 ≤ k → 10 ≡ place_of 0 kinds w
-  kind_past l =
-      let e : k ≡ 10 = omega (arith, o.most) in
-      sym (kind_at ∙ ap (λ (n : ℕ). cond (same_bytes (word_of k) w) n 10) e ∙ either (λ (n : ℕ). n ≡ 10) (same_bytes (word_of k) w) 10 10 refl refl)
-
   pub kind_same : (t : Bool) → t ≡ same_bytes (word_of k) w → cond t k 10 ≡ place_of 0 kinds w
   kind_same t e = rw (kind_at, e)
+
+-- a kind by name, or none, where a word may begin like its own
+abbrev pub number_or_none : Option Kind → ℕ
+number_or_none None = 10
+number_or_none (Some k) = number k

@@ -3,37 +3,14 @@ use Rattle.std.specs.Prelude.{◌+◌, ◌*◌, ◌<◌, ◌≤◌, ◌≡◌, �
 use Rattle.whole.specs.Plain.{ℕ, zero, suc, refl, ap, ◌∙◌, List, [], tail, get_or, length, ℤ}
 use Rattle.whole.specs.Plain.{take, drop, drop-drop, take-take, drop-cons, drop_of_length-le, arith, Words, z, nat}
 use Rattle.std.proofs.Common.{add-one}
-use Rattle.whole.specs.Tables.{table, entries}
-use Rattle.paper.specs.Rows.{Row, bytes, kinds, word_of, fields_of, kind}
-use Rattle.paper.specs.Text.{LF, TAB}
+use Rattle.paper.specs.Rows.{Row, kinds, word_of, fields_of, kind}
 use Rattle.paper.specs.Network.{row_of_words, rows_of, count_of_rows, table_of}
 use Rattle.paper.specs.Areas.{net_of, net_on}
-use Rattle.paper.specs.Listing.{shown, shown_all, line_of}
+use Rattle.paper.specs.Listing.{line_of}
 use Rattle.paper.specs.Writing.{row_line, text_of}
 use Rattle.laws_facts.specs.Layout.{arity_most, length_rows}
 use Rattle.laws_facts.specs.Nets.{net_in, row_at}
-use Rattle.text_kinds.specs.Fields.{each}
-use Rattle.text_words.specs.Words.{letters_of}
 use Rattle.list_digits.specs.Puts.{Parts}
-use Rattle.list_ends.specs.Parts.{field, fields_next}
-
--- ---- a word, from the letters that code holds
-
-pub letters_long : (k : ℕ) → length (letters_of k) ≡ 5
-unfolding letters_of table entries
-letters_long k = refl
-
-pub letters_word : (k : ℕ) → k < 10 → take (length (word_of k)) (letters_of k) ≡ word_of k
-unfolding letters_of word_of table entries kinds bytes
-letters_word = each (λ k. take (length (word_of k)) (letters_of k) ≡ word_of k) refl refl refl refl refl refl refl refl refl refl
-
-pub field_parts : (x : ℤ) → Parts (field x) (TAB ∷ []) (shown x)
-unfolding field
-field_parts x = record { is = refl }
-
-pub field_length : (x : ℤ) → length (field x) ≡ 1 + length (shown x)
-unfolding field
-field_length x = omega arith
 
 -- ---- a row's fields stand behind its kind
 
@@ -68,7 +45,7 @@ module _ (net : Words) where
   unfolding net_of net_on table_of text_of row_line
   study_parts = record { is = refl }
 
--- ---- line by line, and field by field
+-- ---- line by line
 
 pub rows_next : (rows : List Row) (i : ℕ) → i < length rows → Parts (text_of (drop i rows)) (row_line (get_or rows i [])) (text_of (drop (i + 1) rows))
 unfolding text_of
@@ -77,10 +54,3 @@ rows_next rows i h = record { is = rw (add-one, drop-cons rows i [] h) }
 pub rows_end : (rows : List Row) (i : ℕ) → length rows ≤ i → text_of (drop i rows) ≡ []
 unfolding text_of
 rows_end rows i h = rw (drop_of_length-le rows h)
-
-pub fields_turn : (xs : Words) (i : ℕ) → i < length xs → Parts (shown_all (drop i xs)) (field (get_or xs i z)) (shown_all (drop (i + 1) xs))
-fields_turn xs i h = rw (add-one, drop-cons xs i z h) (fields_next (get_or xs i z) (drop (suc i) xs))
-
-pub fields_end : (xs : Words) (i : ℕ) → length xs ≤ i → shown_all (drop i xs) ≡ LF ∷ []
-unfolding shown_all
-fields_end xs i h = rw (drop_of_length-le xs h)

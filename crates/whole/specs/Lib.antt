@@ -24,3 +24,4 @@ pub mod Written
 pub mod Within
 pub mod Upto
 pub mod Filled
+pub mod Named

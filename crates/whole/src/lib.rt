@@ -11,10 +11,7 @@ ghost use Rattle.whole.specs.Floor.{high, low};
 pub fn magnitude(x: i64) -> u64
     ensures { result ≡ nat_abs x }
 {
-    if x < 0 {
-        return (-(x + 1)) as u64 + 1;
-    }
-    x as u64
+    x.unsigned_abs()
 }
 
 // What is left of `most` over |x|; below 0 where |x| is more.
@@ -40,11 +37,9 @@ pub fn all_within(xs: &[i64], most: i64) -> bool
     ensures { result ≡ every (up_to (nat_abs most)) xs.now }
 {
     let mut all: i64 = 0;
-    let mut i = 0;
-    while i < xs.len() {
-        let left = room(xs[i], most);
+    for &x in xs {
+        let left = room(x, most);
         all = all | left;
-        i += 1;
     }
     0 <= all
 }
@@ -54,11 +49,8 @@ pub fn all_zero(xs: &[i64]) -> bool
     ensures { result ≡ every (up_to 0) xs.now }
 {
     let mut all: i64 = 0;
-    let mut i = 0;
-    while i < xs.len() {
-        let x = xs[i];
+    for &x in xs {
         all = all | x;
-        i += 1;
     }
     all == 0
 }

@@ -1,18 +1,20 @@
--- `call_counts::all_taken` meets its contract. The invariant: the flag says whether the areas passed so far have taken as many. Assumes nothing.
-use Rattle.std.specs.Prelude.{◌+◌, ◌≡◌}
-use Rattle.whole.specs.Plain.{refl, add_comm, arith, every, numbers}
-use Rattle.whole.specs.Folds.{every_numbers}
+-- `call_counts::all_taken` meets its contract. The invariant: the flag and the areas that are left say together what all areas say. Assumes nothing.
+use Rattle.std.specs.Prelude.{◌+◌, ◌-◌, ◌≡◌}
+use Rattle.whole.specs.Plain.{arith}
+use Rattle.call_counts.specs.Level.{took_all, left_next, left_done}
 use Rattle.call_counts.proofs.all_taken.Goals as goal
 
-pub loop-passed-init : goal.loop-passed-init
-unfolding every numbers
-loop-passed-init c = record { inside = omega arith; so_far = refl }
+pub loop-a-init : goal.loop-a-init
+loop-a-init c = let e : c.args.areas + 1 - 1 ≡ c.args.areas = omega arith in rw e
 
-pub count_of-its-requires : goal.count_of-its-requires
-count_of-its-requires c = c.requires.at (c.loop-passed.passed + 1) (omega arith) (omega arith)
-
-pub loop-passed-preserved : goal.loop-passed-preserved
-loop-passed-preserved c = record { inside = omega arith; so_far = rw (every_numbers, add_comm 1 c.loop-passed.passed, c.loop-passed.invariant.so_far, c.count_of-its.ensures) }
+pub loop-a-preserved : goal.loop-a-preserved
+loop-a-preserved c = rw c.count_of.ensures (left_next (took_all c.args.records.now c.args.taken) c.args.areas c.loop-a.a c.loop-a.all _ (omega arith) c.loop-a.invariant)
 
 pub returns : goal.returns
-returns c = let e : c.loop-passed.passed ≡ c.args.areas = omega arith in rw (← e) c.loop-passed.invariant.so_far
+returns c = left_done (took_all c.args.records.now c.args.taken) c.args.areas c.loop-a.a c.loop-a.all _ c.loop-a-test.false c.loop-a.invariant
+
+pub returns-2 : goal.returns-2
+returns-2 c =
+    rw c.count_of.ensures
+    (left_done (took_all c.args.records.now c.args.taken) c.args.areas (c.loop-a.a + 1) _ _ (omega arith)
+    (left_next (took_all c.args.records.now c.args.taken) c.args.areas c.loop-a.a c.loop-a.all _ (omega arith) c.loop-a.invariant))

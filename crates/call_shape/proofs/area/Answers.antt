@@ -1,28 +1,48 @@
--- `call_shape::area` meets its contract: 9, 8, and the rest of a network that passes. Assumes nothing.
-use Rattle.std.specs.Prelude.{◌≡◌}
-use Rattle.whole.specs.Plain.{sym, ◌∙◌, true, length, eq-eqb, ne_eqb}
-use Rattle.paper.specs.Limits as Limits
-use Rattle.paper.specs.Network.{is_network}
-use Rattle.call_shape.specs.Asked.{of_network}
+-- `call_shape::area` meets its contract: a node of the network has the area that the plan has for it. Assumes nothing.
+use Rattle.std.specs.Prelude.{Ok, ◌≤◌, ◌<◌, ◌≡◌, ◌&&◌}
+use Rattle.std.proofs.lemmas.Result.{err_from_is_err_and}
+use Rattle.whole.specs.Plain.{sym, ap, ◌∙◌, false, leb, le-leb, lt-leb, arith}
+use Rattle.laws_facts.specs.Nets.{net_in}
+use Rattle.laws_facts.proofs.Nets.{net_sound}
+use Rattle.plan_rows.specs.declared.Totals.{Totals}
+use Rattle.call_shape.specs.Asked.{area_in}
 use Rattle.call_shape.proofs.area.Goals as goal
-use Rattle.call_shape.proofs.area.Goals.{Else-not-is_network}
+use Rattle.call_shape.proofs.area.Goals.{then-node-lt1-via-then-node-lt1, then-node-lt1-via-else-node-lt1+then-layout-node}
 
-pub returns-then-network-ne-NETWORK : goal.returns-then-network-ne-NETWORK
-unfolding of_network
-returns-then-network-ne-NETWORK c = rw (ne_eqb (length c.args.network.now) Limits.network_words c.if-network-ne-NETWORK.true)
+pub returns-in_err-layout : goal.returns-in_err-layout
+returns-in_err-layout c =
+    let p = err_from_is_err_and c.from_residual.result c.from_residual.ensures.1 in
+    rw (p.1, p.2) (sym (c.in_err-layout.ensures (λ N. area_in N c.args.node)))
 
-pub returns-then-not-is_network : goal.returns-then-not-is_network
-unfolding of_network
-returns-then-not-is_network c =
-    rw (eq-eqb (length c.args.network.now) Limits.network_words c.if-network-ne-NETWORK.false, sym c.is_network.ensures ∙ c.if-not-is_network.true)
+pub returns-then-node-lt1 : goal.returns-then-node-lt1
+unfolding area_in
+returns-then-node-lt1 c =
+    let N = net_in c.args.network.now in
+    let l = c.in_ok-layout.ensures in
+    let outside : (leb 1 c.args.node && leb c.args.node N.nodes) ≡ false = elim c.then-node-lt1.branch [
+      | then-node-lt1-via-then-node-lt1 w ↦ rw (lt-leb 1 c.args.node w.if-node-lt1.true)
+      | then-node-lt1-via-else-node-lt1+then-layout-node w ↦
+          let h : N.nodes < c.args.node = omega (arith, w.if-layout-node.true, ap (λ (t : Totals). t.nodes) l.counts) in
+          rw (le-leb 1 c.args.node w.if-node-lt1.false, lt-leb c.args.node N.nodes h)
+    ] in
+    sym (l.asked (λ M. area_in M c.args.node) ∙ rw outside)
 
-good : (c : Else-not-is_network) → is_network c.args.network.now ≡ true
-good c = sym c.is_network.ensures ∙ c.if-not-is_network.false
+pub offset_bounds-layout-node : goal.offset_bounds-layout-node
+offset_bounds-layout-node c =
+    let l = c.in_ok-layout.ensures in
+    omega (arith, ap (λ (t : Totals). t.nodes) l.counts, (net_sound c.args.network.now l.network).node_most)
 
-pub area_in-requires : goal.area_in-requires
-area_in-requires c = good c
+pub bounds-layout-node : goal.bounds-layout-node
+bounds-layout-node c =
+    let l = c.in_ok-layout.ensures in
+    omega (arith, ap (λ (t : Totals). t.nodes) l.counts, (net_sound c.args.network.now l.network).node_most)
 
 pub returns : goal.returns
-unfolding of_network
+unfolding area_in
 returns c =
-    rw (eq-eqb (length c.args.network.now) Limits.network_words c.if-network-ne-NETWORK.false, good c.before) c.area_in.ensures
+    let N = net_in c.args.network.now in
+    let l = c.in_ok-layout.ensures in
+    let e = ap (λ (t : Totals). t.nodes) l.counts in
+    let h : c.args.node ≤ N.nodes = omega (arith, c.if-layout-node.false, e) in
+    ap Ok (l.mapped.area_at c.args.node (omega (arith, e, (net_sound c.args.network.now l.network).node_most)))
+    ∙ sym (l.asked (λ M. area_in M c.args.node) ∙ rw (le-leb 1 c.args.node c.if-node-lt1.false, le-leb c.args.node N.nodes h))

@@ -1,28 +1,39 @@
--- `call_shape::row` meets its contract: 9, 8, and the rest of a network that passes. Assumes nothing.
-use Rattle.std.specs.Prelude.{◌≡◌}
-use Rattle.whole.specs.Plain.{sym, ◌∙◌, true, length, eq-eqb, ne_eqb}
-use Rattle.paper.specs.Limits as Limits
-use Rattle.paper.specs.Network.{is_network}
-use Rattle.call_shape.specs.Asked.{of_network}
+-- `call_shape::row` meets its contract: the plan's numbers of branches are the paper's. Assumes nothing.
+use Rattle.std.proofs.lemmas.Result.{err_from_is_err_and}
+use Rattle.whole.specs.Plain.{sym, ap, ◌∙◌, lt-leb, arith}
+use Rattle.laws_facts.proofs.Nets.{net_sound}
+use Rattle.plan_rows.specs.declared.Totals.{Totals}
+use Rattle.call_shape.specs.Asked.{branch_row, row_in, or_nothing, place_in, told_place, told_nothing}
+use Rattle.call_shape.specs.LaidOut.{place_is}
 use Rattle.call_shape.proofs.row.Goals as goal
-use Rattle.call_shape.proofs.row.Goals.{Else-not-is_network}
 
-pub returns-then-network-ne-NETWORK : goal.returns-then-network-ne-NETWORK
-unfolding of_network
-returns-then-network-ne-NETWORK c = rw (ne_eqb (length c.args.network.now) Limits.network_words c.if-network-ne-NETWORK.true)
+pub returns-in_err-layout : goal.returns-in_err-layout
+returns-in_err-layout c =
+    let p = err_from_is_err_and c.from_residual.result c.from_residual.ensures.1 in
+    rw (p.1, p.2) (sym (c.in_err-layout.ensures (λ N. row_in N c.args.branch)))
 
-pub returns-then-not-is_network : goal.returns-then-not-is_network
-unfolding of_network
-returns-then-not-is_network c =
-    rw (eq-eqb (length c.args.network.now) Limits.network_words c.if-network-ne-NETWORK.false, sym c.is_network.ensures ∙ c.if-not-is_network.true)
+pub returns-then-branch-lt1 : goal.returns-then-branch-lt1
+unfolding row_in branch_row
+returns-then-branch-lt1 c = sym (c.in_ok-layout.ensures.asked (λ N. row_in N c.args.branch) ∙ rw (lt-leb 1 c.args.branch c.if-branch-lt1.true))
 
-good : (c : Else-not-is_network) → is_network c.args.network.now ≡ true
-good c = sym c.is_network.ensures ∙ c.if-not-is_network.false
+pub place_of-requires : goal.place_of-requires
+place_of-requires c =
+    let l = c.in_ok-layout.ensures in
+    omega (arith, ap (λ (t : Totals). t.rows) l.counts, (net_sound c.args.network.now l.network).row_most)
 
-pub row_in-requires : goal.row_in-requires
-row_in-requires c = good c
+pub overflow_add-result : goal.overflow_add-result
+overflow_add-result c =
+    let l = c.in_ok-layout.ensures in
+    record { fits = omega (arith, place_in _ _ _ c.in-Some.ensures, ap (λ (t : Totals). t.rows) l.counts, (net_sound c.args.network.now l.network).row_most) }
+
+pub returns-in_default : goal.returns-in_default
+unfolding row_in
+returns-in_default c =
+    let l = c.in_ok-layout.ensures in
+    told_nothing _ c.in_default.ensures ∙ (ap or_nothing (place_is c.args.branch l c.if-branch-lt1.false) ∙ sym (l.asked (λ N. row_in N c.args.branch)))
 
 pub returns : goal.returns
-unfolding of_network
+unfolding row_in
 returns c =
-    rw (eq-eqb (length c.args.network.now) Limits.network_words c.if-network-ne-NETWORK.false, good c.before) c.row_in.ensures
+    let l = c.in_ok-layout.ensures in
+    told_place _ c.in-Some.ensures ∙ (ap or_nothing (place_is c.args.branch l c.if-branch-lt1.false) ∙ sym (l.asked (λ N. row_in N c.args.branch)))

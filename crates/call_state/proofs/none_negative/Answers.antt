@@ -12,24 +12,18 @@ sign-is : (x : ℤ) → le_z (pos 0) x ≡ non_neg x
 sign-is (pos n) = leb-zero n
 sign-is (negsuc n) = refl
 
-pub loop-i-preserved : goal.loop-i-preserved
-loop-i-preserved c =
-    let a = c.before.before in
-    let l = a.args.words.now in
-    let x = get_or l a.loop-i.i (pos 0) in
-    let e : le_z (pos 0) (to_z w64 (of_z w64 x)) ≡ non_neg x = rw (read64 x c.x-1.given) (sign-is x) in (
-      omega arith,
-      rw e
-          (and_assoc a.loop-i.all (non_neg x) (every non_neg (drop (a.loop-i.i + 1) l))
-          ∙ ap (λ (b : Bool). a.loop-i.all && b) (sym (every_more non_neg l a.loop-i.i (pos 0) (omega arith)))
-          ∙ a.loop-i.invariant.1),
-    )
+pub loop-x-preserved : goal.loop-x-preserved
+loop-x-preserved c =
+    let l = c.args.words.now in
+    let i = c.loop-x.x-index in
+    let x = get_or l i (pos 0) in
+    let e : le_z (pos 0) (to_z w64 (of_z w64 x)) ≡ non_neg x = rw (read64 x (omega arith)) (sign-is x) in
+    rw e
+    (and_assoc c.loop-x.all (non_neg x) (every non_neg (drop (i + 1) l))
+    ∙ ap (λ (b : Bool). c.loop-x.all && b) (sym (every_more non_neg l i (pos 0) (omega arith)))
+    ∙ c.loop-x.invariant)
 
 pub returns : goal.returns
 returns c =
-    let a = c.before in
-    let done = every_done non_neg a.args.words.now a.loop-i.i (omega arith) in
-    sym (and-true a.loop-i.all) ∙ ap (λ (b : Bool). a.loop-i.all && b) (sym done) ∙ a.loop-i.invariant.1
-
-pub loop-i-init : goal.loop-i-init
-loop-i-init c = (omega arith, refl)
+    let done = every_done non_neg c.args.words.now c.loop-x.x-index (omega arith) in
+    sym (and-true c.loop-x.all) ∙ ap (λ (b : Bool). c.loop-x.all && b) (sym done) ∙ c.loop-x.invariant

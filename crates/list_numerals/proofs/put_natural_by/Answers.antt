@@ -1,16 +1,20 @@
--- `list_numerals::put_natural_by` meets its contract: the first digits, and the groups behind them. Assumes nothing.
+-- `list_numerals::put_natural_by` meets its contract: up to sixteen digits, or these and eight. Assumes nothing.
+use Rattle.std.specs.Prelude.{◌-◌, ◌*◌, ◌/◌}
+use Rattle.whole.specs.Plain.{arith}
 use Rattle.list_digits.specs.Puts.{room_first, room_second, both_put}
+use Rattle.list_digits.specs.Decimal.{length_fixed}
+use Rattle.list_numerals.specs.Eights.{eight_more}
 use Rattle.list_numerals.proofs.put_natural_by.Goals as goal
 
-pub put_to_eight-next-requires : goal.put_to_eight-next-requires
-put_to_eight-next-requires c =
-    let e = c.eights_of-p.ensures in
-    (c.requires.0, e.top, room_first e.text c.args.at _ c.requires.1)
+pub put_to_sixteen-next-requires : goal.put_to_sixteen-next-requires
+put_to_sixteen-next-requires c =
+    let n = c.args.n in
+    (c.requires.0, omega arith, room_first (eight_more n (omega arith) c.ranges.n.fits) c.args.at _ c.requires.1)
 
-pub put_groups-requires : goal.put_groups-requires
-put_groups-requires c =
-    let e = c.eights_of-p.ensures in
-    record { below = (c.requires.0, e.middle, e.low); room = room_second e.text c.requires.1 c.put_to_eight-next.ensures }
+pub put_eight-requires : goal.put_eight-requires
+put_eight-requires c =
+    let n = c.args.n in
+    (c.requires.0, omega arith, omega (arith, room_second (eight_more n (omega arith) c.ranges.n.fits) c.requires.1 c.put_to_sixteen-next.ensures, length_fixed 8 (n - 100000000 * (n / 100000000))))
 
 pub returns : goal.returns
-returns c = both_put c.eights_of-p.ensures.text c.put_to_eight-next.ensures c.put_groups.ensures
+returns c = both_put (eight_more c.args.n (omega arith) c.ranges.n.fits) c.put_to_sixteen-next.ensures c.put_eight.ensures

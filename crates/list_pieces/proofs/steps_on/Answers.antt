@@ -8,12 +8,16 @@ use Rattle.list_step.specs.Bounds.{done_short}
 use Rattle.list_pieces.specs.Sofar.{sofar_more, sofar_over, sofar_done}
 use Rattle.list_pieces.specs.Begun.{Begins, Along, all_steps, counts_in, taken_few, along_none, left, starts, ran, listable, turned_so, along_next}
 use Rattle.list_pieces.proofs.steps_on.Goals as goal
+use Rattle.plan_rows.specs.declared.Row.{Row}
+use Rattle.plan_own.specs.declared.Own.{Own}
+use Rattle.step_legs.specs.declared.Wire.{Wire}
+use Rattle.step_legs.specs.declared.Source.{Source}
 
-few : {net : Words} {plan owns : List (List ℕ)} {totals : Totals} {legs : List Words} {nodes : List ℕ} {sources : List Words} {m : Memory} → Begins net plan totals owns legs nodes sources m → totals.steps ≤ 1000000
+few : {net : Words} {plan : List Row} {owns : List Own} {totals : Totals} {legs : List Wire} {nodes : List ℕ} {sources : List Source} {m : Memory} → Begins net plan totals owns legs nodes sources m → totals.steps ≤ 1000000
 few b = omega (arith, all_steps b, b.of.sound.study.steps_in.most)
 
 -- the buffer is as long as it was, and has room for the last line
-module _ {net : Words} {plan : List (List ℕ)} {nodes : List ℕ} {sources : List Words} {m now : Memory} {out c : List ℕ} {owns : List (List ℕ)} {legs : List Words} {f : List (List Float)} {at k : ℕ}
+module _ {net : Words} {plan : List Row} {nodes : List ℕ} {sources : List Source} {m now : Memory} {out c : List ℕ} {owns : List Own} {legs : List Wire} {f : List (List Float)} {at k : ℕ}
     (a : Along net plan nodes sources m out owns legs f now at k c) where
   long : length c ≡ length out
   long = puts_length a.sofar.puts
@@ -21,12 +25,12 @@ module _ {net : Words} {plan : List (List ℕ)} {nodes : List ℕ} {sources : Li
   room : at + 32 ≤ length out
   room = a.sofar.room
 
-pub steps_taken-k-requires : goal.steps_taken-k-requires
-steps_taken-k-requires c = counts_in c.requires.beginning.begins
+pub steps_taken-taken-requires : goal.steps_taken-taken-requires
+steps_taken-taken-requires c = counts_in c.requires.beginning.begins
 
 pub loop-k-init : goal.loop-k-init
 loop-k-init c =
-    let e = c.steps_taken-k.ensures in (
+    let e = c.steps_taken-taken.ensures in (
       rw e (taken_few c.requires.beginning.begins),
       λ net b. along_none b c.args.out.now _ (record { lines = refl; line = λ p h. ap length (get_or-replicate 32 p _ [] h) }) e c.requires.in_bounds,
     )
@@ -41,7 +45,7 @@ returns-then-out-at-lt-STEP_BYTES c =
     record {
       of = λ net b.
           let a = c.loop-k.invariant.1 net b in
-          rw c.ended.ensures (sofar_more net _ _ a.sofar (left b a c.loop-k-test.true) (omega (arith, c.if-out-at-lt-STEP_BYTES.true, long a)));
+          sofar_more net _ _ a.sofar (left b a c.loop-k-test.true) (omega (arith, c.if-out-at-lt-STEP_BYTES.true, long a));
     }
 
 -- ---- a step
@@ -51,8 +55,8 @@ all_areas-round-requires c =
     let b = c.requires.beginning.begins in
     record { net = _; starts = starts b (c.loop-k.invariant.1 _ b) c.loop-k-test.true c.step_of-step.ensures }
 
-pub put_turn-next-requires : goal.put_turn-next-requires
-put_turn-next-requires c =
+pub put_turn-at-requires : goal.put_turn-at-requires
+put_turn-at-requires c =
     let b = c.requires.beginning.begins in
     let a = c.loop-k.invariant.1 _ b in
     let r = ran b a c.loop-k-test.true c.step_of-step.ensures c.all_areas-round.ensures in
@@ -61,19 +65,15 @@ put_turn-next-requires c =
       at_in_bounds = omega (arith, long a, room a);
     }
 
-pub returns-in-Refused : goal.returns-in-Refused
-returns-in-Refused c =
+pub returns-in-Err : goal.returns-in-Err
+returns-in-Err c =
     record {
       of = λ net b.
           let a = c.loop-k.invariant.1 net b in
           let h = c.loop-k-test.true in
           let r = ran b a h c.step_of-step.ensures c.all_areas-round.ensures in
-          rw c.ended-in-Refused.ensures
-          (sofar_over net _ _ a.sofar (left b a h) (omega (arith, long a, room a)) c.in-Refused.is (turned_so b a h r (c.put_turn-next.ensures _ b.of)));
+          sofar_over net _ _ a.sofar (left b a h) (omega (arith, long a, room a)) c.in-Err.is (turned_so b a h r (c.put_turn-at.ensures _ b.of));
     }
-
-pub overflow_add-k : goal.overflow_add-k
-overflow_add-k c = omega (arith, c.loop-k-test.true, few c.requires.beginning.begins)
 
 pub loop-k-preserved : goal.loop-k-preserved
 loop-k-preserved c =
@@ -82,18 +82,18 @@ loop-k-preserved c =
       λ net b.
           let a = c.loop-k.invariant.1 net b in
           let r = ran b a h c.step_of-step.ensures c.all_areas-round.ensures in
-          along_next b a h r (c.put_turn-next.ensures _ b.of) (omega (arith, long a, room a)) c.in_default.is,
+          along_next b a h r (c.put_turn-at.ensures _ b.of) (omega (arith, long a, room a)) c.in_default.is,
     )
 
 -- ---- all steps are taken
 
-pub put_done-end-requires : goal.put_done-end-requires
-put_done-end-requires c = let a = c.loop-k.invariant.1 _ c.requires.beginning.begins in omega (arith, room a, long a, done_short c.args.totals.steps)
+pub put_done-count-requires : goal.put_done-count-requires
+put_done-count-requires c = let a = c.loop-k.invariant.1 _ c.requires.beginning.begins in omega (arith, room a, long a, done_short c.args.totals.steps)
 
 pub returns : goal.returns
 returns c =
     record {
       of = λ net b.
           let q = all_steps b in
-          rw c.ended-2.ensures (sofar_done net _ _ (c.loop-k.invariant.1 net b).sofar (rw q at c.loop-k-test.false) (rw q at c.put_done-end.ensures));
+          sofar_done net _ _ (c.loop-k.invariant.1 net b).sofar (rw q at c.loop-k-test.false) (rw q at c.put_done-count.ensures);
     }

@@ -8,18 +8,18 @@ use Rattle.list_step.proofs.put_currents.Goals as goal
 
 pub loop-i-init : goal.loop-i-init
 unfolding joined numbers
-loop-i-init c = (omega arith, puts_none c.args.out.now c.args.at)
+loop-i-init c = puts_none c.args.out.now c.args.at
 
 pub loop-i-preserved : goal.loop-i-preserved
 loop-i-preserved c =
     let l = c.loop-i in
     let e : 0 + l.i ≡ l.i = omega arith in
-    (omega (arith, c.loop-i-test.true), line_put (current_line_by c.args.plan.now c.args.records.now c.args.head.step) 0 l.i l.invariant.1 (rw e c.put_current-next.ensures))
+    line_put (current_line_by c.args.plan.now c.args.records.now c.args.lines.head.step) 0 l.i l.invariant (rw e c.put_current-next.ensures)
 
 pub returns : goal.returns
 returns c =
     let e : c.loop-i.i ≡ c.args.rows = omega arith in
-    puts_as (ap (λ (n : ℕ). joined (current_line_by c.args.plan.now c.args.records.now c.args.head.step) (numbers 0 n)) e) c.loop-i.invariant.1
+    puts_as (ap (λ (n : ℕ). joined (current_line_by c.args.plan.now c.args.records.now c.args.lines.head.step) (numbers 0 n)) e) c.loop-i.invariant
 
 pub put_current-next-requires : goal.put_current-next-requires
 put_current-next-requires c =
@@ -28,7 +28,7 @@ put_current-next-requires c =
     let n = c.requires.numbered in
     let e : 0 + l.i ≡ l.i = omega arith in
     record {
-      pairs_value = c.requires.pairs_value;
+      letter = c.requires.letter;
       i_bound = (omega (arith, t, n.0.few), n.0.small l.i t, n.1);
-      i_in_bounds = rw e at (line_room (current_line_by c.args.plan.now c.args.records.now c.args.head.step) 0 l.i l.invariant.1 c.args.rows t c.requires.rows_in_bounds);
+      i_in_bounds = rw e at (line_room (current_line_by c.args.plan.now c.args.records.now c.args.lines.head.step) 0 l.i l.invariant c.args.rows t c.requires.rows_in_bounds);
     }

@@ -1,9 +1,10 @@
 -- `list_step::put_step_by` meets its contract: the nodes' lines, then the branches'. Assumes nothing.
 use Rattle.std.specs.Prelude.{◌+◌, ◌≤◌}
-use Rattle.whole.specs.Plain.{ℕ, length, List, Words, arith}
+use Rattle.whole.specs.Plain.{ℕ, length, Words, arith}
 use Rattle.paper.specs.Limits as Limits
 use Rattle.paper.specs.Areas.{Net}
 use Rattle.paper.specs.Listing.{step_lines}
+use Rattle.plan_rows.specs.Planned.{Plan}
 use Rattle.plan_rows.specs.declared.Totals.{Totals}
 use Rattle.plan_net.specs.Of.{Of}
 use Rattle.list_digits.specs.Puts.{room_first, room_second, both_put}
@@ -11,7 +12,7 @@ use Rattle.list_step.specs.ByPlan.{rows_are, nodes_are, numbered, step_parts}
 use Rattle.list_step.specs.Bounds.{Small, lines_short}
 use Rattle.list_step.proofs.put_step_by.Goals as goal
 
-room : {N : Net} {plan : List (List ℕ)} {totals : Totals} (o : Of N plan totals) (recs : Words) (step at size : ℕ) → Small totals.nodes totals.rows recs → step ≤ Limits.steps_end → at + Limits.step_bytes ≤ size → at + length (step_lines N recs step) ≤ size
+room : {N : Net} {plan : Plan} {totals : Totals} (o : Of N plan totals) (recs : Words) (step at size : ℕ) → Small totals.nodes totals.rows recs → step ≤ Limits.steps_end → at + Limits.step_bytes ≤ size → at + length (step_lines N recs step) ≤ size
 room o recs step at size f k h = omega (arith, lines_short o.sound (rw (nodes_are o, rows_are o) at f) step k, h)
 
 pub put_volts-next-requires : goal.put_volts-next-requires
@@ -21,7 +22,7 @@ put_volts-next-requires c =
     let o = q.1.of in
     let r = room o c.args.records.now c.args.step c.args.at _ c.requires.records_len.1 q.2 c.requires.at_in_bounds in
     record {
-      pairs_value = (q.0, h.0, h.1);
+      letter = h.1;
       nodes_bound = (omega (arith, nodes_are o, o.sound.node_most), c.requires.records_len.0);
       nodes_in_bounds = rw h.2 (room_first (step_parts o c.args.records.now c.args.step) c.args.at _ r);
     }
@@ -33,7 +34,7 @@ put_currents-requires c =
     let o = q.1.of in
     let r = room o c.args.records.now c.args.step c.args.at _ c.requires.records_len.1 q.2 c.requires.at_in_bounds in
     record {
-      pairs_value = (q.0, h.0, h.1);
+      letter = h.1;
       numbered = (numbered o, c.requires.records_len.0);
       rows_in_bounds = rw h.2 (room_second (step_parts o c.args.records.now c.args.step) r (rw c.head_of-volts.ensures.2 at c.put_volts-next.ensures));
     }

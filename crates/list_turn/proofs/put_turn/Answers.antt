@@ -1,15 +1,16 @@
 -- `list_turn::put_turn` meets its contract: the step's lines where all areas took it, the stop line where one did not. Assumes nothing.
-use Rattle.std.specs.Prelude.{ℕ, ◌+◌, ◌≤◌, List}
+use Rattle.std.specs.Prelude.{ℕ, ◌+◌, ◌≤◌, List, refl}
 use Rattle.std.proofs.Common.{add-one, arith}
 use Rattle.whole.specs.Plain.{Words}
 use Rattle.paper.specs.Limits as Limits
 use Rattle.plan_rows.specs.declared.Totals.{Totals}
 use Rattle.list_step.specs.Bounds.{stop_short}
-use Rattle.list_round.specs.declared.Round.{Round}
+use Rattle.list_round.specs.Round.{Round}
 use Rattle.list_turn.specs.Turned.{Listable}
 use Rattle.list_turn.proofs.put_turn.Goals as goal
+use Rattle.plan_rows.specs.declared.Row.{Row}
 
-few : {plan : List (List ℕ)} {totals : Totals} {recs : Words} {k : ℕ} {r : Round} → Listable plan totals recs k r → k + 1 ≤ Limits.steps_end
+few : {plan : List Row} {totals : Totals} {recs : Words} {k : ℕ} {r : Round} → Listable plan totals recs k r → k + 1 ≤ Limits.steps_end
 few p = omega (arith, p.left, p.of.sound.study.steps_in.most)
 
 pub put_step_by-requires : goal.put_step_by-requires
@@ -18,17 +19,17 @@ put_step_by-requires c =
     let p = q.1 in
     record {
       pairs_value = (q.0, record { net = _; of = p.of }, few p);
-      records_len = (p.long, p.small c.in-Full.is);
+      records_len = (p.long, p.small (rw c.in-Ok.is refl));
       at_in_bounds = c.requires.at_in_bounds;
     }
 
-pub returns-in-Full : goal.returns-in-Full
-returns-in-Full c N o = rw c.in-Full.is (rw (add-one c.args.taken) at (c.put_step_by.ensures N o))
+pub returns-in-Ok : goal.returns-in-Ok
+returns-in-Ok c N o = rw c.in-Ok.is (rw (add-one c.args.taken) at (c.put_step_by.ensures N o))
 
 pub put_stop-requires : goal.put_stop-requires
 put_stop-requires c =
-    let r = c.in-Refused in
-    rw (c.advance_number-number.ensures, c.advance_place-place.ensures) (omega (arith, c.requires.at_in_bounds, stop_short (c.args.taken + 1) r.area r.answer))
+    let r = c.in-Err.stopped in
+    rw (c.refusal_number-number.ensures, c.refusal_place-place.ensures) (omega (arith, c.requires.at_in_bounds, stop_short (c.args.taken + 1) r.area r.refusal))
 
-pub returns-in-Refused : goal.returns-in-Refused
-returns-in-Refused c N o = rw c.in-Refused.is (rw (add-one c.args.taken, c.advance_number-number.ensures, c.advance_place-place.ensures) at c.put_stop.ensures)
+pub returns-in-Err : goal.returns-in-Err
+returns-in-Err c N o = rw c.in-Err.is (rw (add-one c.args.taken, c.refusal_number-number.ensures, c.refusal_place-place.ensures) at c.put_stop.ensures)

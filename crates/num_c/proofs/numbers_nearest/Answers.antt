@@ -2,10 +2,10 @@ use Rattle.std.proofs.Common.{rules}
 use Rattle.num_c.specs.Outcomes.{rounded}
 use Rattle.num_c.proofs.numbers_nearest.Goals as goal
 
-pub returns-in-Good : goal.returns-in-Good
+pub returns-in-Some : goal.returns-in-Some
 unfolding rounded
-returns-in-Good c = rw (← c.nearest-r.ensures, c.in-Good.is) (search rules)
+returns-in-Some c = rw (← c.nearest-r.ensures, c.in-Some.is) (search rules)
 
-pub returns-in-Refused : goal.returns-in-Refused
+pub returns-in-None : goal.returns-in-None
 unfolding rounded
-returns-in-Refused c = rw (← c.nearest-r.ensures, c.in-Refused.is)
+returns-in-None c = rw (← c.nearest-r.ensures, c.in-None.is)

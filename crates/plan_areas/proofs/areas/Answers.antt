@@ -12,23 +12,17 @@ use Rattle.plan_areas.proofs.areas.Goals as goal
 
 pub start-requires : goal.start-requires
 start-requires c =
-    (c.requires.rows_value.1.1, omega (arith, c.requires.rows_value.1.0, (net_sound c.args.net.now c.requires.net_value).node_most))
+    (c.requires.1, omega (arith, c.requires.0, (net_sound c.args.net.words.now c.args.net.passes).node_most))
 
 pub spread-requires : goal.spread-requires
 spread-requires c =
-    let k : suc c.args.nodes ≤ mark_words = omega (arith, c.requires.rows_value.1.0, (net_sound c.args.net.now c.requires.net_value).node_most) in
-    record {
-      net_value = c.requires.net_value;
-      rows_value = (c.requires.rows_value.0, ap length c.start.ensures ∙ length_filled mark_words 0 (numbers 0 (suc c.args.nodes)) (rw length_numbers k));
-    }
+    let k : suc c.args.nodes ≤ mark_words = omega (arith, c.requires.0, (net_sound c.args.net.words.now c.args.net.passes).node_most) in
+    ap length c.start.ensures ∙ length_filled mark_words 0 (numbers 0 (suc c.args.nodes)) (rw length_numbers k)
 
 pub number_areas-requires : goal.number_areas-requires
 number_areas-requires c =
-    let net = c.args.net.now in
-    let first : ℕ → List ℕ = λ n. filled mark_words 0 (numbers 0 (suc n)) in record {
-      net_value = c.requires.net_value;
-      nodes_value = (
-        c.requires.rows_value.1.0,
-        c.spread.ensures ∙ ap (λ (m : List ℕ). turns 0 32 (round_of (net_in net).rows) m) (c.start.ensures ∙ ap first c.requires.rows_value.1.0) ∙ spread_in net c.requires.net_value,
-      );
-    }
+    let net = c.args.net.words.now in
+    let first : ℕ → List ℕ = λ n. filled mark_words 0 (numbers 0 (suc n)) in (
+      c.requires.0,
+      c.spread.ensures ∙ ap (λ (m : List ℕ). turns 0 32 (round_of (net_in net).rows) m) (c.start.ensures ∙ ap first c.requires.0) ∙ spread_in net c.args.net.passes,
+    )

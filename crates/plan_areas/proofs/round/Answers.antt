@@ -6,30 +6,23 @@ use Rattle.plan_areas.specs.Marks.{join_row, round_of, moved_next, length_row}
 use Rattle.plan_areas.proofs.round.Goals as goal
 
 pub loop-i-init : goal.loop-i-init
-loop-i-init c = (omega arith, (c.requires.rows_value.1, (λ f. refl, refl)))
+loop-i-init c = (c.requires, (λ f. refl, refl))
 
 pub join_row-here-requires : goal.join_row-here-requires
-join_row-here-requires c =
-    record {
-      net_value = c.requires.net_value;
-      i_in_bounds = (omega (arith, c.requires.rows_value.0), c.loop-i.invariant.1.0);
-    }
+join_row-here-requires c = (omega (arith, c.row_count-i-end.ensures), c.loop-i.invariant.0)
 
 pub loop-i-preserved : goal.loop-i-preserved
 loop-i-preserved c =
-    let N = net_in c.args.net.now in
+    let N = net_in c.args.net.words.now in
     let m = c.loop-i.area in
     let w = c.join_row-here.ensures in (
-      omega arith,
-      (
-        length_row m c.join_row-here.new.area (row_at N c.loop-i.i) c.join_row-here.result w ∙ c.loop-i.invariant.1.0,
-        moved_next c.args.area.now m c.join_row-here.new.area (fold join_row c.args.area.now N.rows) c.loop-i.moved c.join_row-here.result N.rows c.loop-i.i (row_at N c.loop-i.i)
-            (omega (arith, c.requires.rows_value.0)) refl c.loop-i.invariant.1.1 w,
-      ),
+      length_row m c.join_row-here.new.area (row_at N c.loop-i.i) c.join_row-here.result w ∙ c.loop-i.invariant.0,
+      moved_next c.args.area.now m c.join_row-here.new.area (fold join_row c.args.area.now N.rows) c.loop-i.moved c.join_row-here.result N.rows c.loop-i.i (row_at N c.loop-i.i)
+          (omega (arith, c.row_count-i-end.ensures)) refl c.loop-i.invariant.1 w,
     )
 
 pub returns : goal.returns
 unfolding round_of
 returns c =
-    let N = net_in c.args.net.now in
-    record { is = fold_end join_row N.rows c.loop-i.i c.loop-i.area _ (omega (arith, c.requires.rows_value.0)) c.loop-i.invariant.1.1.1; still = c.loop-i.invariant.1.1.0 }
+    let N = net_in c.args.net.words.now in
+    record { is = fold_end join_row N.rows c.loop-i.i c.loop-i.area _ (omega (arith, c.row_count-i-end.ensures)) c.loop-i.invariant.1.1; still = c.loop-i.invariant.1.0 }

@@ -1,5 +1,5 @@
 -- `plan_areas::spread` meets its contract: the rounds that are left lead to all of them. Assumes nothing.
-use Rattle.std.specs.Prelude.{◌≤◌, ◌-◌, ◌≡◌}
+use Rattle.std.specs.Prelude.{◌≡◌}
 use Rattle.whole.specs.Plain.{length}
 use Rattle.whole.specs.Turns.{turns}
 use Rattle.laws_facts.specs.Nets.{net_in}
@@ -8,7 +8,5 @@ use Rattle.plan_areas.proofs.spread.Given as goal
 
 abbrev pub invariant-loop-turn : goal.invariant-loop-turn
 invariant-loop-turn l =
-    (l.turn ≤ 32) × ((length l.area ≡ 33) × (turns l.turn 32 (round_of (net_in l.net).rows) l.area ≡ turns 0 32 (round_of (net_in l.net).rows) l.initial.area))
-
-abbrev pub decreases-loop-turn : goal.decreases-loop-turn
-decreases-loop-turn l = 32 - l.turn
+    let rows = (net_in l.net.words.now).rows in
+    (length l.area ≡ 33) × (turns l._turn 32 (round_of rows) l.area ≡ turns 0 32 (round_of rows) l.initial.area)

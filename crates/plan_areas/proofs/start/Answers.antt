@@ -7,17 +7,14 @@ use Rattle.plan_areas.proofs.start.Goals as goal
 
 pub loop-n-preserved : goal.loop-n-preserved
 loop-n-preserved c = (
-  omega arith,
-  (
-    length-set c.loop-n.area c.loop-n.n c.own_mark.result ∙ c.loop-n.invariant.1.0,
-    upto_next 0 (own_mark c.args.nodes) c.loop-n.n c.loop-n.area c.own_mark.result (omega arith) c.own_mark.ensures c.loop-n.invariant.1.1,
-  ),
+  length-set c.loop-n.area c.loop-n.n c.own_mark.result ∙ c.loop-n.invariant.0,
+  upto_next 0 (own_mark c.args.nodes) c.loop-n.n c.loop-n.area c.own_mark.result (omega (arith, c.loop-n.invariant.0)) c.own_mark.ensures c.loop-n.invariant.1,
 )
 
 pub returns : goal.returns
 returns c =
     let e : c.loop-n.n ≡ 33 = omega arith in
-    own_marks c.args.nodes c.loop-n.area (omega arith) c.loop-n.invariant.1.0 (rw e at c.loop-n.invariant.1.1)
+    own_marks c.args.nodes c.loop-n.area (omega arith) c.loop-n.invariant.0 (rw e at c.loop-n.invariant.1)
 
 pub loop-n-init : goal.loop-n-init
-loop-n-init c = (omega arith, (omega arith, upto_none 0 (own_mark c.args.nodes) c.args.area.now))
+loop-n-init c = (omega arith, upto_none 0 (own_mark c.args.nodes) c.args.area.now)

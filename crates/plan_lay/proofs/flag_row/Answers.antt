@@ -18,26 +18,25 @@ fields net i e h f = ((net_sound net e).row i h).source (fixing_source (row_at (
 
 pub number-node-requires : goal.number-node-requires
 number-node-requires c =
-    let r = row_at (net_in c.args.net.now) c.args.i in
+    let r = row_at (net_in c.args.net.words.now) c.args.i in
     let f = sym (asked r c.kind.ensures c.is_fixing.ensures) ∙ c.if-is_fixing.true in
     record {
-      net_value = c.requires.0;
-      i_in_bounds = (c.requires.1, omega arith);
-      j_value = (fields c.args.net.now c.args.i c.requires.0 c.requires.1 f).at_in.is_nat;
+      i_in_bounds = (c.requires, omega arith);
+      j_value = (fields c.args.net.words.now c.args.i c.args.net.passes c.requires f).at_in.is_nat;
     }
 
 pub bounds-flags-node : goal.bounds-flags-node
 bounds-flags-node c =
-    let r = row_at (net_in c.args.net.now) c.args.i in
+    let r = row_at (net_in c.args.net.words.now) c.args.i in
     let f = sym (asked r c.kind.ensures c.is_fixing.ensures) ∙ c.if-is_fixing.true in
-    omega (arith, c.number-node.ensures, (fields c.args.net.now c.args.i c.requires.0 c.requires.1 f).at_in.most, (net_sound c.args.net.now c.requires.0).node_most)
+    omega (arith, c.number-node.ensures, (fields c.args.net.words.now c.args.i c.args.net.passes c.requires f).at_in.most, (net_sound c.args.net.words.now c.args.net.passes).node_most)
 
 pub returns-then-is_fixing : goal.returns-then-is_fixing
 returns-then-is_fixing c =
-    let r = row_at (net_in c.args.net.now) c.args.i in
-    flag_put (net_in c.args.net.now) c.args.i c.args.flags.now c.number-node.result (sym (asked r c.kind.ensures c.is_fixing.ensures) ∙ c.if-is_fixing.true) c.number-node.ensures
+    let r = row_at (net_in c.args.net.words.now) c.args.i in
+    flag_put (net_in c.args.net.words.now) c.args.i c.args.flags.now c.number-node.result (sym (asked r c.kind.ensures c.is_fixing.ensures) ∙ c.if-is_fixing.true) c.number-node.ensures
 
 pub returns-else-is_fixing : goal.returns-else-is_fixing
 returns-else-is_fixing c =
-    let r = row_at (net_in c.args.net.now) c.args.i in
-    flag_not (net_in c.args.net.now) c.args.i c.args.flags.now (sym (asked r c.kind.ensures c.is_fixing.ensures) ∙ c.if-is_fixing.false)
+    let r = row_at (net_in c.args.net.words.now) c.args.i in
+    flag_not (net_in c.args.net.words.now) c.args.i c.args.flags.now (sym (asked r c.kind.ensures c.is_fixing.ensures) ∙ c.if-is_fixing.false)

@@ -5,15 +5,7 @@ use Rattle.whole.specs.Truths.{and-false}
 use Rattle.plan_lay.specs.Grown.{put_yes, put_no}
 use Rattle.plan_lay.specs.Nodes.{as_asked, node_by}
 use Rattle.plan_lay.proofs.lay_node.Goals as goal
-use Rattle.plan_lay.proofs.lay_node.Goals.{Else-fixed-n, Then-area-n, Then-fixed-n}
-
-elsewhere : (c : Then-area-n) → let a = c.args in node_by a.area.now a.fixed.now a.held a.a a.n ≡ false
-unfolding node_by
-elsewhere c = let a = c.args in rw (ne_eqb (get_or a.area.now a.n 0) a.a c.if-area-n.true)
-
-other : (c : Then-fixed-n) → let a = c.args in node_by a.area.now a.fixed.now a.held a.a a.n ≡ false
-unfolding node_by
-other c = let a = c.args in rw (sym (as_asked (get_or a.fixed.now a.n false) a.held) ∙ not-true _ c.if-fixed-n.true, and-false)
+use Rattle.plan_lay.proofs.lay_node.Goals.{Else-fixed-n, then-area-n-via-then-area-n, then-area-n-via-else-area-n+then-fixed-n}
 
 own : (c : Else-fixed-n) → let a = c.args in node_by a.area.now a.fixed.now a.held a.a a.n ≡ true
 unfolding node_by
@@ -25,10 +17,13 @@ room : (c : Else-fixed-n) → let a = c.args in a.m < length a.nodes.now
 room c = c.requires.m_in_bounds (own c)
 
 pub returns-then-area-n : goal.returns-then-area-n
-returns-then-area-n c = put_no (elsewhere c)
-
-pub returns-then-fixed-n : goal.returns-then-fixed-n
-returns-then-fixed-n c = put_no (other c)
+unfolding node_by
+returns-then-area-n c =
+    let a = c.args in
+    elim c.then-area-n.branch [
+      | then-area-n-via-then-area-n w ↦ put_no (rw (ne_eqb (get_or a.area.now a.n 0) a.a w.if-area-n.true))
+      | then-area-n-via-else-area-n+then-fixed-n w ↦ put_no (rw (sym (as_asked (get_or a.fixed.now a.n false) a.held) ∙ not-true _ w.if-fixed-n.true, and-false))
+    ]
 
 pub offset_bounds-nodes-m : goal.offset_bounds-nodes-m
 offset_bounds-nodes-m c = omega (arith, room c)

@@ -9,6 +9,7 @@ use Rattle.paper.specs.Limits as Limits
 use Rattle.paper.specs.Rows.{Row, is_source, frequency}
 use Rattle.paper.specs.Network.{is_network}
 use Rattle.paper.specs.Areas.{step}
+use Rattle.plan_ends.specs.Kinds.{kind_is}
 use Rattle.laws_facts.specs.Sound.{SourceSound}
 use Rattle.laws_facts.specs.Nets.{net_in, row_at, network_length, head_word}
 use Rattle.laws_facts.proofs.Nets.{net_sound}
@@ -47,29 +48,29 @@ module _ (net : Words) (e : is_network net ≡ true) (i : ℕ) (h : i < length (
   minus_fits : SFits w64 (neg_ℤ (pos product))
   minus_fits = fits64 (neg_ℤ (pos product)) (rw (abs_neg (pos product)) (omega (arith, product_most)))
 
-pub returns-then-kind-eq-VC : goal.returns-then-kind-eq-VC
-returns-then-kind-eq-VC c =
-    let N = net_in c.args.net.now in
-    let q = product_read _ c.requires.net_value.0 _ c.requires.net_value.1 c.requires.i_value c.value-last.result (omega arith) c.value-last.type_inv c.value-last.ensures in
-    rw (q, +ℤ_idl (neg_ℤ (pos (product c.args.net.now c.requires.net_value.0 c.args.i c.requires.net_value.1 c.requires.i_value))))
-    (to_z-of_z (minus_fits _ c.requires.net_value.0 _ c.requires.net_value.1 c.requires.i_value) ∙ pace_swings N (row_at N c.args.i) (eq-eqb _ 8 (sym c.kind.ensures ∙ c.if-kind-eq-VC.true)))
+pub returns-in-Vc : goal.returns-in-Vc
+returns-in-Vc c =
+    let N = net_in c.args.net.words.now in
+    let q = product_read _ c.args.net.passes _ c.requires.i_in_bounds c.requires.i_value c.value-last.result (omega arith) c.value-last.type_inv c.value-last.ensures in
+    rw (q, +ℤ_idl (neg_ℤ (pos (product c.args.net.words.now c.args.net.passes c.args.i c.requires.i_in_bounds c.requires.i_value))))
+    (to_z-of_z (minus_fits _ c.args.net.passes _ c.requires.i_in_bounds c.requires.i_value) ∙ pace_swings N (row_at N c.args.i) (eq-eqb _ 8 (sym c.in-Vc.ensures)))
 
-pub returns : goal.returns
-returns c =
-    let N = net_in c.args.net.now in
-    last _ c.requires.net_value.0 _ c.requires.net_value.1 c.requires.i_value c.value-last.result c.value-last.type_inv c.value-last.ensures
-    ∙ pace_rises N (row_at N c.args.i) (ne_eqb _ 8 (λ q. c.if-kind-eq-VC.false (c.kind.ensures ∙ q)))
+pub returns-in_default : goal.returns-in_default
+returns-in_default c =
+    let N = net_in c.args.net.words.now in
+    last _ c.args.net.passes _ c.requires.i_in_bounds c.requires.i_value c.value-last.result c.value-last.type_inv c.value-last.ensures
+    ∙ pace_rises N (row_at N c.args.i) (ne_eqb _ 8 (λ q. c.in_default.not-Vc (kind_is (c.kind.ensures ∙ q))))
 
 pub bounds-net-0 : goal.bounds-net-0
-bounds-net-0 c = omega (arith, network_length c.args.net.now c.requires.net_value.0)
+bounds-net-0 c = omega (arith, network_length c.args.net.words.now c.args.net.passes)
 
 pub overflow_mul-result : goal.overflow_mul-result
 overflow_mul-result c =
-    rw (product_is _ c.requires.net_value.0 _ c.requires.net_value.1 c.requires.i_value c.value-last.result (omega arith) c.value-last.type_inv c.value-last.ensures)
-    (product_fits _ c.requires.net_value.0 _ c.requires.net_value.1 c.requires.i_value)
+    rw (product_is _ c.args.net.passes _ c.requires.i_in_bounds c.requires.i_value c.value-last.result (omega arith) c.value-last.type_inv c.value-last.ensures)
+    (product_fits _ c.args.net.passes _ c.requires.i_in_bounds c.requires.i_value)
 
 pub overflow_sub-result : goal.overflow_sub-result
 overflow_sub-result c =
-    let q = product_read _ c.requires.net_value.0 _ c.requires.net_value.1 c.requires.i_value c.value-last.result (omega arith) c.value-last.type_inv c.value-last.ensures in
-    rw (q, +ℤ_idl (neg_ℤ (pos (product c.args.net.now c.requires.net_value.0 c.args.i c.requires.net_value.1 c.requires.i_value))))
-    (minus_fits _ c.requires.net_value.0 _ c.requires.net_value.1 c.requires.i_value)
+    let q = product_read _ c.args.net.passes _ c.requires.i_in_bounds c.requires.i_value c.value-last.result (omega arith) c.value-last.type_inv c.value-last.ensures in
+    rw (q, +ℤ_idl (neg_ℤ (pos (product c.args.net.words.now c.args.net.passes c.args.i c.requires.i_in_bounds c.requires.i_value))))
+    (minus_fits _ c.args.net.passes _ c.requires.i_in_bounds c.requires.i_value)

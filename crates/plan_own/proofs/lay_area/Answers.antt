@@ -1,12 +1,12 @@
 -- `plan_own::lay_area` meets its contract: each part is laid by its own function. Assumes nothing.
-use Rattle.std.specs.Prelude.{◌<◌, ◌≤◌, ◌≡◌}
+use Rattle.std.specs.Prelude.{◌≤◌, ◌≡◌}
 use Rattle.whole.specs.Plain.{ℕ, ap, ◌∙◌, Bool, true, false, List, map, length, length-map, arith, Words}
 use Rattle.laws_facts.specs.Nets.{NetSound, net_in}
 use Rattle.laws_facts.proofs.Nets.{net_sound}
 use Rattle.paper.specs.Areas.{free_of}
 use Rattle.plan_ends.specs.Own.{own_ends, fixed_of, source_lines}
+use Rattle.plan_rows.specs.declared.Row.{Row}
 use Rattle.plan_rows.specs.declared.Totals.{Totals}
-use Rattle.plan_rows.specs.Decoded.{noded}
 use Rattle.plan_lay.specs.Ends.{legs_by, frame_of, legs_are}
 use Rattle.plan_lay.specs.Nodes.{nodes_by, free_are, fixed_are}
 use Rattle.plan_lay.specs.Sources.{sources_by, sources_are}
@@ -14,7 +14,7 @@ use Rattle.plan_own.specs.Owns.{Given}
 use Rattle.plan_own.specs.Areas.{room_here, free_or_fixed, ours, behind}
 use Rattle.plan_own.proofs.lay_area.Goals as goal
 
-module _ {net : Words} {plan : List (List ℕ)} {area : List ℕ} {fixed : List Bool} {totals : Totals} (g : Given net plan area fixed totals) where
+module _ {net : Words} {plan : List Row} {area : List ℕ} {fixed : List Bool} {totals : Totals} (g : Given net plan area fixed totals) where
   sound : NetSound (net_in net)
   sound = net_sound net g.network
 
@@ -40,15 +40,15 @@ module _ {net : Words} {plan : List (List ℕ)} {area : List ℕ} {fixed : List 
 pub lay_legs-legs_end-requires : goal.lay_legs-legs_end-requires
 lay_legs-legs_end-requires c =
     let g = c.requires.given in
-    let room = room_here (net_in c.args.net.now) c.args.a c.requires.tables.1.1 in record {
-      rows_bound = (omega (arith, rows g, (sound g).row_most), λ i h. let k : i < length (net_in c.args.net.now).rows = omega (arith, rows g) in rw (g.planned.row i k) (noded (sound g) i k));
+    let room = room_here (net_in c.args.net.words.now) c.args.a c.requires.tables.1.1 in record {
+      rows_bound = omega (arith, rows g, (sound g).row_most);
       rows_in_bounds = rw (legs g c.args.a c.requires.tables.1.0, length-map) (omega (arith, room.legs, c.requires.tables.0.legs_long));
     }
 
 pub lay_nodes-free_end-requires : goal.lay_nodes-free_end-requires
 lay_nodes-free_end-requires c =
     let g = c.requires.given in
-    let N = net_in c.args.net.now in
+    let N = net_in c.args.net.words.now in
     let room = room_here N c.args.a c.requires.tables.1.1 in record {
       count_bound = omega (arith, nodes g, (sound g).node_most);
       count_in_bounds = rw (free g c.args.a) (omega (arith, room.nodes, free_or_fixed N c.args.a, c.requires.tables.0.nodes_long));
@@ -57,7 +57,7 @@ lay_nodes-free_end-requires c =
 pub lay_nodes-nodes_end-requires : goal.lay_nodes-nodes_end-requires
 lay_nodes-nodes_end-requires c =
     let g = c.requires.given in
-    let N = net_in c.args.net.now in
+    let N = net_in c.args.net.words.now in
     let room = room_here N c.args.a c.requires.tables.1.1 in
     let freed = rw (free g c.args.a) at c.lay_nodes-free_end.ensures in record {
       count_bound = omega (arith, nodes g, (sound g).node_most);
@@ -67,15 +67,15 @@ lay_nodes-nodes_end-requires c =
 pub lay_sources-sources_end-requires : goal.lay_sources-sources_end-requires
 lay_sources-sources_end-requires c =
     let g = c.requires.given in
-    let room = room_here (net_in c.args.net.now) c.args.a c.requires.tables.1.1 in record {
-      net_value = (g.network, rows g);
+    let room = room_here (net_in c.args.net.words.now) c.args.a c.requires.tables.1.1 in record {
+      rows_value = rows g;
       mapped = (g.mapped, rw (sources g c.args.a, length-map) (omega (arith, room.sources, c.requires.tables.0.sources_long)));
     }
 
 pub returns : goal.returns
 returns c =
     let g = c.requires.given in
-    let N = net_in c.args.net.now in
+    let N = net_in c.args.net.words.now in
     let L = rw (legs g c.args.a c.requires.tables.1.0) at c.lay_legs-legs_end.ensures in
     let F = rw (free g c.args.a) at c.lay_nodes-free_end.ensures in
     let H = rw (held g c.args.a) at c.lay_nodes-nodes_end.ensures in

@@ -8,7 +8,7 @@ use Rattle.plan_rows.proofs.make.Goals as goal
 pub fill-slots-requires : goal.fill-slots-requires
 fill-slots-requires c =
     record {
-      net_value = (c.requires.net_value, c.row_count-rows.ensures, c.requires.area_len.1);
+      plan_len = c.requires.area_len.1;
       mapped = (mapped _ _ c.areas-areas.ensures.0, c.study_number-step.ensures);
     }
 

@@ -7,11 +7,10 @@ use Rattle.plan_rows.proofs.named.Goals as goal
 pub number-requires : goal.number-requires
 number-requires c =
     record {
-      net_value = c.requires.0;
-      i_in_bounds = (c.requires.1, omega arith);
-      j_value = (from_in (net_sound _ c.requires.0) c.args.i c.requires.1).is_nat;
+      i_in_bounds = (c.requires, omega arith);
+      j_value = (from_in (net_sound _ c.args.net.passes) c.args.i c.requires).is_nat;
     }
 
 pub returns : goal.returns
 returns c =
-    omega (arith, c.larger.ensures, c.number.ensures, c.to_at.ensures, named_is (net_sound _ c.requires.0) c.args.i c.requires.1)
+    omega (arith, c.max.ensures, c.number.ensures, c.to_at.ensures, named_is (net_sound _ c.args.net.passes) c.args.i c.requires)

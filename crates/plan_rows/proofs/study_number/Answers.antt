@@ -7,7 +7,7 @@ use Rattle.plan_rows.proofs.study_number.Goals as goal
 
 pub overflow_cast-result : goal.overflow_cast-result
 overflow_cast-result c =
-    index c.study_word.result _ c.study_word.type_inv (c.study_word.ensures ∙ study_word c.args.net.now c.requires.0 c.args.j c.requires.1)
+    index c.study_word.result _ c.study_word.type_inv (c.study_word.ensures ∙ study_word c.args.net.words.now c.args.net.passes c.args.j c.requires)
 
 pub returns : goal.returns
 returns c = ap nat_abs (read64 c.study_word.result c.study_word.type_inv ∙ c.study_word.ensures)

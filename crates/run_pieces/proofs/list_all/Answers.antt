@@ -1,20 +1,29 @@
 -- `run_pieces::list_all` meets its contract. Assumes nothing.
-use Rattle.std.proofs.Common.{arith}
-use Rattle.run_pieces.specs.Pieces.{going_none, going_on, going_ends}
+use Rattle.whole.specs.Plain.{refl, sym, ◌∙◌, arith, false≢true}
+use Rattle.run_pieces.specs.Pieces.{going_none, going_on, going_ends, going_breaks, going_full}
 use Rattle.run_pieces.proofs.list_all.Goals as goal
-use Rattle.whole.specs.Plain.{refl, ◌∙◌}
 
-pub loop-pieces-init : goal.loop-pieces-init
-loop-pieces-init g c = record { few = omega arith; long = refl; going = going_none _ _ _ }
+pub loop-before-init : goal.loop-before-init
+loop-before-init g c = record { long = refl; going = going_none _ _ _ }
 
-pub loop-pieces-preserved : goal.loop-pieces-preserved
-loop-pieces-preserved g c =
-    let v = c.loop-pieces.invariant in
+pub returns-in_err-last : goal.returns-in_err-last
+returns-in_err-last g c =
+    let v = c.loop-before.invariant in
+    going_breaks v.going v.long c.list_piece.ensures c.from_residual.result c.from_residual.ensures.0
+
+pub returns-then-not-has_more : goal.returns-then-not-has_more
+returns-then-not-has_more g c =
+    let v = c.loop-before.invariant in
+    going_ends v.going v.long c.list_piece.ensures c.in_ok-last.was (λ e. false≢true (sym c.if-not-has_more.true ∙ c.has_more.ensures.1 e))
+
+pub loop-before-preserved : goal.loop-before-preserved
+loop-before-preserved g c =
+    let v = c.loop-before.invariant in
+    let more = c.has_more.ensures.0 c.if-not-has_more.false in
     record {
-      few = omega (arith, c.loop-pieces-test.true);
-      long = c.list_piece-next.auto.out ∙ v.long;
-      going = going_on v.going v.long c.list_piece-next.ensures c.in-More.is;
+      long = c.list_piece.auto.out ∙ v.long;
+      going = going_on v.going v.long c.list_piece.ensures (rw more at c.in_ok-last.was);
     }
 
-pub returns-in_default : goal.returns-in_default
-returns-in_default g c = going_ends c.loop-pieces.invariant.going c.loop-pieces.invariant.long c.list_piece-next.ensures c.in_default.not-More
+pub returns : goal.returns
+returns g c = going_full c.loop-before.before (omega arith) (omega arith) c.loop-before.invariant.going

@@ -4,4 +4,4 @@ use Rattle.run_study.specs.Runs.{bad_short}
 use Rattle.run_study.proofs.put_refusal.Goals as goal
 
 pub put_bad-requires : goal.put_bad-requires
-put_bad-requires c = omega (arith, bad_short c.reading_line.result c.reading_number.result, c.requires)
+put_bad-requires c = omega (arith, bad_short c.unread_line.result c.unread_number.result, c.requires)

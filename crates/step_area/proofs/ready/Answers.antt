@@ -1,11 +1,12 @@
 -- `step_area::ready` meets its contract: 14, or the step from what is kept for it. Assumes nothing.
-use Rattle.whole.specs.Plain.{not-true, arith}
-use Rattle.step_keep.specs.Tabled.{area_few}
-use Rattle.step_area.specs.Going.{floating_step}
+use Rattle.std.proofs.lemmas.Result.{err_from_is_err_and}
+use Rattle.std.specs.Prelude.{◌≡◌}
+use Rattle.whole.specs.Plain.{refl, sym, ◌∙◌, Bool, true, false, true≢false, arith}
+use Rattle.step_area.specs.Going.{unless_node, floating_step}
 use Rattle.step_area.proofs.ready.Goals as goal
 
-pub renew-node-requires : goal.renew-node-requires
-renew-node-requires c =
+pub renew-requires : goal.renew-requires
+renew-requires c =
     let p = c.requires in
     record {
       net = p.net;
@@ -19,40 +20,44 @@ renew-node-requires c =
       long = p.stepping.kept.records_long;
     }
 
-pub returns-then-node-ne0 : goal.returns-then-node-ne0
-returns-then-node-ne0 c = record {
+pub returns-in_err-renew : goal.returns-in_err-renew
+returns-in_err-renew c =
+    let p = err_from_is_err_and c.from_residual.result c.from_residual.ensures.1 in
+    record {
+      of = λ N low high t s.
+          let w = c.renew.ensures.of N low high _ t s.least s.most in
+          let n = unless_node _ tt (sym c.in_err-renew.was ∙ w.answer) in
+          rw (p.1, p.2) (record { tables = w.tables; step = floating_step N _ _ _ _ (omega (arith, t.least, s.least)) n.0 n.1 });
+    }
+
+pub stepped-requires : goal.stepped-requires
+stepped-requires c =
+    let p = c.requires in
+    let w = c.renew.ensures.of _ _ _ _ p.tables p.stepping.least p.stepping.most in
+    record { net = p.net; low = p.low; high = p.high; owns = c.renew.new.owns; ready = record { tables = w.tables; stepping = p.stepping; own = refl; serving = w.serving c.in_ok-renew.was } }
+
+pub returns-in_err-parted : goal.returns-in_err-parted
+returns-in_err-parted c =
+    let p = err_from_is_err_and c.from_residual-in_err-parted.result c.from_residual-in_err-parted.ensures.1 in
+    record {
+      of = λ N low high t s.
+          let w = c.renew.ensures.of N low high _ t s.least s.most in
+          let r = c.stepped.ensures.of N low high c.renew.new.owns (record { tables = w.tables; stepping = s; own = refl; serving = w.serving c.in_ok-renew.was }) in
+          rw (p.1, p.2) (rw c.in_err-parted.was at (r.whole (λ q. cc (q, c.in_err-parted.was))));
+    }
+
+pub returns-then-parted : goal.returns-then-parted
+returns-then-parted c = record {
   of = λ N low high t s.
-      let w = c.renew-node.ensures.of N low high _ t s.least s.most in
-      record { tables = w.tables; step = floating_step N _ _ _ _ (omega (arith, t.least, s.least)) w.node c.if-node-ne0.true };
+      let w = c.renew.ensures.of N low high _ t s.least s.most in
+      let r = c.stepped.ensures.of N low high c.renew.new.owns (record { tables = w.tables; stepping = s; own = refl; serving = w.serving c.in_ok-renew.was }) in
+      rw c.in_ok-parted.was at r.parted;
 }
 
-pub own_at-o-requires : goal.own_at-o-requires
-own_at-o-requires c =
-    let p = c.requires in
-    area_few (c.renew-node.ensures.of _ _ _ _ p.tables p.stepping.least p.stepping.most).tables _ p.stepping.least p.stepping.most
-
-pub stepped-came-requires : goal.stepped-came-requires
-stepped-came-requires c =
-    let p = c.requires in
-    let w = c.renew-node.ensures.of _ _ _ _ p.tables p.stepping.least p.stepping.most in
-    record { net = p.net; low = p.low; high = p.high; owns = _; ready = record { tables = w.tables; stepping = p.stepping; own = c.own_at-o.ensures; serving = w.serving c.if-node-ne0.false } }
-
-pub returns-then-not-came : goal.returns-then-not-came
-returns-then-not-came c = record {
+pub returns-else-parted : goal.returns-else-parted
+returns-else-parted c = record {
   of = λ N low high t s.
-      let w = c.renew-node.ensures.of N low high _ t s.least s.most in
-      (c.stepped-came.ensures.of N low high _ (record { tables = w.tables; stepping = s; own = c.own_at-o.ensures; serving = w.serving c.if-node-ne0.false })).whole (not-true _ c.if-not-came.true);
-}
-
-pub put_until-requires : goal.put_until-requires
-put_until-requires c =
-    let p = c.requires in
-    area_few p.tables _ p.stepping.least p.stepping.most
-
-pub returns : goal.returns
-returns c = record {
-  of = λ N low high t s.
-      let w = c.renew-node.ensures.of N low high _ t s.least s.most in
-      rw c.put_until.ensures
-      (c.stepped-came.ensures.of N low high _ (record { tables = w.tables; stepping = s; own = c.own_at-o.ensures; serving = w.serving c.if-node-ne0.false })).parted;
+      let w = c.renew.ensures.of N low high _ t s.least s.most in
+      let r = c.stepped.ensures.of N low high c.renew.new.owns (record { tables = w.tables; stepping = s; own = refl; serving = w.serving c.in_ok-renew.was }) in
+      rw c.in_ok-parted.was at (r.whole (λ q. let z : ◌≡◌ {A = Bool} true false = cc (q, c.in_ok-parted.was, c.if-parted.false) in absurd (true≢false z)));
 }

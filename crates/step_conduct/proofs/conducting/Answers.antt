@@ -7,6 +7,6 @@ pub returns-then-is_open : goal.returns-then-is_open
 unfolding conducts_of
 returns-then-is_open c = rw (sym c.is_open.ensures ∙ c.if-is_open.true)
 
-pub returns : goal.returns
+pub returns-else-is_open : goal.returns-else-is_open
 unfolding conducts_of
-returns c = rw (sym c.is_open.ensures ∙ c.if-is_open.false)
+returns-else-is_open c = rw (sym c.is_open.ensures ∙ c.if-is_open.false)

@@ -28,7 +28,6 @@ pub returns-then-latch-gt0 : goal.returns-then-latch-gt0
 unfolding opening_of
 returns-then-latch-gt0 c = rw (eq-eqb _ 5 c.if-r-ne-SW.false, rw (to_z-of_z c.ranges.latch) at c.if-latch-gt0.true, to_z-of_z c.ranges.latch)
 
-pub returns : goal.returns
+pub returns-else-latch-gt0 : goal.returns-else-latch-gt0
 unfolding opening_of
-returns c =
-    rw (eq-eqb _ 5 c.if-r-ne-SW.false, rw (to_z-of_z c.ranges.latch) at c.if-latch-gt0.false)
+returns-else-latch-gt0 c = rw (eq-eqb _ 5 c.if-r-ne-SW.false, rw (to_z-of_z c.ranges.latch) at c.if-latch-gt0.false)

@@ -4,13 +4,13 @@ use Rattle.whole.specs.Turns.{downs_next, downs_end}
 use Rattle.step_factors.specs.Factored.{row_back, back}
 use Rattle.step_factors.proofs.back.Goals as goal
 
-pub loop-rows-init : goal.loop-rows-init
+pub loop-p-init : goal.loop-p-init
 unfolding back
-loop-rows-init c = (omega arith, refl)
+loop-p-init c = (omega arith, refl)
 
-pub loop-rows-preserved : goal.loop-rows-preserved
+pub loop-p-preserved : goal.loop-p-preserved
 unfolding row_back
-loop-rows-preserved c = (omega arith, downs_next _ _ _ _ _ c.loop-rows-test.true (rw c.solve_row-y.ensures) c.loop-rows.invariant.1)
+loop-p-preserved c = (omega arith, downs_next _ _ _ _ _ c.loop-p-test.true (rw c.solve_row.ensures) c.loop-p.invariant.1)
 
 pub returns : goal.returns
-returns c = downs_end _ _ _ _ c.loop-rows-test.false c.loop-rows.invariant.1
+returns c = downs_end _ _ _ _ c.loop-p-test.false c.loop-p.invariant.1

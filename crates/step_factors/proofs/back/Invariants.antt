@@ -4,8 +4,5 @@ use Rattle.whole.specs.Turns.{downs}
 use Rattle.step_factors.specs.Factored.{row_back, back}
 use Rattle.step_factors.proofs.back.Given as goal
 
-abbrev pub invariant-loop-rows : goal.invariant-loop-rows
-invariant-loop-rows l = (l.rows ≤ l.n) × (downs l.rows (row_back l.base l.n l.a) l.x ≡ back l.base l.n l.a l.initial.x)
-
-abbrev pub decreases-loop-rows : goal.decreases-loop-rows
-decreases-loop-rows l = l.rows
+abbrev pub invariant-loop-p : goal.invariant-loop-p
+invariant-loop-p l = (l.p ≤ l.n) × (downs l.p (row_back l.base l.n l.a) l.x ≡ back l.base l.n l.a l.initial.x)

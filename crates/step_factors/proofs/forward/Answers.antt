@@ -10,7 +10,7 @@ loop-q-init c = refl
 
 pub loop-q-preserved : goal.loop-q-preserved
 unfolding row_forward
-loop-q-preserved c = turns_next _ _ _ _ _ _ c.loop-q-test.true (rw c.left-t.ensures) c.loop-q.invariant
+loop-q-preserved c = turns_next _ _ _ _ _ _ c.loop-q-test.true (rw c.left.ensures) c.loop-q.invariant
 
 pub returns : goal.returns
 returns c = turns_end _ _ _ _ _ c.loop-q-test.false c.loop-q.invariant

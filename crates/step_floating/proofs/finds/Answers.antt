@@ -7,6 +7,6 @@ pub returns-then-meets : goal.returns-then-meets
 unfolding finds
 returns-then-meets c = rw (sym c.meets.ensures ∙ c.if-meets.true) c.reaches.ensures
 
-pub returns : goal.returns
+pub returns-else-meets : goal.returns-else-meets
 unfolding finds
-returns c = rw (sym c.meets.ensures ∙ c.if-meets.false)
+returns-else-meets c = rw (sym c.meets.ensures ∙ c.if-meets.false)

@@ -1,90 +1,63 @@
 -- `step_floating::floating` meets its contract: the nodes before those left are reached, so the answer is the first of these that floats. Assumes
 -- nothing.
-use Rattle.std.specs.Prelude.{◌+◌, ◌-◌, ◌<◌, ◌≡◌}
-use Rattle.whole.specs.Plain.{sym, ◌∙◌, length, arith}
+use Rattle.std.specs.Prelude.{◌-◌, ◌≡◌}
+use Rattle.whole.specs.Plain.{refl, ◌∙◌, length, arith}
 use Rattle.paper.specs.Floating as Paper
 use Rattle.step_legs.specs.Free.{first_done}
-use Rattle.step_floating.specs.Answer.{state_start, state_next, state_visit, left_next, left_visit, floats, search_on, search_found}
+use Rattle.step_floating.specs.Answer.{state_start}
+use Rattle.step_floating.specs.Visits.{leg_first, leg_there, visiting_next, visiting_less, visiting_anew, anew_less, floats_here, floats_on, part_first, part_there, part_more, some_named}
 use Rattle.step_floating.proofs.floating.Goals as goal
 
 pub nodes-init : goal.nodes-init
 unfolding Paper.floating
 nodes-init c =
-    let s = c.before.before in
-    let n = length s.args.free.now in
+    let n = length c.args.free.now in
     let e : n - n ≡ 0 = omega arith in
-    (omega arith, (rw c.first_marks-marks.ensures (state_start s.requires.0 s.args.free.now), rw e))
+    let k = length c.args.legs.now in
+    let z : k - k ≡ 0 = omega arith in
+    rw c.start-search.ensures (record { left = rw z; at = rw z (state_start c.requires.0 c.args.free.now) }, (rw e, refl))
 
-pub visit_leg-listed-requires : goal.visit_leg-listed-requires
-visit_leg-listed-requires c = (c.requires.0, (c.if-j-legs.true, c.branches.invariant.room))
+pub bounds-search-node : goal.bounds-search-node
+bounds-search-node c =
+    let p = c.nodes.invariant.1.0 in
+    let q = c.in-Some.ensures.cases.0 in
+    let e = part_first 0 c.args.free.now p q in
+    let h = c.requires.1.node _ (part_there 0 c.args.free.now p q) in
+    omega (arith, e, h)
 
-pub overflow_add-j : goal.overflow_add-j
-overflow_add-j c = omega (arith, c.if-j-legs.true, c.well_formed)
+pub visit_leg-requires : goal.visit_leg-requires
+visit_leg-requires c =
+    let v = c.branches.invariant in
+    let w = c.requires.0 in
+    let e = c.in-Some-split_first.ensures.cases.0 in
+    (rw (leg_first v w e) (w.wired _ (leg_there v w e)), v.at.room)
 
-pub branches-preserved-then-j-legs : goal.branches-preserved-then-j-legs
-branches-preserved-then-j-legs c =
-    let t = c.visit_leg-listed.ensures in
-    rw (t.value, t.marks_value, t.list_value) (state_next c.requires.0 c.branches.invariant c.if-j-legs.true)
+pub branches-smaller-in-Some-split_first : goal.branches-smaller-in-Some-split_first
+branches-smaller-in-Some-split_first c = rw c.visit_leg.ensures (visiting_less c.branches.invariant c.requires.0 c.in-Some-split_first.ensures.cases.0)
 
-pub branches-smaller-then-j-legs : goal.branches-smaller-then-j-legs
-branches-smaller-then-j-legs c =
-    let t = c.visit_leg-listed.ensures in
-    rw (t.value, t.marks_value) (left_next c.requires.0 c.branches.invariant c.if-j-legs.true)
-
-pub bounds-list-listed : goal.bounds-list-listed
-bounds-list-listed c = omega (arith, c.if-listed-eq0.false, c.branches.invariant.room.room)
-
-pub branches-preserved : goal.branches-preserved
-branches-preserved c = state_visit c.branches.invariant c.if-j-legs.false c.if-listed-eq0.false
+pub branches-preserved-in-Some-split_first : goal.branches-preserved-in-Some-split_first
+branches-preserved-in-Some-split_first c = rw c.visit_leg.ensures (visiting_next c.branches.invariant c.requires.0 c.in-Some-split_first.ensures.cases.0)
 
 pub branches-smaller : goal.branches-smaller
-branches-smaller c = left_visit c.branches.invariant c.if-j-legs.false c.if-listed-eq0.false
+branches-smaller c = anew_less c.branches.invariant c.in_default-split_first.ensures.cases c.if-search-eq0.false
+
+pub branches-preserved : goal.branches-preserved
+branches-preserved c = visiting_anew c.branches.invariant c.in_default-split_first.ensures.cases c.if-search-eq0.false
 
 pub nodes-preserved : goal.nodes-preserved
 nodes-preserved c =
-    let s = c.branches.invariant in
-    let h = c.nodes.invariant in
-    let n = length c.args.free.now in
-    let e : n - (c.nodes.left - 1) ≡ (n - c.nodes.left) + 1 = omega (arith, c.if-left-eq0.false, h.0) in
-    let w : n - c.nodes.left < n = omega (arith, c.if-left-eq0.false, h.0) in
-    (omega (arith, h.0), (s, rw e (search_on s c.requires.1 w h.1.1 c.if-marks-node-eq0.true)))
+    let p = c.nodes.invariant.1.0 in
+    let q = c.in-Some.ensures.cases.0 in
+    (c.branches.invariant, (part_more 0 c.args.free.now p q, floats_on c.branches.invariant c.requires.1 p q c.nodes.invariant.1.1 c.branches-test.false))
 
-pub returns-then-left-eq0 : goal.returns-then-left-eq0
-returns-then-left-eq0 c =
-    let n = c.before in
-    let a = n.args in
-    sym (n.nodes.invariant.1.1 ∙ first_done (floats a.legs.now a.free.now) a.free.now (length a.free.now - n.nodes.left) (omega (arith, c.if-left-eq0.true)))
+pub returns-in_default : goal.returns-in_default
+returns-in_default c = rw (c.nodes.invariant.1.1 ∙ first_done _ c.nodes.nodes.now 0 (omega (arith, c.in_default.ensures.cases)))
 
-pub returns-then-listed-eq0 : goal.returns-then-listed-eq0
-returns-then-listed-eq0 c =
-    let h = c.nodes.invariant in
-    let n = length c.args.free.now in
-    let w : n - c.nodes.left < n = omega (arith, c.if-left-eq0.false, h.0) in
-    sym (search_found c.branches.invariant c.requires.1 w h.1.1 c.if-j-legs.false c.if-listed-eq0.true c.if-marks-node-eq0.false)
-
-pub first_marks-marks-requires : goal.first_marks-marks-requires
-first_marks-marks-requires c = c.requires.1
-
-pub overflow_sub-node : goal.overflow_sub-node
-overflow_sub-node c = omega (arith, c.nodes.invariant.0)
-
-pub offset_bounds-free-free : goal.offset_bounds-free-free
-offset_bounds-free-free c = omega (arith, c.if-left-eq0.false, c.nodes.invariant.0, c.well_formed)
-
-pub bounds-free-free : goal.bounds-free-free
-bounds-free-free c = omega (arith, c.if-left-eq0.false, c.nodes.invariant.0)
-
-pub branches-init : goal.branches-init
-branches-init c = c.nodes.invariant.1.0
-
-pub bounds-marks-node : goal.bounds-marks-node
-bounds-marks-node c = omega (arith, c.requires.1.node (length c.args.free.now - c.nodes.left) (omega (arith, c.if-left-eq0.false, c.nodes.invariant.0)))
-
-pub overflow_sub-listed : goal.overflow_sub-listed
-overflow_sub-listed c = omega (arith, c.if-listed-eq0.false)
-
-pub overflow_sub-left : goal.overflow_sub-left
-overflow_sub-left c = omega (arith, c.if-left-eq0.false)
-
-pub nodes-smaller : goal.nodes-smaller
-nodes-smaller c = omega (arith, c.if-left-eq0.false)
+pub returns-then-search-eq0 : goal.returns-then-search-eq0
+returns-then-search-eq0 c =
+    let p = c.nodes.invariant.1.0 in
+    let q = c.in-Some.ensures.cases.0 in
+    let e = floats_here c.branches.invariant c.in_default-split_first.ensures.cases c.requires.1 p q c.nodes.invariant.1.1 c.branches-test.true c.if-search-eq0.true in
+    let f = part_first 0 c.args.free.now p q in
+    let h = c.requires.1.above _ (part_there 0 c.args.free.now p q) in
+    rw e (some_named _ (λ z. omega (arith, f, h, z)))

@@ -1,16 +1,21 @@
 -- `step_floating::meets` meets its contract. Assumes nothing.
-use Rattle.whole.specs.Plain.{eq-eqb, ne_eqb}
+use Rattle.whole.specs.Plain.{sym, ◌∙◌, true≢false, eq-eqb, ne_eqb}
 use Rattle.step_floating.specs.Search.{meets}
 use Rattle.step_floating.proofs.meets.Goals as goal
+use Rattle.step_floating.proofs.meets.Goals.{then-n-eq0, else-n-eq0}
 
-pub returns-then-n-eq0 : goal.returns-then-n-eq0
+pub returns-then-l-n : goal.returns-then-l-n
 unfolding meets
-returns-then-n-eq0 c = rw (eq-eqb _ 0 c.if-n-eq0.true)
+returns-then-l-n c =
+    elim c.if-n-eq0.branch [
+      | then-n-eq0 w ↦ rw (c.if-l-n.true, eq-eqb _ 0 w.if-n-eq0.true)
+      | else-n-eq0 w ↦ rw (c.if-l-n.true, ne_eqb _ 0 w.if-n-eq0.false, sym w.value-is ∙ c.if-l-n.true)
+    ]
 
-pub returns-then-l-node : goal.returns-then-l-node
+pub returns-else-l-n : goal.returns-else-l-n
 unfolding meets
-returns-then-l-node c = rw (ne_eqb _ 0 c.if-n-eq0.false, eq-eqb _ _ c.if-l-node.true)
-
-pub returns : goal.returns
-unfolding meets
-returns c = rw (ne_eqb _ 0 c.if-n-eq0.false, ne_eqb _ _ c.if-l-node.false)
+returns-else-l-n c =
+    elim c.if-n-eq0.branch [
+      | then-n-eq0 w ↦ absurd (true≢false (sym (eq-eqb _ 0 w.if-n-eq0.true) ∙ sym w.value-is ∙ c.if-l-n.false))
+      | else-n-eq0 w ↦ rw (ne_eqb _ 0 w.if-n-eq0.false, sym w.value-is ∙ c.if-l-n.false)
+    ]

@@ -6,6 +6,7 @@ use mir.Val.{of_z}
 use Rattle.whole.specs.Int.{is_lit}
 use Rattle.whole.specs.Size.{fits}
 use Rattle.step_floating.specs.Search.{reaches}
+use Rattle.step_floating.specs.Visits.{some_named}
 use Rattle.step_floating.proofs.reaches.Goals as goal
 
 nat-zero : (x : ℤ) → nat x ≡ 0 → x ≡ pos 0
@@ -19,19 +20,18 @@ pub returns-then-l-eq0 : goal.returns-then-l-eq0
 unfolding reaches
 returns-then-l-eq0 c = rw (is_lit 0 (fits c.requires.g_end tt) c.if-l-eq0.true)
 
-pub returns-then-marks-p-eq0 : goal.returns-then-marks-p-eq0
+pub returns-in-0-eq0 : goal.returns-in-0-eq0
 unfolding reaches
-returns-then-marks-p-eq0 c = let t = c.before in rw (live _ t.if-l-eq0.false, eq-eqb _ 0 t.if-marks-p-eq0.true)
+returns-in-0-eq0 c = rw (live _ c.if-l-eq0.false, eq-eqb _ 0 c.in-0-eq0.is-0, c.in-0-eq0.is-1)
 
-pub returns-then-marks-q-eq0 : goal.returns-then-marks-q-eq0
+pub returns-in-0-default : goal.returns-in-0-default
 unfolding reaches
-returns-then-marks-q-eq0 c =
-    let t = c.before in
-    let u = t.before.before in
-    rw (live _ u.if-l-eq0.false, ne_eqb _ 0 u.if-marks-p-eq0.false, eq-eqb _ 0 t.if-marks-q-eq0.true)
+returns-in-0-default c = rw (live _ c.if-l-eq0.false, eq-eqb _ 0 c.in-0-default.is-0) (some_named _ c.in-0-default.is-1.1)
 
-pub returns : goal.returns
+pub returns-in_default-eq0 : goal.returns-in_default-eq0
 unfolding reaches
-returns c =
-    let u = c.before.before in
-    rw (live _ u.if-l-eq0.false, ne_eqb _ 0 u.if-marks-p-eq0.false, ne_eqb _ 0 c.if-marks-q-eq0.false)
+returns-in_default-eq0 c = rw (live _ c.if-l-eq0.false, ne_eqb _ 0 c.in_default-eq0.is-0.1, eq-eqb _ 0 c.in_default-eq0.is-1) (some_named _ c.in_default-eq0.is-0.1)
+
+pub returns-in_default : goal.returns-in_default
+unfolding reaches
+returns-in_default c = rw (live _ c.if-l-eq0.false, ne_eqb _ 0 c.in_default.is-0.1, ne_eqb _ 0 c.in_default.is-1.1)

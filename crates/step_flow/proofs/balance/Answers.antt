@@ -1,6 +1,7 @@
--- `step_flow::balance` meets its contract: the search from the i-th free node on. Assumes nothing.
-use Rattle.std.specs.Prelude.{◌+◌, ◌-◌, ◌≤◌, ◌<◌, ◌≡◌, ◌-ℤ◌}
-use Rattle.whole.specs.Plain.{ℕ, refl, sym, ap, ◌∙◌, Bool, true, false, not, List, ℤ, get_or, length, drop, get_or-drop, arith, nat, Words, word, z, up_to}
+-- `step_flow::balance` meets its contract: the search from the free node on. Assumes nothing.
+use Rattle.std.specs.Prelude.{Some, ◌+◌, ◌-◌, ◌≤◌, ◌<◌, ◌≡◌, ◌-ℤ◌}
+use Rattle.whole.specs.Plain.{ℕ, zero, suc, first, cond, refl, sym, ap, ◌∙◌, Bool, true, false, not, List, ℤ, get_or, length, drop, get_or-drop, arith, nat, Words, word, z, up_to}
+use Rattle.whole.specs.Named.{named}
 use mir.Syntax.{w64}
 use mir.Val.{SFits, to_z, of_z}
 use mir.Facts.{to_z-of_z}
@@ -33,31 +34,40 @@ module _ (out given : Words) (one : ℕ) (free : List ℕ) (f : Free free) (n : 
   unfolding past
   told h e = rw (leaves, injects) (ap not (simp (to_z-of_z, h, fit.0, fit.1, fit.2) at e))
 
-pub loop-i-init : goal.loop-i-init
+  turn : {limit : ℤ} {r : Bool} → SFits w64 limit
+      → r ≡ up_to (nat (to_z w64 (of_z w64 limit))) (to_z w64 (of_z w64 (to_z w64 (of_z w64 (word out node)) -ℤ to_z w64 (of_z w64 (word given (one + (node - 1)))))))
+      → first_past (nat (to_z w64 (of_z w64 limit))) (drop 1 out) (drop one given) free ≡ first (past (nat (to_z w64 (of_z w64 limit))) (drop 1 out) (drop one given)) (drop i free)
+      → (t : Bool) → not r ≡ t → first_past (nat limit) (drop 1 out) (drop one given) free ≡ cond t node (first (past (nat limit) (drop 1 out) (drop one given)) (drop (i + 1) free))
+  turn h e s t q = first_here _ free i _ l (simp (to_z-of_z, h) at s) t (sym (told h e) ∙ q)
+
+pub loop-p-init : goal.loop-p-init
 unfolding first_past
-loop-i-init c = (omega arith, refl)
+loop-p-init c = refl
 
 pub overflow_sub-leaving : goal.overflow_sub-leaving
 overflow_sub-leaving c =
     let a = c.args in
-    let f = fit a.leaving.now a.injected.now a.one a.free.now c.requires.free.0 c.requires.near c.loop-i.i c.loop-i-test.true in
+    let f = fit a.leaving.now a.injected.now a.one a.free.now c.requires.free.0 c.requires.near c.loop-p.p-index c.loop-p-test.true in
     simp (to_z-of_z, f.0, f.1) f.2
 
-pub returns-then-not-ok : goal.returns-then-not-ok
-returns-then-not-ok c =
-    let a = c.args in
-    let l = c.loop-i-test.true in
-    let t = told a.leaving.now a.injected.now a.one a.free.now c.requires.free.0 c.requires.near c.loop-i.i l c.ranges.limit c.within-ok.ensures in
-    let e = simp (to_z-of_z, c.ranges.limit) at c.loop-i.invariant.1 in
-    sym (first_here _ a.free.now c.loop-i.i _ l e true (sym t ∙ ap not c.if-not-ok.true))
+-- a node has a name
+named_is : (p : ℕ) → 1 ≤ p → Some p ≡ named p
+named_is zero h = absurd (omega arith)
+named_is (suc n) h = refl
 
-pub loop-i-preserved : goal.loop-i-preserved
-loop-i-preserved c =
+pub returns-then-not-within : goal.returns-then-not-within
+returns-then-not-within c =
     let a = c.args in
-    let l = c.loop-i-test.true in
-    let t = told a.leaving.now a.injected.now a.one a.free.now c.requires.free.0 c.requires.near c.loop-i.i l c.ranges.limit c.within-ok.ensures in
-    let e = simp (to_z-of_z, c.ranges.limit) at c.loop-i.invariant.1 in
-    (omega arith, simp (to_z-of_z, c.ranges.limit) (first_here _ a.free.now c.loop-i.i _ l e false (sym t ∙ ap not c.if-not-ok.false)))
+    let l = c.loop-p-test.true in
+    let t = turn a.leaving.now a.injected.now a.one a.free.now c.requires.free.0 c.requires.near c.loop-p.p-index l c.ranges.limit c.within.ensures c.loop-p.invariant true (ap not c.if-not-within.true) in
+    named_is (get_or a.free.now c.loop-p.p-index 0) (c.requires.free.0.above c.loop-p.p-index l) ∙ sym (ap named t)
+
+pub loop-p-preserved : goal.loop-p-preserved
+loop-p-preserved c =
+    let a = c.args in
+    let l = c.loop-p-test.true in
+    let t = turn a.leaving.now a.injected.now a.one a.free.now c.requires.free.0 c.requires.near c.loop-p.p-index l c.ranges.limit c.within.ensures c.loop-p.invariant false (ap not c.if-not-within.false) in
+    simp (to_z-of_z, c.ranges.limit) t
 
 pub returns : goal.returns
-returns c = sym (simp (to_z-of_z, c.ranges.limit) at c.loop-i.invariant.1 ∙ first_done _ c.args.free.now c.loop-i.i c.loop-i-test.false)
+returns c = sym (ap named (simp (to_z-of_z, c.ranges.limit) at c.loop-p.invariant ∙ first_done _ c.args.free.now c.loop-p.p-index c.loop-p-test.false))

@@ -10,7 +10,7 @@ use Rattle.paper.specs.Legs.{through, current, echo}
 use Rattle.step_legs.specs.declared.Wire.{Wire}
 use Rattle.step_legs.specs.Wires.{leg_of, Carries}
 use Rattle.step_legs.specs.Shares.{Volts, through_size, current_size, echo_size}
-use Rattle.step_flow.specs.Flown.{found_of}
+use Rattle.step_flow.specs.Flown.{flown}
 use Rattle.step_flow.proofs.carried.Goals as goal
 
 -- each of the three, as the machine has them
@@ -26,14 +26,14 @@ module _ {l : Wire} {v : Words} (s : Carries l) (u : Volts v) where
   unfolding current echo
   sums = fits (echo_size s u) tt
 
-pub overflow_add-i : goal.overflow_add-i
-overflow_add-i c =
+pub overflow_add-current : goal.overflow_add-current
+overflow_add-current c =
     let p = c.requires.0 in
     let u = c.requires.1 in
     rw c.through-gu.ensures (simp (to_z-of_z, product p u, fits p.h_end tt) (sum p u))
 
-pub overflow_add-i-2 : goal.overflow_add-i-2
-overflow_add-i-2 c =
+pub overflow_add-current-2 : goal.overflow_add-current-2
+overflow_add-current-2 c =
     let p = c.requires.0 in
     let u = c.requires.1 in
     rw c.through-gu.ensures (simp (to_z-of_z, product p u, fits p.h_end tt, sum p u) (sums p u))
@@ -46,9 +46,9 @@ passed_on-passed-requires c =
     rw c.through-gu.ensures (simp (to_z-of_z, product p u, fits p.h_end tt, sum p u, sums p u) (omega (arith, (echo_size p u).size)))
 
 pub returns : goal.returns
-unfolding found_of current echo
+unfolding flown current echo
 returns c =
     let p = c.requires.0 in
     let u = c.requires.1 in
     rw (read64 c.passed_on-passed.result c.passed_on-passed.type_inv, c.passed_on-passed.ensures, c.through-gu.ensures)
-    (simp (to_z-of_z, product p u, fits p.h_end tt, sum p u, sums p u))
+    (simp (to_z-of_z, product p u, fits p.wired.g_end tt, fits p.h_end tt, sum p u, sums p u))

@@ -1,6 +1,6 @@
 -- `step_flow::passed_on` meets its contract. Assumes nothing.
 use Rattle.std.specs.Prelude.{◌≡◌, ◌||◌, ◌-ℤ◌}
-use Rattle.whole.specs.Plain.{◌∙◌, ⊎_elim, true, eqb, ℤ, pos, neg_ℤ, +ℤ_idl, eq-eqb, ne_eqb, arith}
+use Rattle.whole.specs.Plain.{◌∙◌, true, eqb, ℤ, pos, neg_ℤ, +ℤ_idl, eq-eqb, ne_eqb, ℕ_discrete, arith}
 use mir.Syntax.{w64}
 use mir.Val.{SFits, to_z, of_z}
 use mir.Facts.{to_z-of_z}
@@ -15,19 +15,22 @@ less {e} f = rw (to_z-of_z f) (+ℤ_idl (neg_ℤ e))
 less-fits : {e : ℤ} → SFits w64 e → Small e → SFits w64 (pos 0 -ℤ to_z w64 (of_z w64 e))
 less-fits {e} f s = rw (less f) (fits64 (neg_ℤ e) (rw abs_neg (omega arith)))
 
-pub returns-then-kind-eq-L : goal.returns-then-kind-eq-L
+pub returns-in-2 : goal.returns-in-2
 unfolding passed_by
-returns-then-kind-eq-L c = rw (eq-eqb c.args.kind 2 c.if-kind-eq-L.true) (to_z-of_z c.ranges.echo)
+returns-in-2 c = rw (eq-eqb c.args.kind 2 (omega arith)) (to_z-of_z c.ranges.echo)
 
-pub returns-then-kind-eq-C : goal.returns-then-kind-eq-C
+pub returns-in-3 : goal.returns-in-3
 unfolding passed_by
-returns-then-kind-eq-C c =
+returns-in-3 c =
     let k = c.args.kind in
-    let e : (eqb k 3 || eqb k 4) ≡ true = ⊎_elim (λ w. rw (eq-eqb k 3 w)) (λ w. rw (ne_eqb k 3 w.0) (eq-eqb k 4 w.1)) c.then-kind-eq-C.either in
-    rw (ne_eqb k 2 c.if-kind-eq-L.false, e) (to_z-of_z (less-fits c.ranges.echo c.requires) ∙ less c.ranges.echo)
+    let e : (eqb k 3 || eqb k 4) ≡ true = elim (ℕ_discrete k 3) [ yes q ↦ rw (eq-eqb k 3 q) | no q ↦ rw (ne_eqb k 3 q, eq-eqb k 4 (omega arith)) ] in
+    rw (ne_eqb k 2 (λ q. omega arith), e) (to_z-of_z (less-fits c.ranges.echo c.requires) ∙ less c.ranges.echo)
 
-pub returns : goal.returns
+-- below the kinds that pass on, and above them
+pub returns-in_default : goal.returns-in_default
 unfolding passed_by
-returns c =
-    let k = c.args.kind in
-    rw (ne_eqb k 2 c.if-kind-eq-L.false, ne_eqb k 3 c.if-kind-eq-C.false, ne_eqb k 4 c.if-kind-eq-LINE.false)
+returns-in_default c = let k = c.args.kind in rw (ne_eqb k 2 (λ q. omega arith), ne_eqb k 3 (λ q. omega arith), ne_eqb k 4 (λ q. omega arith))
+
+pub returns-in_default-2 : goal.returns-in_default-2
+unfolding passed_by
+returns-in_default-2 c = let k = c.args.kind in rw (ne_eqb k 2 (λ q. omega arith), ne_eqb k 3 (λ q. omega arith), ne_eqb k 4 (λ q. omega arith))

@@ -1,12 +1,13 @@
 -- `step_histories::held` meets its contract. Assumes nothing.
 use Rattle.std.specs.Prelude.{◌≤◌, ◌≡◌, ◌-ℤ◌}
-use Rattle.whole.specs.Plain.{ℤ, nat_abs, neg_ℤ, +ℤ_idl, eq-eqb, ne_eqb, arith, z, word}
+use Rattle.whole.specs.Plain.{ℤ, sym, ◌∙◌, nat_abs, neg_ℤ, +ℤ_idl, arith, z, word}
 use mir.Syntax.{w64}
 use mir.Val.{SFits}
 use mir.Facts.{to_z-of_z}
 use Rattle.whole.specs.Int.{abs_neg, fits64}
 use Rattle.paper.specs.Limits as Limits
 use Rattle.paper.specs.Records as Records
+use Rattle.step_legs.specs.Side.{from_is, to_is}
 use Rattle.step_own.specs.Ends.{facing}
 use Rattle.step_histories.proofs.held.Goals as goal
 
@@ -21,21 +22,15 @@ module _ (h : ℤ) (b : nat_abs h ≤ Limits.history_end) where
   less-fits : SFits w64 (z -ℤ h)
   less-fits = rw less (fits64 (neg_ℤ h) (omega (arith, abs_neg h)))
 
-pub overflow_sub-result : goal.overflow_sub-result
-overflow_sub-result c =
-    let h = word c.args.records.now (Records.history_at c.args.i) in
-    let b = c.requires.held_bound in
-    rw (to_z-of_z (h_fits h b)) (less-fits h b)
-
-pub returns-then-end-ne1 : goal.returns-then-end-ne1
+pub returns-in-From : goal.returns-in-From
 unfolding facing
-returns-then-end-ne1 c =
-    let h = word c.args.records.now (Records.history_at c.args.i) in
-    let b = c.requires.held_bound in
-    rw (ne_eqb _ 1 c.if-end-ne1.true, to_z-of_z (h_fits h b), to_z-of_z (less-fits h b)) (less h b)
+returns-in-From c =
+    let h = word c.args.records.now (Records.history_at c.args.l.row) in
+    rw (from_is c.args.l.end (sym c.side.ensures ∙ c.in-From.is)) (to_z-of_z (h_fits h c.requires.held_bound))
 
-pub returns : goal.returns
+pub returns-in-To : goal.returns-in-To
 unfolding facing
-returns c =
-    let h = word c.args.records.now (Records.history_at c.args.i) in
-    rw (eq-eqb _ 1 c.if-end-ne1.false) (to_z-of_z (h_fits h c.requires.held_bound))
+returns-in-To c =
+    let h = word c.args.records.now (Records.history_at c.args.l.row) in
+    let b = c.requires.held_bound in
+    rw (to_is c.args.l.end (sym c.side.ensures ∙ c.in-To.is), to_z-of_z (h_fits h b), to_z-of_z (less-fits h b)) (less h b)

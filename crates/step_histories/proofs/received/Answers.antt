@@ -7,7 +7,7 @@ use Rattle.step_histories.proofs.received.Goals as goal
 pub returns-then-r-eq0 : goal.returns-then-r-eq0
 returns-then-r-eq0 c =
     let a = c.args in
-    read64 c.sent-newer.result c.sent-newer.type_inv ∙ c.sent-newer.ensures ∙ received_whole a.r a.end a.froms.now a.tos.now a.k c.if-r-eq0.true
+    read64 c.sent-newer.result c.sent-newer.type_inv ∙ c.sent-newer.ensures ∙ received_whole a.r a.side a.froms.now a.tos.now a.k c.if-r-eq0.true
 
 pub mixed-requires : goal.mixed-requires
 mixed-requires c =
@@ -16,8 +16,8 @@ mixed-requires c =
     let a = c.args in (
       c.requires.0.shared,
       record {
-        newer_end = simp n (sent_most c.requires.1 a.r a.end a.k _);
-        older_end = simp o (sent_most c.requires.1 a.r a.end a.k _);
+        newer_end = simp n (sent_most c.requires.1 a.r a.side a.k _);
+        older_end = simp o (sent_most c.requires.1 a.r a.side a.k _);
       },
     )
 

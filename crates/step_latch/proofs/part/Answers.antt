@@ -1,9 +1,10 @@
 -- `step_latch::part` meets its contract: the current that it compares with is that of the records as they stand. Assumes nothing.
 use Rattle.std.specs.Prelude.{◌≡◌}
 use Rattle.whole.specs.Plain.{sym, ◌∙◌, pos, eq-eqb, ne_eqb, arith, word}
+use Rattle.std.proofs.Common.{rules}
 use mir.Syntax.{w64}
 use mir.Val.{to_z}
-use mir.Facts.{to_z-of_z, to_z_pos}
+use mir.Facts.{to_z_pos}
 use Rattle.whole.specs.Int.{read64}
 use Rattle.paper.specs.Records.{current_at, latch_at}
 use Rattle.paper.specs.Advance.{put_if}
@@ -19,9 +20,8 @@ unfolding leg_parts latch_put put_if
 returns-then-not-parts c =
     let row = c.args.l.row in
     let v = rw (
-      c.row_at-r.ensures,
       read64 (word c.args.records.now (current_at row)) c.last-1.given,
-      to_z-of_z c.ranges.current,
+      read64 c.args.l.current (search rules),
       read64 (word c.args.records.now (latch_at row)) c.latch-1.given,
     ) at c.parts.ensures in
     let e = sym v ∙ c.if-not-parts.true in
@@ -33,9 +33,8 @@ unfolding leg_parts latch_put put_if
 returns c =
     let row = c.args.l.row in
     let v = rw (
-      c.row_at-r.ensures,
       read64 (word c.args.records.now (current_at row)) c.last-1.given,
-      to_z-of_z c.ranges.current,
+      read64 c.args.l.current (search rules),
       read64 (word c.args.records.now (latch_at row)) c.latch-1.given,
     ) at c.parts.ensures in
     let e = sym v ∙ c.if-not-parts.false in

@@ -7,16 +7,10 @@ use Rattle.step_matrix.proofs.places.Goals as goal
 pub returns : goal.returns
 returns c =
     let e : c.loop-i.i ≡ length c.args.free.now = omega arith in
-    rw e at c.loop-i.invariant.1
+    rw e at c.loop-i.invariant
 
 pub loop-i-init : goal.loop-i-init
-loop-i-init c = (omega arith, placed_none _)
-
-pub offset_bounds-place-k : goal.offset_bounds-place-k
-offset_bounds-place-k c = omega (arith, c.requires.node c.loop-i.i (omega arith))
-
-pub bounds-place-k : goal.bounds-place-k
-bounds-place-k c = omega (arith, c.requires.node c.loop-i.i (omega arith))
+loop-i-init c = placed_none _
 
 pub loop-i-preserved : goal.loop-i-preserved
-loop-i-preserved c = (omega arith, placed_more c.requires c.loop-i.i (omega arith) c.loop-i.invariant.1)
+loop-i-preserved c = placed_more c.requires c.loop-i.i (omega arith) c.loop-i.invariant

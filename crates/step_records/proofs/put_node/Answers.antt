@@ -26,7 +26,7 @@ pub returns-then-k-peak : goal.returns-then-k-peak
 unfolding node_put put_if outdone
 returns-then-k-peak c =
     let e = to_z-of_z c.ranges.x in
-    let h = read64 c.size-reached.result c.size-reached.type_inv ∙ reached c.args.x c.size-reached.result c.ranges.x c.size-reached.ensures in
+    let h = read64 c.abs-reached.result c.abs-reached.type_inv ∙ reached c.args.x c.abs-reached.result c.ranges.x c.abs-reached.ensures.value in
     let n : to_z w64 c.args.k ≡ pos c.args.k = to_z_pos w64 (omega arith) in
     let w = word (set c.args.records.now (32 + c.args.n - 1) c.args.x) (304 + c.args.n - 1) in
     let b = rw (e, h, read64 w (rw e at c.peak-1.given)) at c.if-k-peak.true in
@@ -36,7 +36,7 @@ pub returns-else-k-peak : goal.returns-else-k-peak
 unfolding node_put put_if outdone
 returns-else-k-peak c =
     let e = to_z-of_z c.ranges.x in
-    let h = read64 c.size-reached.result c.size-reached.type_inv ∙ reached c.args.x c.size-reached.result c.ranges.x c.size-reached.ensures in
+    let h = read64 c.abs-reached.result c.abs-reached.type_inv ∙ reached c.args.x c.abs-reached.result c.ranges.x c.abs-reached.ensures.value in
     let w = word (set c.args.records.now (32 + c.args.n - 1) c.args.x) (304 + c.args.n - 1) in
     let b = rw (e, h, read64 w (rw e at c.peak-1.given)) at c.if-k-peak.false in
     rw (e, b)

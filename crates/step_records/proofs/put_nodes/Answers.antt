@@ -11,15 +11,15 @@ use Rattle.step_records.specs.Records.{nodes_put}
 use Rattle.step_records.proofs.put_nodes.Invariants.{turn}
 use Rattle.step_records.proofs.put_nodes.Goals as goal
 
-pub loop-i-init : goal.loop-i-init
+pub loop-n-init : goal.loop-n-init
 unfolding nodes_put
-loop-i-init c = record { inside = omega arith; long = refl; left = refl }
+loop-n-init c = record { long = refl; left = refl }
 
 pub offset_bounds-v-n : goal.offset_bounds-v-n
-offset_bounds-v-n c = omega (arith, c.requires.nodes.0.end c.loop-i.i)
+offset_bounds-v-n c = omega (arith, c.requires.nodes.0.end c.loop-n.n-index)
 
 pub bounds-v-n : goal.bounds-v-n
-bounds-v-n c = omega (arith, c.requires.nodes.0.end c.loop-i.i)
+bounds-v-n c = omega (arith, c.requires.nodes.0.end c.loop-n.n-index)
 
 volt : {v : Words} → Volts v → (n : ℕ) → to_z w64 (of_z w64 (word v n)) ≡ word v n
 volt {v} h n = to_z-of_z (fits64 (word v n) (omega (arith, h.end n)))
@@ -27,21 +27,20 @@ volt {v} h n = to_z-of_z (fits64 (word v n) (omega (arith, h.end n)))
 pub put_node-requires : goal.put_node-requires
 put_node-requires c =
     let v = c.requires.nodes.1 in
-    let n = get_or c.args.nodes.now c.loop-i.i 0 in
+    let n = get_or c.args.nodes.now c.loop-n.n-index 0 in
     record {
-      n_bound = (c.requires.nodes.0.end c.loop-i.i (omega arith), rw (volt v n) (v.end n), omega arith);
+      n_bound = (c.requires.nodes.0.end c.loop-n.n-index (omega arith), rw (volt v n) (v.end n), omega arith);
       records_len = omega arith;
     }
 
-pub loop-i-preserved : goal.loop-i-preserved
-loop-i-preserved c =
+pub loop-n-preserved : goal.loop-n-preserved
+loop-n-preserved c =
     let v = c.requires.nodes.1 in
-    let n = get_or c.args.nodes.now c.loop-i.i 0 in
+    let n = get_or c.args.nodes.now c.loop-n.n-index 0 in
     record {
-      inside = omega arith;
       long = omega arith;
-      left = fold_next (turn c.args.k c.args.v.now) c.args.nodes.now c.loop-i.i 0 c.loop-i.records _ _ (omega arith) (rw (volt v n) at c.put_node.ensures) c.loop-i.invariant.left;
+      left = fold_next (turn c.args.k c.args.v.now) c.args.nodes.now c.loop-n.n-index 0 c.loop-n.records _ _ (omega arith) (rw (volt v n) at c.put_node.ensures) c.loop-n.invariant.left;
     }
 
 pub returns : goal.returns
-returns c = fold_end (turn c.args.k c.args.v.now) c.args.nodes.now c.loop-i.i _ _ (omega arith) c.loop-i.invariant.left
+returns c = fold_end (turn c.args.k c.args.v.now) c.args.nodes.now c.loop-n.n-index _ _ (omega arith) c.loop-n.invariant.left

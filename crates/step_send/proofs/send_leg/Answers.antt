@@ -1,33 +1,25 @@
 -- `step_send::send_leg` meets its contract: the row's slots are as the plan has them. Assumes nothing.
-use Rattle.whole.specs.Plain.{eq-eqb, ne_eqb, arith}
-use mir.Facts.{to_z-of_z}
+use Rattle.std.proofs.Common.{rules}
+use Rattle.whole.specs.Plain.{sym, ◌∙◌, eq-eqb, ne_eqb}
+use Rattle.whole.specs.Int.{read64}
 use Rattle.paper.specs.Advance.{put_if}
+use Rattle.step_legs.specs.Side.{from_is, to_is}
 use Rattle.step_send.specs.Stores.{sent_put}
 use Rattle.step_send.proofs.send_leg.Goals as goal
 
-pub put_sent-requires : goal.put_sent-requires
-put_sent-requires c = let s = c.requires.slotted in
-    rw c.row_at-r.ensures (rw c.requires.froms_len.0 (s.inside c.if-l-eq-LINE.true), omega (arith, s.some c.if-l-eq-LINE.true))
-
-pub put_sent-requires-else-l-eq1 : goal.put_sent-requires-else-l-eq1
-put_sent-requires-else-l-eq1 c = let s = c.requires.slotted in
-    rw c.row_at-r.ensures (rw c.requires.froms_len.1 (s.inside c.if-l-eq-LINE.true), omega (arith, s.some c.if-l-eq-LINE.true))
-
-pub returns-then-l-eq1 : goal.returns-then-l-eq1
+pub returns-in-From : goal.returns-in-From
 unfolding sent_put put_if
-returns-then-l-eq1 c =
-    let e = rw (c.row_at-r.ensures, to_z-of_z c.ranges.x) at c.put_sent.ensures in
+returns-in-From c =
     let l = eq-eqb _ 4 c.if-l-eq-LINE.true in
-    let n = eq-eqb _ 1 c.if-l-eq1.true in
-    record { froms_value = rw (l, n) e; tos_value = rw (l, n) }
+    let n = from_is c.args.l.end (sym c.side.ensures ∙ c.in-From.is) in
+    record { froms_value = rw (l, n) (rw (read64 c.args.l.passed (search rules)) at c.put_sent.ensures); tos_value = rw (l, n) }
 
-pub returns-else-l-eq1 : goal.returns-else-l-eq1
+pub returns-in-To : goal.returns-in-To
 unfolding sent_put put_if
-returns-else-l-eq1 c =
-    let e = rw (c.row_at-r.ensures, to_z-of_z c.ranges.x) at c.put_sent-else-l-eq1.ensures in
+returns-in-To c =
     let l = eq-eqb _ 4 c.if-l-eq-LINE.true in
-    let n = ne_eqb _ 1 c.if-l-eq1.false in
-    record { froms_value = rw (l, n); tos_value = rw (l, n) e }
+    let n = to_is c.args.l.end (sym c.side.ensures ∙ c.in-To.is) in
+    record { froms_value = rw (l, n); tos_value = rw (l, n) (rw (read64 c.args.l.passed (search rules)) at c.put_sent-in-To.ensures) }
 
 pub returns-else-l-eq-LINE : goal.returns-else-l-eq-LINE
 unfolding sent_put put_if

@@ -17,10 +17,10 @@ loop-i-preserved c =
     let p = get_or c.args.free.now c.loop-i.i 0 in
     let m : p < 33 = omega (arith, c.requires.free.0.node c.loop-i.i c.loop-i-test.true) in
     let n = c.requires.free.1 in
-    let e = simp (to_z-of_z, n.one p m, n.other p m, n.less p m) at c.to_double-side.ensures in
-    (omega arith, rw e (rights_more (omega (arith, c.requires.free.0.few)) c.loop-i.invariant.1))
+    let e = simp (to_z-of_z, n.one p m, n.other p m, n.less p m) at c.to_double.ensures in
+    rw e (rights_more (omega (arith, c.requires.free.0.few)) c.loop-i.invariant)
 
 pub returns : goal.returns
 returns c =
     let e : c.loop-i.i ≡ length c.args.free.now = omega arith in
-    rw e at c.loop-i.invariant.1
+    rw e at c.loop-i.invariant

@@ -1,7 +1,10 @@
 -- `step_try::judged` meets its contract. Assumes nothing.
-use Rattle.whole.specs.Plain.{arith}
+use Rattle.whole.specs.Plain.{sym, ◌∙◌, arith}
 use Rattle.step_try.specs.Trying.{place_most}
 use Rattle.step_try.proofs.judged.Goals as goal
 
-pub row_at-r-requires : goal.row_at-r-requires
-row_at-r-requires c = omega (arith, c.first_beyond-place.ensures, place_most c.args.legs.now (λ j h. (c.requires.wires.wired j h).row_below))
+pub bounds-plan-row : goal.bounds-plan-row
+bounds-plan-row c = place_most c.requires.wires (sym c.first_beyond.ensures ∙ c.in-Some-first_beyond.is)
+
+pub offset_bounds-plan-row : goal.offset_bounds-plan-row
+offset_bounds-plan-row c = omega (arith, place_most c.requires.wires (sym c.first_beyond.ensures ∙ c.in-Some-first_beyond.is))

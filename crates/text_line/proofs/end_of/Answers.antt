@@ -1,21 +1,18 @@
-use Rattle.whole.specs.Plain.{refl, sym, ◌∙◌, drop, length-drop, arith}
-use Rattle.text_line.specs.Parts.{ends, before_here, before_next, before_length}
+use Rattle.std.specs.Prelude.{position, ◌-◌, ◌≡◌}
+use Rattle.whole.specs.Plain.{ℕ, List, sym, ◌∙◌, ap, length, take, drop, length-drop, take_all, arith}
+use Rattle.text_line.specs.Parts.{ends, place_some, place_none}
 use Rattle.text_line.proofs.end_of.Goals as goal
 
-pub loop-i-init : goal.loop-i-init
-loop-i-init c = (c.requires, refl)
+-- the text from the place on
+part : (s : List ℕ) (at : ℕ) → take (length s - at) (drop at s) ≡ drop at s
+part s at = take_all _ _ (omega (arith, length-drop at s))
 
-pub returns-then-is_end : goal.returns-then-is_end
-returns-then-is_end c =
-    let n = before_here ends c.args.text.now c.loop-i.i c.loop-i-test.true (sym c.is_end.ensures ∙ c.if-is_end.true) in
-    omega (arith, c.loop-i.invariant.1)
+pub returns-in-Some : goal.returns-in-Some
+returns-in-Some c =
+    let e = ap (position ends) (part c.args.text.now c.args.at) in
+    omega (arith, place_some ends (drop c.args.at c.args.text.now) c.in-Some.n (sym (c.in-Some.ensures ∙ e)))
 
-pub loop-i-preserved : goal.loop-i-preserved
-loop-i-preserved c =
-    let n = before_next ends c.args.text.now c.loop-i.i c.loop-i-test.true (sym c.is_end.ensures ∙ c.if-is_end.false) in
-    (omega arith, omega (arith, c.loop-i.invariant.1))
-
-pub returns : goal.returns
-returns c =
-    let s = c.args.text.now in
-    omega (arith, c.loop-i.invariant.1, before_length ends (drop c.loop-i.i s), length-drop c.loop-i.i s, c.loop-i-test.false)
+pub returns-in-None : goal.returns-in-None
+returns-in-None c =
+    let e = ap (position ends) (part c.args.text.now c.args.at) in
+    omega (arith, place_none ends (drop c.args.at c.args.text.now) (sym (c.in-None.ensures ∙ e)), length-drop c.args.at c.args.text.now)

@@ -1,24 +1,43 @@
-use Rattle.whole.specs.Plain.{◌∙◌, ap, true, ℤ, pos, set, replicate, arith}
+use Rattle.std.specs.Prelude.{Option, Some, None, ◌≡◌}
+use Rattle.whole.specs.Plain.{ℕ, List, z, ◌∙◌, sym, ap, ℤ, pos, set, replicate, arith}
 use Rattle.whole.specs.Reads.{read_small}
-use Rattle.text_line.specs.Walks.{fields_at, word_in, line_none, line_some}
+use Rattle.std.specs.Int.{w64}
+use Rattle.std.proofs.Common.{to_z}
+use Rattle.paper.specs.declared.kinds.Kind.{Kind}
+use Rattle.paper.specs.Kinds.{number, number_few}
+use Rattle.text_line.specs.declared.Walk.{Walk}
+use Rattle.text_line.specs.Walks.{next, ended_at, fields_at, word_in, line_none, line_some}
 use Rattle.text_line.proofs.line_at.Goals as goal
 
 pub slice_bounds-kind_of-end : goal.slice_bounds-kind_of-end
-slice_bounds-kind_of-end c =
-    omega (arith, word_in c.args.text.now c.args.at c.requires, c.end_of-end.ensures)
+slice_bounds-kind_of-end c = omega (arith, word_in c.args.text.now c.args.at c.requires, c.end_of-end.ensures)
 
-pub returns-then-kind-ge-COUNT : goal.returns-then-kind-ge-COUNT
-returns-then-kind-ge-COUNT c =
-    let a = c.args in
-    line_none a.text.now a.at c.end_of-end.ensures c.kind_of-kind.ensures c.if-kind-ge-COUNT.true
+pub returns-in_err-kind : goal.returns-in_err-kind
+returns-in_err-kind c = c.from_residual.ensures ∙ line_none c.args.text.now c.args.at c.end_of-end.ensures (sym c.kind_of.ensures ∙ c.in_err-kind.was)
 
-pub fields_at-walk-requires : goal.fields_at-walk-requires
-fields_at-walk-requires c =
-    (c.if-kind-ge-COUNT.false, omega (arith, word_in c.args.text.now c.args.at c.requires, c.end_of-end.ensures))
+-- the fields after the word
+fields : (s : List ℕ) (k : Kind) (end : ℕ) {n : ℕ} {o : Option Walk} → n ≡ number k → o ≡ fields_at s (number k) (record { at = end; row = set (replicate 8 z) 0 (to_z w64 n) })
+    → o ≡ fields_at s (number k) (record { at = end; row = set (replicate 8 z) 0 (pos (number k)) })
+fields s k end e f =
+    let m = number_few k in
+    f ∙ ap (λ (x : ℤ). fields_at s (number k) (record { at = end; row = set (replicate 8 z) 0 x })) (ap (to_z w64) e ∙ read_small (number k) (omega arith))
 
-pub returns : goal.returns
-returns c =
-    let a = c.args in
-    line_some a.text.now a.at c.end_of-end.ensures c.kind_of-kind.ensures c.if-kind-ge-COUNT.false
-    (c.fields_at-walk.ensures ∙ ap (λ (x : ℤ). fields_at a.text.now c.kind_of-kind.result (record { ok = true; at = c.end_of-end.result; row = set (replicate 8 (pos 0)) 0 x })) (read_small c.kind_of-kind.result (omega (arith, c.if-kind-ge-COUNT.false))))
-    c.is_at.ensures
+pub returns-in_err-walk : goal.returns-in_err-walk
+returns-in_err-walk c =
+    let s = c.args.text.now in
+    c.from_residual-in_err-walk.ensures ∙ ap (λ (o : Option Walk). next o (ended_at s)) (sym c.in_err-walk.was ∙ fields s c.in_ok-kind.kind c.end_of-end.result c.number.ensures c.fields_at.ensures)
+    ∙ line_some s c.args.at c.end_of-end.ensures (sym c.kind_of.ensures ∙ c.in_ok-kind.was)
+
+pub returns-then-is_at : goal.returns-then-is_at
+returns-then-is_at c =
+    let s = c.args.text.now in
+    let e : ended_at s c.in_ok-walk.walk ≡ Some c.in_ok-walk.walk = rw (sym c.is_at.ensures ∙ c.if-is_at.true) in
+    sym e ∙ ap (λ (o : Option Walk). next o (ended_at s)) (sym c.in_ok-walk.was ∙ fields s c.in_ok-kind.kind c.end_of-end.result c.number.ensures c.fields_at.ensures)
+    ∙ line_some s c.args.at c.end_of-end.ensures (sym c.kind_of.ensures ∙ c.in_ok-kind.was)
+
+pub returns-else-is_at : goal.returns-else-is_at
+returns-else-is_at c =
+    let s = c.args.text.now in
+    let e : ended_at s c.in_ok-walk.walk ≡ None = rw (sym c.is_at.ensures ∙ c.if-is_at.false) in
+    sym e ∙ ap (λ (o : Option Walk). next o (ended_at s)) (sym c.in_ok-walk.was ∙ fields s c.in_ok-kind.kind c.end_of-end.result c.number.ensures c.fields_at.ensures)
+    ∙ line_some s c.args.at c.end_of-end.ensures (sym c.kind_of.ensures ∙ c.in_ok-kind.was)

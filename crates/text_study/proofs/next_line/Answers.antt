@@ -1,65 +1,70 @@
-use Rattle.std.specs.Prelude.{◌+◌}
-use Rattle.whole.specs.Plain.{refl, sym, ◌∙◌, subst, eqb, arith, Words}
-use Rattle.text_faults.specs.declared.Seen.{Seen}
-use Rattle.text_faults.specs.Seen.{seen_after}
-use Rattle.text_study.specs.States.{State}
-use Rattle.text_study.specs.Steps.{Right, no_fault, known, halted, has_room, line_in, line_on, advanced, stopped_next, further_next}
+use Rattle.std.proofs.Common.{rules}
+use Rattle.std.specs.Prelude.{◌≡◌}
+use Rattle.whole.specs.Plain.{ℕ, sym, ◌∙◌, ap, eqb, arith}
+use Rattle.paper.specs.Rows.{is_study}
+use Rattle.paper.specs.declared.Fault.{Fault}
+use Rattle.paper.specs.declared.Fault.TheVariants.{Form, Node, Value, Travel, Double, Full}
+use Rattle.paper.specs.Faulted.{fault_number}
+use Rattle.paper.specs.Reading.{bad, lines_of}
+use Rattle.text_faults.specs.Seen.{seen_fault}
+use Rattle.text_study.specs.States.{Faulty}
+use Rattle.text_study.specs.Steps.{Right, no_fault, form, known, refused, has_room, line_in, line_on, advanced}
 use Rattle.text_study.proofs.next_line.Goals as goal
 
-pub line_at-walk-requires : goal.line_at-walk-requires
-line_at-walk-requires c = omega (arith, c.requires.1.1)
+some_fault : (f : Fault) → fault_number f ≡ 0 → ⊥
+some_fault Form e = omega (arith, e)
+some_fault Node e = omega (arith, e)
+some_fault Value e = omega (arith, e)
+some_fault Travel e = omega (arith, e)
+some_fault Double e = omega (arith, e)
+some_fault Full e = omega (arith, e)
 
-pub fault_of-fault-requires : goal.fault_of-fault-requires
-fault_of-fault-requires c =
+pub returns-in_default : goal.returns-in_default
+returns-in_default c =
     let a = c.args in
-    (known a.text.now a.p a.net.now c.requires.0 c.requires.1.0 c.requires.1.1 c.line_at-walk.result c.line_at-walk.ensures, (c.requires.0.fine c.requires.1.0).stands.held)
+    form a.text.now a.p a.net.now c.requires.0 c.requires.1 (sym c.in_default.ensures)
 
-pub returns-then-fault-ne0 : goal.returns-then-fault-ne0
-returns-then-fault-ne0 c =
+pub row_of-requires : goal.row_of-requires
+row_of-requires c =
     let a = c.args in
-    stopped_next a.text.now a.p a.net.now c.fault_of-fault.result c.requires.1.0 c.if-fault-ne0.true
-    (halted a.text.now a.p a.net.now c.requires.0 c.requires.1.0 c.requires.1.1 c.line_at-walk.result c.line_at-walk.ensures c.fault_of-fault.result c.fault_of-fault.ensures c.if-fault-ne0.true)
+    (known a.text.now a.p a.net.now c.requires.0 c.requires.1 c.in-Some.walk (sym c.in-Some.ensures), c.requires.0.fine.stands.held)
 
-pub overflow_add-seen : goal.overflow_add-seen
-overflow_add-seen c =
-    let h = (c.requires.0.fine c.requires.1.0).stands.held in
-    record { fits = omega (arith, h.branches, h.sources) }
+pub returns-in_err-row : goal.returns-in_err-row
+returns-in_err-row c =
+    let a = c.args in
+    let b = c.in_err-row.field-0.0 in
+    let q = c.in_err-row.ensures in
+    let h : Faulty (lines_of a.text.now) b =
+    refused a.text.now a.p a.net.now c.requires.0 c.requires.1 c.in-Some.walk (sym c.in-Some.ensures) (fault_number b.fault) q.1 (some_fault b.fault)
+    ∙ ap (λ (l : ℕ). bad l (fault_number b.fault)) (sym q.0) in
+    search rules
 
 pub put_line-requires : goal.put_line-requires
 put_line-requires c =
-    let f : Right c.line_at-walk.result c.args.p.seen (eqb c.args.p.line 1) = no_fault c.line_at-walk.result _ _ (sym c.fault_of-fault.ensures ∙ c.if-fault-ne0.false) in
-    let a = c.args in (
-      c.requires.0.wide,
-      (
-        known a.text.now a.p a.net.now c.requires.0 c.requires.1.0 c.requires.1.1 c.line_at-walk.result c.line_at-walk.ensures f.ok,
-        has_room a.text.now a.p a.net.now c.requires.0 c.requires.1.0 c.requires.1.1 c.line_at-walk.result c.line_at-walk.ensures f,
-      ),
-    )
-
-pub seen_after-more-requires : goal.seen_after-more-requires
-seen_after-more-requires c =
-    let f : Right c.line_at-walk.result c.args.p.seen (eqb c.args.p.line 1) = no_fault c.line_at-walk.result _ _ (sym c.fault_of-fault.ensures ∙ c.if-fault-ne0.false) in
-    let a = c.args in (
-      known a.text.now a.p a.net.now c.requires.0 c.requires.1.0 c.requires.1.1 c.line_at-walk.result c.line_at-walk.ensures f.ok,
-      ((c.requires.0.fine c.requires.1.0).stands.held, f.right),
-    )
+    let a = c.args in
+    let q = c.in_ok-row.ensures in
+    let f : Right c.in-Some.walk a.p.seen (eqb a.p.line 1) = no_fault _ _ _ q.1 in
+    (c.requires.0.wide, λ n. has_room a.text.now a.p a.net.now c.requires.0 c.requires.1 c.in-Some.walk (sym c.in-Some.ensures) f (ap is_study (sym q.0) ∙ n))
 
 pub overflow_add-result : goal.overflow_add-result
 overflow_add-result c =
-    let f : Right c.line_at-walk.result c.args.p.seen (eqb c.args.p.line 1) = no_fault c.line_at-walk.result _ _ (sym c.fault_of-fault.ensures ∙ c.if-fault-ne0.false) in
     let a = c.args in
-    omega (arith, line_in a.text.now a.p a.net.now c.requires.0 c.requires.1.0 c.requires.1.1 c.line_at-walk.result c.line_at-walk.ensures f)
+    let f : Right c.in-Some.walk a.p.seen (eqb a.p.line 1) = no_fault _ _ _ c.in_ok-row.ensures.1 in
+    omega (arith, line_in a.text.now a.p a.net.now c.requires.0 c.requires.1 c.in-Some.walk (sym c.in-Some.ensures) f)
 
-pub overflow_add-result-2 : goal.overflow_add-result-2
-overflow_add-result-2 c =
-    record { fits = omega (arith, c.requires.0.lines, c.requires.1.1) }
+pub seen_after-requires : goal.seen_after-requires
+seen_after-requires c =
+    let a = c.args in
+    let q = c.in_ok-row.ensures in
+    let f : Right c.in-Some.walk a.p.seen (eqb a.p.line 1) = no_fault _ _ _ q.1 in
+    (c.requires.0.fine.stands.held, ap (seen_fault a.p.seen) q.0 ∙ f.right)
 
 pub returns : goal.returns
 returns c =
-    let f : Right c.line_at-walk.result c.args.p.seen (eqb c.args.p.line 1) = no_fault c.line_at-walk.result _ _ (sym c.fault_of-fault.ensures ∙ c.if-fault-ne0.false) in
     let a = c.args in
-    further_next a.text.now a.p _ _ c.requires.1.0 refl
-    (line_on a.text.now a.p a.net.now c.requires.0 c.requires.1.0 c.requires.1.1 c.line_at-walk.result c.line_at-walk.ensures f)
-    (subst (λ (n : Seen). State a.text.now (record { at = c.line_at-walk.result.at + 1; line = a.p.line + 1; fault = 0; seen = n }) c.put_line.new.net) (sym c.seen_after-more.ensures)
-    (subst (λ (l : Words). State a.text.now (record { at = c.line_at-walk.result.at + 1; line = a.p.line + 1; fault = 0; seen = seen_after a.p.seen c.line_at-walk.result.row }) l) (sym c.put_line.ensures)
-    (advanced a.text.now a.p a.net.now c.requires.0 c.requires.1.0 c.requires.1.1 c.line_at-walk.result c.line_at-walk.ensures f)))
+    let q = c.in_ok-row.ensures in
+    let f : Right c.in-Some.walk a.p.seen (eqb a.p.line 1) = no_fault _ _ _ q.1 in
+    rw (c.seen_after.ensures, c.put_line.ensures, q.0) (
+      advanced a.text.now a.p a.net.now c.requires.0 c.requires.1 c.in-Some.walk (sym c.in-Some.ensures) f,
+      line_on a.text.now a.p a.net.now c.requires.0 c.requires.1 c.in-Some.walk (sym c.in-Some.ensures) f,
+    )

@@ -1,44 +1,32 @@
-use Rattle.std.specs.Prelude.{◌+◌, ◌≡◌, ◌&&◌}
-use Rattle.whole.specs.Plain.{refl, sym, ◌∙◌, ap, Bool, true, false, drop, get_or}
-use Rattle.whole.specs.Plain.{arith, every, fold}
-use Rattle.whole.specs.Folds.{every_more, every_done, fold_next, fold_end}
+use Rattle.std.specs.Prelude.{◌≡◌}
+use Rattle.std.specs.Char.{is_ascii_digit}
+use Rattle.whole.specs.Plain.{ℕ, Bool, true, false, get_or, refl, sym, ◌∙◌, arith}
 use Rattle.paper.specs.Text.{digit}
-use Rattle.text_words.specs.Numbers.{held, cap_most, digits_bad, digits_good}
+use Rattle.text_words.specs.Numbers.{held, cap_most, digits_of, digits_next, digits_bad, digits_end}
 use Rattle.text_words.proofs.all_digits.Goals as goal
 
-pub loop-i-init : goal.loop-i-init
-loop-i-init c = (c.requires, (omega arith, (refl, refl)))
+-- the test of a turn
+tested : (b : ℕ) {t : Bool} → t ≡ is_ascii_digit b → (u : Bool) → t ≡ u → digit b ≡ u
+unfolding digit
+tested b r u e = sym r ∙ e
 
-pub returns-then-not-is_digit : goal.returns-then-not-is_digit
-returns-then-not-is_digit c =
-    let s = c.args.s.now in
-    let d : digit (get_or s c.loop-i.i 0) ≡ false = sym c.is_digit.ensures ∙ c.if-not-is_digit.true in
-    digits_bad (drop c.args.start s)
-    (sym c.loop-i.invariant.1.1.1 ∙ every_more digit s c.loop-i.i 0 c.loop-i-test.true ∙ ap (λ (b : Bool). b && every digit (drop (c.loop-i.i + 1) s)) d)
+pub loop-b-init : goal.loop-b-init
+unfolding digits_of
+loop-b-init c = (omega arith, refl)
+
+pub returns-then-not-is_ascii_digit : goal.returns-then-not-is_ascii_digit
+returns-then-not-is_ascii_digit c =
+    digits_bad c.args.s.now c.loop-b.b-index c.loop-b.v c.loop-b-test.true (tested _ c.is_ascii_digit.ensures.value false c.if-not-is_ascii_digit.true) ∙ c.loop-b.invariant.1
 
 pub push-v-requires : goal.push-v-requires
-push-v-requires c =
-    (c.loop-i.invariant.1.0, sym c.is_digit.ensures ∙ c.if-not-is_digit.false)
+push-v-requires c = (c.loop-b.invariant.0, tested _ c.is_ascii_digit.ensures.value true c.if-not-is_ascii_digit.false)
 
-pub loop-i-preserved : goal.loop-i-preserved
+pub loop-b-preserved : goal.loop-b-preserved
 unfolding held
-loop-i-preserved c =
+loop-b-preserved c =
     let s = c.args.s.now in
-    let h = c.loop-i-test.true in
-    let d : digit (get_or s c.loop-i.i 0) ≡ true = sym c.is_digit.ensures ∙ c.if-not-is_digit.false in (
-      omega arith,
-      (
-        rw c.push-v.ensures (cap_most _),
-        (
-          fold_next held s c.loop-i.i 0 c.loop-i.v c.push-v.result (fold held 0 (drop c.args.start s)) h c.push-v.ensures c.loop-i.invariant.1.1.0,
-          sym (every_more digit s c.loop-i.i 0 h ∙ ap (λ (b : Bool). b && every digit (drop (c.loop-i.i + 1) s)) d) ∙ c.loop-i.invariant.1.1.1,
-        ),
-      ),
-    )
+    let d : digit (get_or s c.loop-b.b-index 0) ≡ true = tested _ c.is_ascii_digit.ensures.value true c.if-not-is_ascii_digit.false in
+    rw c.push-v.ensures (cap_most _, digits_next s c.loop-b.b-index c.loop-b.v c.loop-b-test.true d ∙ c.loop-b.invariant.1)
 
 pub returns : goal.returns
-returns c =
-    let s = c.args.s.now in
-    digits_good (drop c.args.start s) c.loop-i.v
-    (sym c.loop-i.invariant.1.1.1 ∙ every_done digit s c.loop-i.i c.loop-i-test.false)
-    (fold_end held s c.loop-i.i c.loop-i.v (fold held 0 (drop c.args.start s)) c.loop-i-test.false c.loop-i.invariant.1.1.0)
+returns c = digits_end c.args.s.now c.loop-b.b-index c.loop-b.v c.loop-b-test.false ∙ c.loop-b.invariant.1

@@ -15,9 +15,6 @@ use Rattle.text_write.proofs.put_row.Goals as goal
 most : (net : Words) (i : ℕ) → is_network net ≡ true → i < length (net_in net).rows → i < 80
 most net i e h = omega (arith, h, (net_sound net e).row_most)
 
-known : (net : Words) (i : ℕ) → is_network net ≡ true → i < length (net_in net).rows → {k : ℕ} → k ≡ kind (row_at (net_in net) i) → k < 10
-known net i e h {k} q = omega (arith, q, ((net_sound net e).row i h).kind_most)
-
 few : (k : ℕ) {n : ℕ} → n ≡ length (fields_of k) → n ≤ 5
 few k e = le_trans (le_of_eq e) (arity_most k)
 
@@ -29,29 +26,28 @@ line_is net i h {k} {n} e f =
 
 pub put_line-requires : goal.put_line-requires
 put_line-requires c =
+    let net = c.args.net.words.now in
     record {
-      known = (c.requires.known.0, known c.args.net.now c.args.i c.requires.known.1 c.requires.known.2 c.kind-kind.ensures);
-      room = rw (line_is c.args.net.now c.args.i c.requires.known.2 c.kind-kind.ensures c.fields.ensures) c.requires.room;
+      known = c.requires.known.0;
+      room = rw (line_is net c.args.i c.requires.known.1 c.kind-kind.ensures c.fields.ensures) c.requires.room;
     }
 
 pub returns : goal.returns
-returns c = puts_as (line_is c.args.net.now c.args.i c.requires.known.2 c.kind-kind.ensures c.fields.ensures) c.put_line.ensures
+returns c = puts_as (line_is c.args.net.words.now c.args.i c.requires.known.1 c.kind-kind.ensures c.fields.ensures) c.put_line.ensures
 
 pub overflow_mul-first : goal.overflow_mul-first
-overflow_mul-first c = omega (arith, most c.args.net.now c.args.i c.requires.known.1 c.requires.known.2)
+overflow_mul-first c = omega (arith, most c.args.net.words.now c.args.i c.args.net.passes c.requires.known.1)
 
 pub overflow_add-first : goal.overflow_add-first
-overflow_add-first c = omega (arith, most c.args.net.now c.args.i c.requires.known.1 c.requires.known.2)
-
-pub fields-requires : goal.fields-requires
-fields-requires c = known c.args.net.now c.args.i c.requires.known.1 c.requires.known.2 c.kind-kind.ensures
+overflow_add-first c = omega (arith, most c.args.net.words.now c.args.i c.args.net.passes c.requires.known.1)
 
 pub overflow_add-end : goal.overflow_add-end
-overflow_add-end c = omega (arith, most c.args.net.now c.args.i c.requires.known.1 c.requires.known.2, few _ c.fields.ensures)
+overflow_add-end c = omega (arith, most c.args.net.words.now c.args.i c.args.net.passes c.requires.known.1, few _ c.fields.ensures)
 
 pub offset_bounds-net-first : goal.offset_bounds-net-first
-offset_bounds-net-first c = omega (arith, most c.args.net.now c.args.i c.requires.known.1 c.requires.known.2, few _ c.fields.ensures)
+offset_bounds-net-first c = omega (arith, most c.args.net.words.now c.args.i c.args.net.passes c.requires.known.1, few _ c.fields.ensures)
 
 pub slice_bounds-put_line-end : goal.slice_bounds-put_line-end
 slice_bounds-put_line-end c =
-    omega (arith, most c.args.net.now c.args.i c.requires.known.1 c.requires.known.2, few _ c.fields.ensures, network_length c.args.net.now c.requires.known.1)
+    let net = c.args.net.words.now in
+    omega (arith, most net c.args.i c.args.net.passes c.requires.known.1, few _ c.fields.ensures, network_length net c.args.net.passes)

@@ -8,27 +8,27 @@ use Rattle.text_write.specs.Lines.{rows_next, rows_end}
 use Rattle.text_write.proofs.put_rows.Goals as goal
 
 pub loop-row-init : goal.loop-row-init
-loop-row-init c = let a = c.args in (omega arith, going_start a.out.now a.at (text_of (net_in a.net.now).rows))
+loop-row-init c = going_start c.args.out.now c.args.at (text_of (net_in c.args.net.words.now).rows)
 
 pub put_row-next-requires : goal.put_row-next-requires
 put_row-next-requires c =
-    let rows = (net_in c.args.net.now).rows in
-    let inside : c.loop-row.row < length rows = omega (arith, c.loop-row-test.true, c.requires.known.2) in
+    let rows = (net_in c.args.net.words.now).rows in
+    let inside : c.loop-row.row < length rows = omega arith in
     record {
-      known = (c.requires.known.0, c.requires.known.1, inside);
-      room = room_first (rows_next rows c.loop-row.row inside) c.loop-row.next _ (going_room c.loop-row.invariant.1 c.requires.room);
+      known = (c.requires.known, inside);
+      room = room_first (rows_next rows c.loop-row.row inside) c.loop-row.next _ (going_room c.loop-row.invariant c.requires.room);
     }
 
 pub loop-row-preserved : goal.loop-row-preserved
 loop-row-preserved c =
-    let rows = (net_in c.args.net.now).rows in
-    let inside : c.loop-row.row < length rows = omega (arith, c.loop-row-test.true, c.requires.known.2) in
-    (omega (arith, c.loop-row-test.true), going_on c.loop-row.invariant.1 (rows_next rows c.loop-row.row inside) c.put_row-next.ensures)
+    let rows = (net_in c.args.net.words.now).rows in
+    let inside : c.loop-row.row < length rows = omega arith in
+    going_on c.loop-row.invariant (rows_next rows c.loop-row.row inside) c.put_row-next.ensures
 
 pub returns : goal.returns
 returns c =
     let l = c.loop-row in
-    going_last l.invariant.1 (puts_as (sym (rows_end (net_in c.args.net.now).rows l.row (omega (arith, c.loop-row-test.false, c.requires.known.2)))) (puts_none l.out l.next))
+    going_last l.invariant (puts_as (sym (rows_end (net_in c.args.net.words.now).rows l.row (omega arith))) (puts_none l.out l.next))
 
 pub shape_of-out : goal.shape_of-out
 shape_of-out c = puts_length (returns c)

@@ -11,14 +11,14 @@ slice_bounds-put_line-end c = sym (length-take-le 3 c.args.net.now (omega (arith
 pub put_line-next-requires : goal.put_line-next-requires
 put_line-next-requires c =
     record {
-      known = (c.pairs-pairs.ensures, omega arith);
+      known = c.pairs-pairs.ensures;
       room = room_first (study_parts c.args.net.now) 0 _ (omega (arith, c.requires.1));
     }
 
 pub put_rows-requires : goal.put_rows-requires
 put_rows-requires c =
     record {
-      known = (c.pairs-pairs.ensures, c.requires.0, c.row_count-rows.ensures);
+      known = c.pairs-pairs.ensures;
       room = room_second (study_parts c.args.net.now) (omega (arith, c.requires.1)) c.put_line-next.ensures;
     }
 

@@ -20,26 +20,24 @@ one_more n r f =
     ∙ ap (λ (b : Bool). b && ltb (of_z w64 r) (2 ^ 63)) (sym (sign_bit n))
     ∙ ap (λ (b : Bool). le_z (pos 0) (to_z w64 n) && b) (sym (sign_bit (of_z w64 r)) ∙ ap (le_z (pos 0)) (read64 r f))
 
-pub loop-i-preserved : goal.loop-i-preserved
-loop-i-preserved c =
+pub loop-x-preserved : goal.loop-x-preserved
+loop-x-preserved c =
     let xs = c.args.xs.now in
-    let x = get_or xs c.loop-i.i (pos 0) in
+    let x = get_or xs c.loop-x.x-index (pos 0) in
     let p = up_to (nat_abs c.args.most) in
-    let all = le_z (pos 0) (to_z w64 c.loop-i.all-bits) in
-    let left = every p (drop (c.loop-i.i + 1) xs) in
-    let here = ap (le_z (pos 0)) (simp (to_z-of_z, c.ranges.most, read64 x c.room-arg-1.given) at c.room-left.ensures) ∙ room_sign c.args.most x c.requires in
-    let before = simp (to_z-of_z, c.ranges.most) at c.loop-i.invariant.1 in (
-      omega arith,
-      simp (to_z-of_z, c.ranges.most) (rw (one_more c.loop-i.all-bits c.room-left.result c.room-left.type_inv, here, and_assoc all (p x) left, ← every_more p xs c.loop-i.i (pos 0) (omega arith)) before),
-    )
+    let all = le_z (pos 0) (to_z w64 c.loop-x.all-bits) in
+    let left = every p (drop (c.loop-x.x-index + 1) xs) in
+    let here = ap (le_z (pos 0)) (simp (to_z-of_z, c.ranges.most, read64 x c.x-1.given) at c.room-left.ensures) ∙ room_sign c.args.most x c.requires in
+    let before = simp (to_z-of_z, c.ranges.most) at c.loop-x.invariant in
+    simp (to_z-of_z, c.ranges.most) (rw (one_more c.loop-x.all-bits c.room-left.result c.room-left.type_inv, here, and_assoc all (p x) left, ← every_more p xs c.loop-x.x-index (pos 0) (omega arith)) before)
 
 pub returns : goal.returns
 returns c =
     let p = up_to (nat_abs c.args.most) in
-    let all = le_z (pos 0) (to_z w64 c.loop-i.all-bits) in
-    let done = every_done p c.args.xs.now c.loop-i.i (omega arith) in
-    let before = simp (to_z-of_z, c.ranges.most) at c.loop-i.invariant.1 in
+    let all = le_z (pos 0) (to_z w64 c.loop-x.all-bits) in
+    let done = every_done p c.args.xs.now c.loop-x.x-index (omega arith) in
+    let before = simp (to_z-of_z, c.ranges.most) at c.loop-x.invariant in
     sym (and-true all) ∙ ap (λ (b : Bool). all && b) (sym done) ∙ before
 
-pub loop-i-init : goal.loop-i-init
-loop-i-init c = (omega arith, refl)
+pub loop-x-init : goal.loop-x-init
+loop-x-init c = refl

@@ -1,7 +1,0 @@
--- `plan_rows::may_part` meets its contract. Assumes nothing.
-use Rattle.plan_rows.specs.Switching.{may_part_by, open_by}
-use Rattle.plan_rows.proofs.may_part.Goals as goal
-
-pub returns : goal.returns
-unfolding may_part_by
-returns c = rw open_by
