@@ -5,9 +5,6 @@ ghost use Rattle.std.specs.Prelude.{◌≡◌, [], ◌∷◌, ◌+◌, ◌≤◌
 ghost use Rattle.paper.specs.Rows.{bytes};
 ghost use Rattle.paper.specs.Listing.{shown, shown_all, line_of};
 ghost use Rattle.list_digits.specs.Puts.{Puts};
-ghost use Rattle.list_digits.specs.Pairs.{all_pairs};
-
-use list_digits::Pairs;
 
 // ---- parts of a line
 
@@ -15,8 +12,8 @@ use list_digits::Pairs;
 pub trait Number: Copy {
     ghost number: { Self → ℤ };
 
-    fn put(self, pairs: &Pairs, out: &mut [u8], at: usize) -> usize
-        requires { (pairs.now ≡ all_pairs) × (at + length (shown (number self)) ≤ length out.old) }
+    fn put(self, out: &mut [u8], at: usize) -> usize
+        requires { at + length (shown (number self)) ≤ length out.old }
         ensures { Puts out.old at (shown (number self)) result out.new };
 }
 
@@ -24,16 +21,16 @@ impl Number for u64 {
     ghost number = { pos };
 
     #[tactic(auto, unfolding(paper::specs::Listing::shown))]
-    fn put(self, pairs: &Pairs, out: &mut [u8], at: usize) -> usize {
-        list_numerals::put_natural_by(pairs, out, at, self)
+    fn put(self, out: &mut [u8], at: usize) -> usize {
+        list_numerals::put_natural(out, at, self)
     }
 }
 
 impl Number for i64 {
     ghost number = { λ x. x };
 
-    fn put(self, pairs: &Pairs, out: &mut [u8], at: usize) -> usize {
-        list_numerals::put_number_by(pairs, out, at, self)
+    fn put(self, out: &mut [u8], at: usize) -> usize {
+        list_numerals::put_number(out, at, self)
     }
 }
 
@@ -55,14 +52,14 @@ fn put_word(out: &mut [u8], at: usize, word: &[u8]) -> usize
 }
 
 // all numbers of a line, a tab before each, and its end
-fn put_numbers<N: Number>(pairs: &Pairs, numbers: &[N], out: &mut [u8], at: usize) -> usize
-    requires { (pairs.now ≡ all_pairs) × (at + length (shown_all (map N.number numbers.now)) ≤ length out.old) }
+fn put_numbers<N: Number>(numbers: &[N], out: &mut [u8], at: usize) -> usize
+    requires { at + length (shown_all (map N.number numbers.now)) ≤ length out.old }
     ensures { Puts out.old at (shown_all (map N.number numbers.now)) result out.new }
 {
     let mut next = at;
     for number in numbers {
         next = put_byte(out, next, b'\t');
-        next = number.put(pairs, out, next);
+        next = number.put(out, next);
     }
     put_byte(out, next, b'\n')
 }
@@ -70,27 +67,12 @@ fn put_numbers<N: Number>(pairs: &Pairs, numbers: &[N], out: &mut [u8], at: usiz
 // ---- whole lines
 
 // a word and its numbers
-pub fn put_line<N: Number>(
-    pairs: &Pairs,
-    word: &[u8],
-    numbers: &[N],
-    out: &mut [u8],
-    at: usize,
-) -> usize
-    requires { (pairs.now ≡ all_pairs) × (at + length (line_of word.now (map N.number numbers.now)) ≤ length out.old) }
+pub fn put_line<N: Number>(word: &[u8], numbers: &[N], out: &mut [u8], at: usize) -> usize
+    requires { at + length (line_of word.now (map N.number numbers.now)) ≤ length out.old }
     ensures { Puts out.old at (line_of word.now (map N.number numbers.now)) result out.new }
 {
     let next = put_word(out, at, word);
-    put_numbers(pairs, numbers, out, next)
-}
-
-// a word and its counts, once
-fn put_counts(out: &mut [u8], at: usize, word: &[u8], counts: &[u64]) -> usize
-    requires { at + length (line_of word.now (map pos counts.now)) ≤ length out.old }
-    ensures { Puts out.old at (line_of word.now (map pos counts.now)) result out.new }
-{
-    let pairs = list_digits::pairs();
-    put_line(&pairs, word, counts, out, at)
+    put_numbers(numbers, out, next)
 }
 
 // "It ends with `done` and the step count"
@@ -99,7 +81,7 @@ pub fn put_done(out: &mut [u8], at: usize, steps: u64) -> usize
     requires { at + length (line_of (bytes "done") (pos steps ∷ [])) ≤ length out.old }
     ensures { Puts out.old at (line_of (bytes "done") (pos steps ∷ [])) result out.new }
 {
-    put_counts(out, at, b"done", &[steps])
+    put_line(b"done", &[steps], out, at)
 }
 
 // "or `stop`, step, area, number, node-or-branch"
@@ -110,7 +92,7 @@ pub fn put_stop(out: &mut [u8], at: usize, step: u64, area: u64, number: u64, pl
     ensures { Puts out.old at
         (line_of (bytes "stop") (pos step ∷ pos area ∷ pos number ∷ pos place ∷ [])) result out.new }
 {
-    put_counts(out, at, b"stop", &[step, area, number, place])
+    put_line(b"stop", &[step, area, number, place], out, at)
 }
 
 // "a refused text gives `bad`, line, number"
@@ -120,5 +102,5 @@ pub fn put_bad(out: &mut [u8], at: usize, line: u64, number: u64) -> usize
     ensures { Puts out.old at (line_of (bytes "bad") (pos line ∷ pos number ∷ [])) result
         out.new }
 {
-    put_counts(out, at, b"bad", &[line, number])
+    put_line(b"bad", &[line, number], out, at)
 }

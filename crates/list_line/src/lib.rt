@@ -6,12 +6,9 @@ ghost use Rattle.std.specs.Prelude.{◌+◌, ◌^◌, ◌≤◌, ◌<◌, ◌≡
 ghost use Rattle.whole.specs.Plain.{length, sets};
 ghost use Rattle.paper.specs.Limits as Limits;
 ghost use Rattle.list_digits.specs.Puts.{Puts};
-ghost use Rattle.list_digits.specs.Pairs.{all_pairs};
 ghost use Rattle.list_line.specs.Quads.{four_of};
 ghost use Rattle.list_line.specs.Heads.{text_of, Headed, Spelt};
 ghost use Rattle.list_line.specs.Texts.{ended_text, start_text, row_text, line_text};
-
-use list_digits::Pairs;
 
 // ---- what all lines of a step begin with: their letter and the step, a tab behind each
 
@@ -42,12 +39,12 @@ fn put_four(out: &mut [u8], at: usize, four: [u8; 4])
 }
 
 // The head's text but for its letter, and how long it is with it.
-pub fn spell(pairs: &Pairs, step: u64, text: &mut [u8]) -> usize
-    requires { (pairs.now ≡ all_pairs) × (step ≤ Limits.steps_end) × (10 ≤ length text.old) }
+pub fn spell(step: u64, text: &mut [u8]) -> usize
+    requires { (step ≤ Limits.steps_end) × (10 ≤ length text.old) }
     ensures { Spelt text.new step result }
 {
     text[1] = b'\t';
-    let next = list_numerals::put_natural_by(pairs, text, 2, step);
+    let next = list_numerals::put_natural(text, 2, step);
     text[next] = b'\t';
     next + 1
 }
@@ -82,32 +79,31 @@ fn put_head(head: Head, out: &mut [u8], at: usize) -> usize
 // ---- one line
 
 // a value, and the tab or the end of the line behind it
-fn put_ended(pairs: &Pairs, x: i64, end: u8, out: &mut [u8], at: usize) -> usize
-    requires { (pairs.now ≡ all_pairs) × (at + length (ended_text x end) ≤ length out.old) }
+fn put_ended(x: i64, end: u8, out: &mut [u8], at: usize) -> usize
+    requires { at + length (ended_text x end) ≤ length out.old }
     ensures { Puts out.old at (ended_text x end) result out.new }
 {
-    let next = list_numerals::put_number_by(pairs, out, at, x);
+    let next = list_numerals::put_number(out, at, x);
     out[next] = end;
     next + 1
 }
 
-// The lines of a step: the digits to look up, and what all of them begin with.
+// The lines of a step: what all of them begin with.
 #[derive(Clone, Copy)]
-pub struct Lines<'a> {
-    pub pairs: &'a Pairs,
+pub struct Lines {
     pub head: Head,
-    ghost spelt: { (pairs.now ≡ all_pairs) × Headed head },
+    ghost spelt: { Headed head },
 }
 
-impl Lines<'_> {
+impl Lines {
     // up to its values: the head, the number of its node or branch, a tab
     fn put_start(self, number: u64, out: &mut [u8], at: usize) -> usize
         requires number_value { number < 10 ^ 2 }
         requires number_in_bounds { at + length (start_text self.head number) ≤ length out.old }
-        ensures { Puts out.old at (start_text self.entry.head number) result out.new }
+        ensures { Puts out.old at (start_text self.head number) result out.new }
     {
         let next = put_head(self.head, out, at);
-        let last = list_digits::put_small(self.pairs, out, next, number);
+        let last = list_digits::put_small(out, next, number);
         out[last] = b'\t';
         last + 1
     }
@@ -115,20 +111,20 @@ impl Lines<'_> {
     pub fn put_row(self, number: u64, x: i64, out: &mut [u8], at: usize) -> usize
         requires number_value { number < 10 ^ 2 }
         requires x_in_bounds { at + length (row_text self.head number x) ≤ length out.old }
-        ensures { Puts out.old at (row_text self.entry.head number x) result out.new }
+        ensures { Puts out.old at (row_text self.head number x) result out.new }
     {
         let next = self.put_start(number, out, at);
-        put_ended(self.pairs, x, b'\n', out, next)
+        put_ended(x, b'\n', out, next)
     }
 
     // "for a line a fifth field, the to-end current"
     pub fn put_line_row(self, number: u64, x: i64, y: i64, out: &mut [u8], at: usize) -> usize
         requires number_value { number < 10 ^ 2 }
         requires y_in_bounds { at + length (line_text self.head number x y) ≤ length out.old }
-        ensures { Puts out.old at (line_text self.entry.head number x y) result out.new }
+        ensures { Puts out.old at (line_text self.head number x y) result out.new }
     {
         let next = self.put_start(number, out, at);
-        let last = put_ended(self.pairs, x, b'\t', out, next);
-        put_ended(self.pairs, y, b'\n', out, last)
+        let last = put_ended(x, b'\t', out, next);
+        put_ended(y, b'\n', out, last)
     }
 }

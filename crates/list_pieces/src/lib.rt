@@ -50,7 +50,6 @@ pub fn steps_on(
     ensures { Pieces plan.now totals owns.old legs.old nodes.now sources.now (memory records.old froms.old tos.old)
         out.old (Ok result.pause) result.count out.new (memory records.new froms.new tos.new) }
 {
-    let pairs = list_digits::pairs();
     let mut factors = [[0.0; Node::MAX as usize]; Node::MAX as usize];
     let mut at = 0;
     let taken = call_counts::steps_taken(records, totals.areas, totals.steps);
@@ -74,7 +73,7 @@ pub fn steps_on(
             tos,
             step,
         );
-        at = list_turn::put_turn(&pairs, plan, totals, records, k, round, out, at);
+        at = list_turn::put_turn(plan, totals, records, k, round, out, at);
         if let Err(Stopped { area, refusal }) = round {
             return Piece {
                 pause: Pause::Stopped(area, refusal),

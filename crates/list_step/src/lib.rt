@@ -7,23 +7,21 @@ ghost use Rattle.paper.specs.Limits as Limits;
 ghost use Rattle.paper.specs.Areas.{Net};
 ghost use Rattle.paper.specs.Listing.{step_lines};
 ghost use Rattle.list_digits.specs.Puts.{Puts};
-ghost use Rattle.list_digits.specs.Pairs.{all_pairs};
 ghost use Rattle.plan_rows.specs.Planned.{row_in};
 ghost use Rattle.plan_net.specs.Of.{Of, OfSome};
 ghost use Rattle.list_step.specs.Joined.{volts_text};
 ghost use Rattle.list_step.specs.ByPlan.{current_line_by, currents_text, Numbered};
 ghost use Rattle.list_step.specs.Bounds.{Small};
 
-use list_digits::Pairs;
 use list_line::Lines;
 use paper::{kinds, sections};
 use plan_rows::{Table, Totals};
 
-fn put_volts(lines: Lines<'_>, records: &[i64], nodes: usize, out: &mut [u8], at: usize) -> usize
+fn put_volts(lines: Lines, records: &[i64], nodes: usize, out: &mut [u8], at: usize) -> usize
     requires letter { lines.head.letter ≡ 118 }
     requires nodes_bound { (nodes ≤ Limits.node_end) × (length records.now ≡ Limits.record_words) }
     requires nodes_in_bounds { at + length (volts_text records.now lines.head.step nodes) ≤ length out.old }
-    ensures { Puts out.old at (volts_text records.now lines.entry.head.step nodes) result out.new }
+    ensures { Puts out.old at (volts_text records.now lines.head.step nodes) result out.new }
 {
     let mut next = at;
     for node in 1..=nodes {
@@ -34,7 +32,7 @@ fn put_volts(lines: Lines<'_>, records: &[i64], nodes: usize, out: &mut [u8], at
 
 // row i's line; a source has none
 fn put_current(
-    lines: Lines<'_>,
+    lines: Lines,
     plan: &Table,
     records: &[i64],
     i: usize,
@@ -45,7 +43,7 @@ fn put_current(
     requires i_bound { (i < Limits.row_end) × ((row_in plan.now i).number < 10 ^ 2)
         × (length records.now ≡ Limits.record_words) }
     requires i_in_bounds { at + length (current_line_by plan.now records.now lines.head.step i) ≤ length out.old }
-    ensures { Puts out.old at (current_line_by plan.now records.now lines.entry.head.step i) result out.new }
+    ensures { Puts out.old at (current_line_by plan.now records.now lines.head.step i) result out.new }
 {
     let r = plan[i];
     let number = r.number as u64;
@@ -60,7 +58,7 @@ fn put_current(
 }
 
 fn put_currents(
-    lines: Lines<'_>,
+    lines: Lines,
     plan: &Table,
     records: &[i64],
     rows: usize,
@@ -70,7 +68,7 @@ fn put_currents(
     requires letter { lines.head.letter ≡ 105 }
     requires numbered { Numbered plan.now rows × (length records.now ≡ Limits.record_words) }
     requires rows_in_bounds { at + length (currents_text plan.now records.now lines.head.step rows) ≤ length out.old }
-    ensures { Puts out.old at (currents_text plan.now records.now lines.entry.head.step rows) result out.new }
+    ensures { Puts out.old at (currents_text plan.now records.now lines.head.step rows) result out.new }
 {
     let mut next = at;
     for i in 0..rows {
@@ -79,9 +77,8 @@ fn put_currents(
     next
 }
 
-// With the digits to look up, which whoever lists many steps makes once.
-pub fn put_step_by(
-    pairs: &Pairs,
+// "v, step, node, voltage" of all nodes, then "i, step, branch, current" of all rows but sources.
+pub fn put_step(
     plan: &Table,
     totals: Totals,
     records: &[i64],
@@ -89,21 +86,18 @@ pub fn put_step_by(
     out: &mut [u8],
     at: usize,
 ) -> usize
-    requires pairs_value { (pairs.now ≡ all_pairs) × OfSome plan.now totals × (step ≤ Limits.steps_end) }
+    requires of_some { OfSome plan.now totals × (step ≤ Limits.steps_end) }
     requires records_len { (length records.now ≡ Limits.record_words) × Small totals.nodes totals.rows records.now }
     requires at_in_bounds { at + Limits.step_bytes ≤ length out.old }
     ensures { (N : Net) → Of N plan.now totals
         → Puts out.old at (step_lines N records.now step) result out.new }
 {
     let mut text = [0; 16];
-    let size = list_line::spell(pairs, step, &mut text);
+    let size = list_line::spell(step, &mut text);
     let volts = list_line::head_of(&mut text, b'v', step, size);
-    let lines = Lines { pairs, head: volts };
+    let lines = Lines { head: volts };
     let next = put_volts(lines, records, totals.nodes, out, at);
     let currents = list_line::head_of(&mut text, b'i', step, size);
-    let lines = Lines {
-        pairs,
-        head: currents,
-    };
+    let lines = Lines { head: currents };
     put_currents(lines, plan, records, totals.rows, out, next)
 }

@@ -6,17 +6,14 @@ ghost use Rattle.whole.specs.Plain.{suc, length};
 ghost use Rattle.paper.specs.Limits as Limits;
 ghost use Rattle.paper.specs.Areas.{Net};
 ghost use Rattle.list_digits.specs.Puts.{Puts};
-ghost use Rattle.list_digits.specs.Pairs.{all_pairs};
 ghost use Rattle.plan_net.specs.Of.{Of};
 ghost use Rattle.list_turn.specs.Turned.{round_bytes, Listable};
 
-use list_digits::Pairs;
 use list_round::Stopped;
 use plan_rows::{Table, Totals};
 
 // After the step that follows the `taken` ones; with the digits to look up. Answers the next place in the buffer.
 pub fn put_turn(
-    pairs: &Pairs,
     plan: &Table,
     totals: Totals,
     records: &[i64],
@@ -25,14 +22,14 @@ pub fn put_turn(
     out: &mut [u8],
     at: usize,
 ) -> usize
-    requires pairs_value { (pairs.now ≡ all_pairs) × Listable plan.now totals records.now taken round }
+    requires listable { Listable plan.now totals records.now taken round }
     requires at_in_bounds { at + Limits.step_bytes ≤ length out.old }
     ensures { (N : Net) → Of N plan.now totals
         → Puts out.old at (round_bytes N (suc taken) records.now round) result out.new }
 {
     let step = (taken + 1) as u64;
     match round {
-        Ok(()) => list_step::put_step_by(pairs, plan, totals, records, step, out, at),
+        Ok(()) => list_step::put_step(plan, totals, records, step, out, at),
         Err(stopped) => {
             let number = call_answers::refusal_number(stopped.refusal);
             let place = call_answers::refusal_place(stopped.refusal);

@@ -88,7 +88,7 @@ fn row_of(walk: Walk, seen: Seen, line: u64) -> Result<Row, BadLine>
         fault: Fault::Form,
     };
     let Some(row) = Row::of(walk.row) else {
-        return Err(form);
+        unreachable!()
     };
     if !in_place(row, line == 1) {
         return Err(form);

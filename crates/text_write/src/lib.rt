@@ -11,44 +11,40 @@ ghost use Rattle.paper.specs.Listing.{line_of};
 ghost use Rattle.paper.specs.Writing.{row_line, text_of};
 ghost use Rattle.laws_facts.specs.Nets.{net_in, row_at};
 ghost use Rattle.list_digits.specs.Puts.{Puts};
-ghost use Rattle.list_digits.specs.Pairs.{all_pairs};
 
-use list_digits::Pairs;
 use paper::Kind;
 use plan_record::Record;
 
 // ---- a line
 
-fn put_line(pairs: &Pairs, kind: Kind, fields: &[i64], out: &mut [u8], at: usize) -> usize
-    requires known { pairs.now ≡ all_pairs }
-    requires room { at + length (line_of (word_of (number kind)) fields.now) ≤ length out.old }
+fn put_line(kind: Kind, fields: &[i64], out: &mut [u8], at: usize) -> usize
+    requires { at + length (line_of (word_of (number kind)) fields.now) ≤ length out.old }
     ensures { Puts out.old at (line_of (word_of (number kind)) fields.now) result out.new }
 {
-    list_ends::put_line(pairs, text_words::word_of(kind), fields, out, at)
+    list_ends::put_line(text_words::word_of(kind), fields, out, at)
 }
 
 // ---- all lines
 
 // the line of row i
-fn put_row(pairs: &Pairs, net: Record, i: usize, out: &mut [u8], at: usize) -> usize
-    requires known { (pairs.now ≡ all_pairs) × (i < length (net_in net.words.now).rows) }
+fn put_row(net: Record, i: usize, out: &mut [u8], at: usize) -> usize
+    requires known { i < length (net_in net.words.now).rows }
     requires room { at + length (row_line (row_at (net_in net.words.now) i)) ≤ length out.old }
     ensures { Puts out.old at (row_line (row_at (net_in net.entry.words.now) i)) result out.new }
 {
     let kind = net.kind(i);
     let first = 9 + 8 * i;
     let end = first + text_kinds::fields(kind);
-    put_line(pairs, kind, &net.words[first..end], out, at)
+    put_line(kind, &net.words[first..end], out, at)
 }
 
-fn put_rows(pairs: &Pairs, net: Record, out: &mut [u8], at: usize) -> usize
-    requires known { pairs.now ≡ all_pairs }
-    requires room { at + length (text_of (net_in net.words.now).rows) ≤ length out.old }
+fn put_rows(net: Record, out: &mut [u8], at: usize) -> usize
+    requires { at + length (text_of (net_in net.words.now).rows) ≤ length out.old }
     ensures { Puts out.old at (text_of (net_in net.entry.words.now).rows) result out.new }
 {
     let mut next = at;
     for row in 0..net.row_count() {
-        next = put_row(pairs, net, row, out, next);
+        next = put_row(net, row, out, next);
     }
     next
 }
@@ -57,7 +53,6 @@ pub fn put_study(net: &[i64], out: &mut [u8]) -> usize
     requires { (is_network net.now ≡ true) × (length (text_of (table_of net.now)) ≤ length out.old) }
     ensures { Puts out.old 0 (text_of (table_of net.now)) result out.new }
 {
-    let pairs = list_digits::pairs();
-    let next = put_line(&pairs, Kind::Study, &net[..3], out, 0);
-    put_rows(&pairs, Record { words: net }, out, next)
+    let next = put_line(Kind::Study, &net[..3], out, 0);
+    put_rows(Record { words: net }, out, next)
 }

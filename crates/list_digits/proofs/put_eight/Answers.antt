@@ -7,7 +7,7 @@ use Rattle.list_digits.proofs.put_eight.Goals as goal
 pub put_four-requires : goal.put_four-requires
 put_four-requires c =
     let s = c.before.before.before.before.before.before.before in
-    (s.requires.0, omega (arith, c.ten_thousands-lead.ensures), fixed_room 4 4 _ c.put_four-next.ensures s.requires.2)
+    (omega (arith, c.ten_thousands-lead.ensures), fixed_room 4 4 _ c.put_four-next.ensures s.requires.1)
 
 pub returns : goal.returns
 returns c =

@@ -7,7 +7,7 @@ use Rattle.list_digits.proofs.put_four.Goals as goal
 pub put_pair-requires : goal.put_pair-requires
 put_pair-requires c =
     let s = c.before.before.before.before.before.before.before in
-    (s.requires.0, omega (arith, c.hundreds-lead.ensures), fixed_room 2 2 _ c.put_pair-next.ensures s.requires.2)
+    (omega (arith, c.hundreds-lead.ensures), fixed_room 2 2 _ c.put_pair-next.ensures s.requires.1)
 
 pub returns : goal.returns
 returns c =

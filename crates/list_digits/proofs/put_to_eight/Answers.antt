@@ -13,17 +13,17 @@ pub put_to_four-next-requires : goal.put_to_four-next-requires
 put_to_four-next-requires c =
     let s = c.before.before.before.before in
     let q = c.ten_thousands-lead in
-    (s.requires.0, omega (arith, s.requires.1, q.ensures), room_first (more s.args.n q.result c.if-n-lt10000.false s.requires.1 q.ensures) s.args.at _ s.requires.2)
+    (omega (arith, s.requires.0, q.ensures), room_first (more s.args.n q.result c.if-n-lt10000.false s.requires.0 q.ensures) s.args.at _ s.requires.1)
 
 pub put_four-requires : goal.put_four-requires
 put_four-requires c =
     let s = c.before.before.before.before.before.before.before.before in
     let q = c.ten_thousands-lead in
-    let t = more s.args.n q.result c.if-n-lt10000.false s.requires.1 q.ensures in
-    (s.requires.0, omega (arith, q.ensures), omega (arith, room_second t s.requires.2 c.put_to_four-next.ensures, length_fixed 4 (s.args.n - 10000 * q.result)))
+    let t = more s.args.n q.result c.if-n-lt10000.false s.requires.0 q.ensures in
+    (omega (arith, q.ensures), omega (arith, room_second t s.requires.1 c.put_to_four-next.ensures, length_fixed 4 (s.args.n - 10000 * q.result)))
 
 pub returns : goal.returns
 returns c =
     let s = c.before.before.before.before.before.before.before.before.before.before.before in
     let q = c.ten_thousands-lead in
-    both_put (more s.args.n q.result c.if-n-lt10000.false s.requires.1 q.ensures) c.put_to_four-next.ensures c.put_four.ensures
+    both_put (more s.args.n q.result c.if-n-lt10000.false s.requires.0 q.ensures) c.put_to_four-next.ensures c.put_four.ensures

@@ -12,9 +12,9 @@ four n l h = shown_exact 3 16 n refl l (omega arith) (omega arith) (omega arith)
 pub put_four-requires : goal.put_four-requires
 put_four-requires c =
     let s = c.before.before.before in
-    (s.requires.0, s.requires.1, omega (arith, s.requires.2, ap length (four s.args.n c.if-n-lt1000.false s.requires.1), length_fixed 4 s.args.n))
+    (s.requires.0, omega (arith, s.requires.1, ap length (four s.args.n c.if-n-lt1000.false s.requires.0), length_fixed 4 s.args.n))
 
 pub returns : goal.returns
 returns c =
     let s = c.before.before.before.before.before.before in
-    puts_as (sym (four s.args.n c.if-n-lt1000.false s.requires.1)) c.put_four.ensures
+    puts_as (sym (four s.args.n c.if-n-lt1000.false s.requires.0)) c.put_four.ensures

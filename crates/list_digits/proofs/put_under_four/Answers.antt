@@ -13,17 +13,17 @@ pub put_digit-next-requires : goal.put_digit-next-requires
 put_digit-next-requires c =
     let s = c.before.before.before.before in
     let q = c.hundreds-lead in
-    (omega (arith, s.requires.1, q.ensures), omega (arith, room_first (three s.args.n q.result c.if-n-lt100.false s.requires.1 q.ensures) s.args.at _ s.requires.2, length_fixed 1 q.result))
+    (omega (arith, s.requires.0, q.ensures), omega (arith, room_first (three s.args.n q.result c.if-n-lt100.false s.requires.0 q.ensures) s.args.at _ s.requires.1, length_fixed 1 q.result))
 
 pub put_pair-requires : goal.put_pair-requires
 put_pair-requires c =
     let s = c.before.before.before.before.before.before.before.before in
     let q = c.hundreds-lead in
-    let t = three s.args.n q.result c.if-n-lt100.false s.requires.1 q.ensures in
-    (s.requires.0, omega (arith, q.ensures), omega (arith, room_second t s.requires.2 c.put_digit-next.ensures, length_fixed 2 (s.args.n - 100 * q.result)))
+    let t = three s.args.n q.result c.if-n-lt100.false s.requires.0 q.ensures in
+    (omega (arith, q.ensures), omega (arith, room_second t s.requires.1 c.put_digit-next.ensures, length_fixed 2 (s.args.n - 100 * q.result)))
 
 pub returns : goal.returns
 returns c =
     let s = c.before.before.before.before.before.before.before.before.before.before.before in
     let q = c.hundreds-lead in
-    both_put (three s.args.n q.result c.if-n-lt100.false s.requires.1 q.ensures) c.put_digit-next.ensures c.put_pair.ensures
+    both_put (three s.args.n q.result c.if-n-lt100.false s.requires.0 q.ensures) c.put_digit-next.ensures c.put_pair.ensures

@@ -7,12 +7,12 @@ use Rattle.list_ends.proofs.put_numbers.Goals as goal
 pub put_byte-next-requires : goal.put_byte-next-requires
 put_byte-next-requires g c =
     let n = left_next g.N.Number.number c.args.numbers.now c.loop-number.number-index c.number-item.result c.loop-number-test.true c.number-item.is in
-    room_first (tab_next n) c.loop-number.next _ (going_room c.loop-number.invariant c.requires.1)
+    room_first (tab_next n) c.loop-number.next _ (going_room c.loop-number.invariant c.requires)
 
 pub put-next-requires : goal.put-next-requires
 put-next-requires g c =
     let n = left_next g.N.Number.number c.args.numbers.now c.loop-number.number-index c.number-item.result c.loop-number-test.true c.number-item.is in
-    (c.requires.0, room_first (shown_next _ _) c.put_byte-next.result _ (room_second (tab_next n) (going_room c.loop-number.invariant c.requires.1) c.put_byte-next.ensures))
+    room_first (shown_next _ _) c.put_byte-next.result _ (room_second (tab_next n) (going_room c.loop-number.invariant c.requires) c.put_byte-next.ensures)
 
 pub loop-number-preserved : goal.loop-number-preserved
 loop-number-preserved g c =
@@ -21,7 +21,7 @@ loop-number-preserved g c =
 
 pub put_byte-requires : goal.put_byte-requires
 put_byte-requires g c =
-    rw (none_left g.N.Number.number c.args.numbers.now c.loop-number.number-index c.loop-number-test.false) at (going_room c.loop-number.invariant c.requires.1)
+    rw (none_left g.N.Number.number c.args.numbers.now c.loop-number.number-index c.loop-number-test.false) at (going_room c.loop-number.invariant c.requires)
 
 pub returns : goal.returns
 returns g c =

@@ -9,12 +9,12 @@ use Rattle.list_numerals.proofs.put_to_sixteen.Goals as goal
 pub put_to_eight-next-requires : goal.put_to_eight-next-requires
 put_to_eight-next-requires c =
     let n = c.args.n in
-    (c.requires.0, omega arith, room_first (eight_more n (omega arith) c.ranges.n.fits) c.args.at _ c.requires.2)
+    (omega arith, room_first (eight_more n (omega arith) c.ranges.n.fits) c.args.at _ c.requires.1)
 
 pub put_eight-requires : goal.put_eight-requires
 put_eight-requires c =
     let n = c.args.n in
-    (c.requires.0, omega arith, omega (arith, room_second (eight_more n (omega arith) c.ranges.n.fits) c.requires.2 c.put_to_eight-next.ensures, length_fixed 8 (n - 100000000 * (n / 100000000))))
+    (omega arith, omega (arith, room_second (eight_more n (omega arith) c.ranges.n.fits) c.requires.1 c.put_to_eight-next.ensures, length_fixed 8 (n - 100000000 * (n / 100000000))))
 
 pub returns : goal.returns
 returns c = both_put (eight_more c.args.n (omega arith) c.ranges.n.fits) c.put_to_eight-next.ensures c.put_eight.ensures

@@ -61,7 +61,7 @@ put_turn-at-requires c =
     let a = c.loop-k.invariant.1 _ b in
     let r = ran b a c.loop-k-test.true c.step_of-step.ensures c.all_areas-round.ensures in
     record {
-      pairs_value = (c.pairs-pairs.ensures, listable b a c.loop-k-test.true r (c.all_areas-round.auto.records ∙ a.level.level.inv.long.records));
+      listable = listable b a c.loop-k-test.true r (c.all_areas-round.auto.records ∙ a.level.level.inv.long.records);
       at_in_bounds = omega (arith, long a, room a);
     }
 

@@ -13,18 +13,17 @@ use Rattle.plan_rows.specs.declared.Row.{Row}
 few : {plan : List Row} {totals : Totals} {recs : Words} {k : ℕ} {r : Round} → Listable plan totals recs k r → k + 1 ≤ Limits.steps_end
 few p = omega (arith, p.left, p.of.sound.study.steps_in.most)
 
-pub put_step_by-requires : goal.put_step_by-requires
-put_step_by-requires c =
-    let q = c.requires.pairs_value in
-    let p = q.1 in
+pub put_step-requires : goal.put_step-requires
+put_step-requires c =
+    let p = c.requires.listable in
     record {
-      pairs_value = (q.0, record { net = _; of = p.of }, few p);
+      of_some = (record { net = _; of = p.of }, few p);
       records_len = (p.long, p.small (rw c.in-Ok.is refl));
       at_in_bounds = c.requires.at_in_bounds;
     }
 
 pub returns-in-Ok : goal.returns-in-Ok
-returns-in-Ok c N o = rw c.in-Ok.is (rw (add-one c.args.taken) at (c.put_step_by.ensures N o))
+returns-in-Ok c N o = rw c.in-Ok.is (rw (add-one c.args.taken) at (c.put_step.ensures N o))
 
 pub put_stop-requires : goal.put_stop-requires
 put_stop-requires c =

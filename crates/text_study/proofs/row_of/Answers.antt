@@ -28,5 +28,5 @@ returns-in-None c =
     let p : bool_beq (eqb c.args.line 1) (is_study c.args.walk.row) ≡ true = rw e at (sym c.in_place.ensures ∙ c.if-not-in_place.false) in
     (e, rw p (ap (seen_fault c.args.seen) (sym e) ∙ fault_none _ (sym c.in-None.ensures)))
 
-pub returns-in_default : goal.returns-in_default
-returns-in_default c = absurd (omega (arith, c.in_default.ensures))
+pub unreachable-requires : goal.unreachable-requires
+unreachable-requires c = absurd (omega (arith, c.in_default.ensures))

@@ -3,7 +3,7 @@ use Rattle.std.proofs.lemmas.List.{map-id}
 use Rattle.text_write.proofs.put_line.Goals as goal
 
 pub put_line-requires : goal.put_line-requires
-put_line-requires c = (c.requires.known, rw (c.word_of.ensures, map-id c.args.fields.now) c.requires.room)
+put_line-requires c = rw (c.word_of.ensures, map-id c.args.fields.now) c.requires
 
 pub returns : goal.returns
 returns c = rw (c.word_of.ensures, map-id c.args.fields.now) at c.put_line.ensures

@@ -27,27 +27,24 @@ line_is net i h {k} {n} e f =
 pub put_line-requires : goal.put_line-requires
 put_line-requires c =
     let net = c.args.net.words.now in
-    record {
-      known = c.requires.known.0;
-      room = rw (line_is net c.args.i c.requires.known.1 c.kind-kind.ensures c.fields.ensures) c.requires.room;
-    }
+    rw (line_is net c.args.i c.requires.known c.kind-kind.ensures c.fields.ensures) c.requires.room
 
 pub returns : goal.returns
-returns c = puts_as (line_is c.args.net.words.now c.args.i c.requires.known.1 c.kind-kind.ensures c.fields.ensures) c.put_line.ensures
+returns c = puts_as (line_is c.args.net.words.now c.args.i c.requires.known c.kind-kind.ensures c.fields.ensures) c.put_line.ensures
 
 pub overflow_mul-first : goal.overflow_mul-first
-overflow_mul-first c = omega (arith, most c.args.net.words.now c.args.i c.args.net.passes c.requires.known.1)
+overflow_mul-first c = omega (arith, most c.args.net.words.now c.args.i c.args.net.passes c.requires.known)
 
 pub overflow_add-first : goal.overflow_add-first
-overflow_add-first c = omega (arith, most c.args.net.words.now c.args.i c.args.net.passes c.requires.known.1)
+overflow_add-first c = omega (arith, most c.args.net.words.now c.args.i c.args.net.passes c.requires.known)
 
 pub overflow_add-end : goal.overflow_add-end
-overflow_add-end c = omega (arith, most c.args.net.words.now c.args.i c.args.net.passes c.requires.known.1, few _ c.fields.ensures)
+overflow_add-end c = omega (arith, most c.args.net.words.now c.args.i c.args.net.passes c.requires.known, few _ c.fields.ensures)
 
 pub offset_bounds-net-first : goal.offset_bounds-net-first
-offset_bounds-net-first c = omega (arith, most c.args.net.words.now c.args.i c.args.net.passes c.requires.known.1, few _ c.fields.ensures)
+offset_bounds-net-first c = omega (arith, most c.args.net.words.now c.args.i c.args.net.passes c.requires.known, few _ c.fields.ensures)
 
 pub slice_bounds-put_line-end : goal.slice_bounds-put_line-end
 slice_bounds-put_line-end c =
     let net = c.args.net.words.now in
-    omega (arith, most net c.args.i c.args.net.passes c.requires.known.1, few _ c.fields.ensures, network_length net c.args.net.passes)
+    omega (arith, most net c.args.i c.args.net.passes c.requires.known, few _ c.fields.ensures, network_length net c.args.net.passes)

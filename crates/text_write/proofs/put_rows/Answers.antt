@@ -15,8 +15,8 @@ put_row-next-requires c =
     let rows = (net_in c.args.net.words.now).rows in
     let inside : c.loop-row.row < length rows = omega arith in
     record {
-      known = (c.requires.known, inside);
-      room = room_first (rows_next rows c.loop-row.row inside) c.loop-row.next _ (going_room c.loop-row.invariant c.requires.room);
+      known = inside;
+      room = room_first (rows_next rows c.loop-row.row inside) c.loop-row.next _ (going_room c.loop-row.invariant c.requires);
     }
 
 pub loop-row-preserved : goal.loop-row-preserved

@@ -10,17 +10,11 @@ slice_bounds-put_line-end c = sym (length-take-le 3 c.args.net.now (omega (arith
 
 pub put_line-next-requires : goal.put_line-next-requires
 put_line-next-requires c =
-    record {
-      known = c.pairs-pairs.ensures;
-      room = room_first (study_parts c.args.net.now) 0 _ (omega (arith, c.requires.1));
-    }
+    room_first (study_parts c.args.net.now) 0 _ (omega (arith, c.requires.1))
 
 pub put_rows-requires : goal.put_rows-requires
 put_rows-requires c =
-    record {
-      known = c.pairs-pairs.ensures;
-      room = room_second (study_parts c.args.net.now) (omega (arith, c.requires.1)) c.put_line-next.ensures;
-    }
+    room_second (study_parts c.args.net.now) (omega (arith, c.requires.1)) c.put_line-next.ensures
 
 pub returns : goal.returns
 returns c = both_put (study_parts c.args.net.now) c.put_line-next.ensures c.put_rows.ensures

@@ -12,12 +12,12 @@ pub put_ended-last-requires : goal.put_ended-last-requires
 put_ended-last-requires c =
     let p = c.put_start-next in
     let r = room_second (line_parts c.args.self.head c.args.number c.args.x c.args.y) c.requires.y_in_bounds p.ensures in
-    (c.args.self.spelt.0, rw (to_z-of_z c.ranges.x) (room_first (both_parts c.args.x c.args.y) p.result _ r))
+    rw (to_z-of_z c.ranges.x) (room_first (both_parts c.args.x c.args.y) p.result _ r)
 
 pub put_ended-requires : goal.put_ended-requires
 put_ended-requires c =
     let r = room_second (line_parts c.args.self.head c.args.number c.args.x c.args.y) c.requires.y_in_bounds c.put_start-next.ensures in
-    (c.args.self.spelt.0, rw (to_z-of_z c.ranges.y) (room_second (both_parts c.args.x c.args.y) r (rw (to_z-of_z c.ranges.x) at c.put_ended-last.ensures)))
+    rw (to_z-of_z c.ranges.y) (room_second (both_parts c.args.x c.args.y) r (rw (to_z-of_z c.ranges.x) at c.put_ended-last.ensures))
 
 pub returns : goal.returns
 returns c =

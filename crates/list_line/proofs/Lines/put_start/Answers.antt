@@ -5,12 +5,12 @@ use Rattle.list_line.specs.Texts.{start_parts, count_parts}
 use Rattle.list_line.proofs.Lines.put_start.Goals as goal
 
 pub put_head-next-requires : goal.put_head-next-requires
-put_head-next-requires c = (c.args.self.spelt.1, room_first (start_parts c.args.self.head c.args.number) c.args.at _ c.requires.number_in_bounds)
+put_head-next-requires c = (c.args.self.spelt, room_first (start_parts c.args.self.head c.args.number) c.args.at _ c.requires.number_in_bounds)
 
 pub put_small-last-requires : goal.put_small-last-requires
 put_small-last-requires c =
     let p = c.put_head-next in
-    (c.args.self.spelt.0, c.requires.number_value, room_first (count_parts c.args.number) p.result _ (room_second (start_parts c.args.self.head c.args.number) c.requires.number_in_bounds p.ensures))
+    (c.requires.number_value, room_first (count_parts c.args.number) p.result _ (room_second (start_parts c.args.self.head c.args.number) c.requires.number_in_bounds p.ensures))
 
 pub returns : goal.returns
 returns c =
