@@ -97,6 +97,10 @@ else
     failing "EINTR at every write but the first" MOST=1000 FAIL_WRITE=2-9000000:4 1000 "emtrun: standard output: Interrupted system call"
     failing "EIO at the third write" MOST=1000 FAIL_WRITE=3-3:5 2000 "emtrun: standard output: Input/output error"
     failing "ENOSPC at the first write" FAIL_WRITE=1-1:28 0 "emtrun: standard output: No space left on device"
+    failing "nothing taken at the third write" MOST=1000 NONE_WRITE=3-3 2000 "emtrun: standard output: Success"
+    failing "EINTR at the second write, nothing taken at the fourth" MOST=1000 FAIL_WRITE=2-2:4 NONE_WRITE=4-4 2000 "emtrun: standard output: Interrupted system call"
+    piece=$(NONE_WRITE=2-2 "$broken" <$study 2>/dev/null | wc -c)
+    failing "EINTR at the first piece, nothing taken of the second" FAIL_WRITE=1-1:4 NONE_WRITE=3-3 "$piece" "emtrun: standard output: Interrupted system call"
 fi
 
 echo "$passed passed, $failed failed"

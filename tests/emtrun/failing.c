@@ -1,6 +1,6 @@
 /* The kernel's read and write as emtrun calls them, linked with its object in place of the C library's: they fail at the calls that the environment names, and move
  * few bytes at a time. FAIL_READ=FROM-TO:ERRNO fails the reads of standard input from number FROM to number TO (from 1) with this error, FAIL_WRITE likewise the writes
- * to standard output; MOST=N moves at most N bytes a call. The true calls are reached as readv and writev. */
+ * to standard output; NONE_WRITE=FROM-TO takes nothing in these writes, and fails none; MOST=N moves at most N bytes a call. The true calls are reached as readv and writev. */
 #include <errno.h>
 #include <stdio.h>
 #include <stdlib.h>
@@ -16,6 +16,14 @@ static int failure(const char *name, long call)
     if (said && sscanf(said, "%ld-%ld:%d", &from, &to, &error) == 3 && from <= call && call <= to)
         return error;
     return 0;
+}
+
+static int takes_none(long call)
+{
+    const char *said = getenv("NONE_WRITE");
+    long from, to;
+
+    return said && sscanf(said, "%ld-%ld", &from, &to) == 2 && from <= call && call <= to;
 }
 
 static size_t at_most(size_t count)
@@ -47,5 +55,7 @@ ssize_t write(int fd, const void *bytes, size_t count)
         errno = error;
         return -1;
     }
+    if (fd == STDOUT_FILENO && takes_none(calls))
+        return 0;
     return writev(fd, &(struct iovec){(void *)bytes, fd == STDOUT_FILENO ? at_most(count) : count}, 1);
 }

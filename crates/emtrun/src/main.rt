@@ -5,6 +5,9 @@ ghost use Rattle.std.specs.Prelude.{◌≡◌};
 ghost use Rattle.whole.specs.Plain.{suc, length};
 ghost use Rattle.paper.specs.Limits as Limits;
 
+mod noting;
+
+use noting::Noting;
 use paper::Room;
 use std::io::{Error, Read, Write};
 
@@ -31,20 +34,26 @@ fn fail(rt: &HostRuntime, what: &str, error: Error) {
     told.unwrap_or(());
 }
 
-// All that is read is answered; nothing is, where a read fails.
-fn serve<R: Read, W: Write>(rt: &HostRuntime, reader: &mut R, writer: &mut W, text: &mut [u8])
+// All that is read is answered; nothing is, where a read fails. A write that takes nothing is told by the last error that the output met, if it met one.
+fn serve<R: Read, W: Write>(
+    rt: &HostRuntime,
+    reader: &mut R,
+    writer: &mut Noting<W>,
+    text: &mut [u8],
+)
     requires { suc Limits.text_end ≡ length text.old }
 {
     let count = match run_bytes::read_all(reader, text) {
         Ok(count) => count,
         Err(error) => return fail(rt, "standard input", error),
     };
-    if let Err(error) = run_study::run(writer, &text[..count]) {
-        fail(rt, "standard output", error);
+    if run_study::run(writer, &text[..count]).is_err() {
+        fail(rt, "standard output", Error::from_raw_os_error(writer.code));
     }
 }
 
 fn main(rt: HostRuntime) {
     let mut text = text_room();
-    serve(&rt, &mut rt.stdin(), &mut rt.stdout(), &mut text);
+    let mut writer = Noting::of(rt.stdout());
+    serve(&rt, &mut rt.stdin(), &mut writer, &mut text);
 }

@@ -1,6 +1,6 @@
 -- What the program hands to its output, one piece of the listing after another. Assumes nothing.
-use Rattle.std.specs.Prelude.{Result, Ok, Err, IfOk, IsErr, ◌+◌, ◌≤◌, ◌≡◌, ◌≢◌, ◌++◌}
-use Rattle.whole.specs.Plain.{ℕ, suc, refl, sym, ap, ◌∙◌, false≢true, List}
+use Rattle.std.specs.Prelude.{Result, Ok, Err, IfOk, MatchResult, ◌+◌, ◌≤◌, ◌≡◌, ◌≢◌, ◌++◌}
+use Rattle.whole.specs.Plain.{ℕ, suc, refl, sym, ap, ◌∙◌, List}
 use Rattle.whole.specs.Plain.{length, drop, zero, dec_lt, arith, Words}
 use Rattle.std.proofs.Common.{add-one}
 use Rattle.paper.specs.Replies.{Listing}
@@ -10,6 +10,7 @@ use Rattle.paper.specs.Advance.{Memory}
 use Rattle.paper.specs.Pieces.{Listed, list_of}
 use Rattle.run_pieces.specs.Handed.{after_pieces, piece_at, LeadOn, after_next}
 use Rattle.run_pieces.specs.declared.Ended.{Ended}
+use Rattle.run_pieces.specs.declared.Unwritten.{Unwritten}
 
 -- ---- one piece
 
@@ -36,13 +37,17 @@ pub record Ends (net : Words) (room : ℕ) (m : Memory) (before : ℕ) (e : Ende
   pub last : e.last ≡ (piece_at net room m before).answer
   pub end : e.last ≡ Ok More → Limits.steps_end ≤ e.pieces
 
+-- the output did not take the piece that follows `before` others
+pub record Breaks (before : ℕ) (u : Unwritten) : Type 0 where
+  pub count : u.pieces ≡ suc before
+
 -- pieces with more to follow each, and one after them, which is the last or which the output did not take
-pub record Hand {E : Type 0} (net : Words) (room : ℕ) (m : Memory) (r : Result Ended E) : Type 0 where
+pub record Hand (net : Words) (room : ℕ) (m : Memory) (r : Result Ended Unwritten) : Type 0 where
   pub before : ℕ
   pub lead : LeadOn net room m before
-  pub ends : IfOk r (λ e. Ends net room m before e)
+  pub ends : MatchResult r (λ e. Ends net room m before e) (λ u. Breaks before u)
 
-pub record Hands {E : Type 0} (net : Words) (m : Memory) (out : List ℕ) (r : Result Ended E) (b : List ℕ) (after : Memory) : Type 0 where
+pub record Hands (net : Words) (m : Memory) (out : List ℕ) (r : Result Ended Unwritten) (b : List ℕ) (after : Memory) : Type 0 where
   pub hand : Hand net (length out) m r
   pub buffer : b ≡ buffer_after net (length out) m out (suc hand.before)
   pub memory : after ≡ after_pieces net (length out) m (suc hand.before)
@@ -78,7 +83,7 @@ module _ {E : Type 0} {net : Words} {m now now' : Memory} {out b b' : List ℕ} 
       (record { lead = λ i h. elim (dec_lt i n) [ yes l ↦ g.lead i l | no l ↦ (let q : i ≡ n = omega arith in rw q last) ]; buffer = buffer_is; memory = memory_is })
 
   -- no more to follow
-  pub going_ends : {F : Type 0} {x : Listing} → r ≡ Ok x → x ≢ Ok More → Hands {E = F} net m out (Ok (record { pieces = n + 1; last = x })) b' now'
+  pub going_ends : {x : Listing} → r ≡ Ok x → x ≢ Ok More → Hands net m out (Ok (record { pieces = n + 1; last = x })) b' now'
   going_ends e h =
       record {
         hand = record { before = n; lead = g.lead; ends = record { count = add-one n; last = answer_is e; end = λ q. absurd (h q) } };
@@ -87,13 +92,12 @@ module _ {E : Type 0} {net : Words} {m now now' : Memory} {out b b' : List ℕ} 
       }
 
   -- the output did not take the piece
-  pub going_breaks : {F : Type 0} (s : Result Ended F) → IsErr s → Hands net m out s b' now'
-  going_breaks (Ok e) h = absurd (false≢true h)
-  going_breaks (Err e) h = record { hand = record { before = n; lead = g.lead; ends = tt }; buffer = buffer_is; memory = memory_is }
+  pub going_breaks : (u : Unwritten) → u.pieces ≡ n + 1 → Hands net m out (Err u) b' now'
+  going_breaks u h = record { hand = record { before = n; lead = g.lead; ends = record { count = h ∙ add-one n } }; buffer = buffer_is; memory = memory_is }
 
 -- as many pieces as a study may have steps
-pub going_full : {F : Type 0} {net : Words} {m now : Memory} {out b : List ℕ} (n : ℕ) {k : ℕ} → k ≡ n → Limits.steps_end ≤ n → Going net m out n b now
-    → Hands {E = F} net m out (Ok (record { pieces = k; last = Ok More })) b now
+pub going_full : {net : Words} {m now : Memory} {out b : List ℕ} (n : ℕ) {k : ℕ} → k ≡ n → Limits.steps_end ≤ n → Going net m out n b now
+    → Hands net m out (Ok (record { pieces = k; last = Ok More })) b now
 going_full zero q h g = absurd (omega arith)
 going_full (suc n) q h g =
     record {

@@ -1,13 +1,12 @@
 #![tactic(auto)]
 
 // The listing of a study, piece after piece, each handed over to the output before the next is made.
-ghost use Rattle.std.specs.Prelude.{◌≡◌, ◌↔◌, IsTrue};
 ghost use Rattle.paper.specs.Advance.{memory};
 ghost use Rattle.run_pieces.specs.Pieces.{Goes, Hands};
 
 use paper::{Listing, Pause, Steps};
 use std::io;
-use std::io::Write;
+use std::io::{Error, Write};
 
 // How many pieces were handed over, and what the last of them answered: there is more only where there are as many pieces as a study may have steps.
 #[derive(Clone, Copy)]
@@ -16,10 +15,11 @@ pub struct Ended {
     pub last: Listing,
 }
 
-fn has_more(answer: Listing) -> bool
-    ensures { IsTrue result ↔ (answer ≡ Ok Pause.More) }
-{
-    matches!(answer, Ok(Pause::More))
+// How many pieces were made, of which the output did not take the last, and why.
+#[derive(Drop)]
+pub struct Unwritten {
+    pub pieces: u64,
+    pub error: Error,
 }
 
 // The next piece of the listing, handed over at once: its answer, or why the output did not take it.
@@ -50,17 +50,21 @@ pub fn list_all<W: Write>(
     froms: &mut [i64],
     tos: &mut [i64],
     out: &mut [u8],
-) -> io::Result<Ended>
+) -> Result<Ended, Unwritten>
     ensures { Hands network.now (memory records.old froms.old tos.old) out.old result out.new (memory records.new froms.new tos.new) }
 {
     for before in 0..Steps::MAX as u64 {
-        let last = list_piece(writer, network, records, froms, tos, out)?;
-        if !has_more(last) {
-            return Ok(Ended {
-                pieces: before + 1,
-                last,
-            });
-        }
+        let pieces = before + 1;
+        let last = match list_piece(writer, network, records, froms, tos, out) {
+            Ok(last) => last,
+            Err(error) => return Err(Unwritten { pieces, error }),
+        };
+        let Ok(pause) = last else {
+            return Ok(Ended { pieces, last });
+        };
+        let Pause::More = pause else {
+            return Ok(Ended { pieces, last });
+        };
     }
     Ok(Ended {
         pieces: Steps::MAX as u64,

@@ -22,6 +22,8 @@ use Rattle.laws_spelling.proofs.Networks.{network_exactly}
 use Rattle.run_pieces.specs.Handed.{handed, handed_run}
 use Rattle.run_pieces.specs.declared.Ended.{Ended}
 use Rattle.run_pieces.specs.Pieces.{Hand, out_bytes}
+use Rattle.run_study.specs.declared.Unwritten.{Unwritten}
+use Rattle.run_study.specs.declared.Unwritten.TheVariants as U
 use Rattle.list_digits.specs.Decimal.{shown_most}
 
 -- "a refused text gives `bad`, line, number"
@@ -65,10 +67,11 @@ abbrev pub Outcome : Type 0
 Outcome = Result Ended Unread
 
 -- the listing of a network that was read, or why the text is refused; else the output did not take the one or the other
-abbrev pub Answers : {E : Type 0} → List ℕ → Result Outcome E → Type 0
-Answers {E} text (Ok (Ok e)) = ((reading text).answer ≡ Ok tt) × Hand {E = E} (reading text).network out_bytes fresh (Ok e)
+abbrev pub Answers : List ℕ → Result Outcome Unwritten → Type 0
+Answers text (Ok (Ok e)) = ((reading text).answer ≡ Ok tt) × Hand (reading text).network out_bytes fresh (Ok e)
 Answers text (Ok (Err x)) = (reading text).answer ≡ Err x
-Answers text (Err e) = ((reading text).answer ≢ Ok tt) ⊎ (((reading text).answer ≡ Ok tt) × Hand (reading text).network out_bytes fresh (Err e))
+Answers text (Err (U.Refusal e)) = (reading text).answer ≢ Ok tt
+Answers text (Err (U.Listing u)) = ((reading text).answer ≡ Ok tt) × Hand (reading text).network out_bytes fresh (Err u)
 
 -- the bytes that were handed over
 abbrev pub handed_over : List ℕ → Outcome → List ℕ
@@ -94,10 +97,10 @@ refused_lists Size net = refl
 refused_lists Store net = refl
 
 -- T-handed: where the output took all, what was handed over is the listing
-pub hands_over : (E : Type 0) (text : List ℕ) (r : Outcome) → Answers {E = E} text (Ok r) → handed_over text r ≡ listing text
+pub hands_over : (text : List ℕ) (r : Outcome) → Answers text (Ok r) → handed_over text r ≡ listing text
 unfolding listing listing_from
-hands_over E text (Err x) h = rw h (sym (refused_lists x (reading text).network))
-hands_over E text (Ok e) h =
+hands_over text (Err x) h = rw h (sym (refused_lists x (reading text).network))
+hands_over text (Ok e) h =
     let c = h.1 in
     let n = c.ends in
     rw (h.0, n.count)
@@ -105,7 +108,7 @@ hands_over E text (Ok e) h =
     (record { lead = c.lead; last = rw (← n.last) (ended e.last (λ q. rw n.count at (n.end q))) }))
 
 -- and of an input, however long, no more is read
-pub hands_over_input : (E : Type 0) (input : List ℕ) (r : Outcome) → Answers {E = E} (take (suc Limits.text_end) input) (Ok r)
+pub hands_over_input : (input : List ℕ) (r : Outcome) → Answers (take (suc Limits.text_end) input) (Ok r)
     → handed_over (take (suc Limits.text_end) input) r ≡ listing input
 unfolding listing
-hands_over_input E input r a = hands_over E (take (suc Limits.text_end) input) r a ∙ rw (read_start input (replicate Limits.network_words z))
+hands_over_input input r a = hands_over (take (suc Limits.text_end) input) r a ∙ rw (read_start input (replicate Limits.network_words z))

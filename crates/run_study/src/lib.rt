@@ -9,13 +9,37 @@ ghost use Rattle.paper.specs.Resetting.{fresh};
 ghost use Rattle.list_digits.specs.Puts.{Puts};
 ghost use Rattle.run_pieces.specs.Pieces.{Hand, out_bytes};
 ghost use Rattle.run_study.specs.Runs.{bad_line, Answers};
+ghost use Rattle.run_study.specs.declared.Unwritten.TheVariants.{Refusal, Listing};
 
 use paper::{Room, Unread};
 use run_pieces::Ended;
-use std::io::{Result, Write};
+use std::io::{Error, Write};
 
 // What became of a text: its listing, or why it is refused, which its `bad` line says.
-pub type Outcome = std::result::Result<Ended, Unread>;
+pub type Outcome = Result<Ended, Unread>;
+
+// What the output did not take, and why: the line that refuses the text, or a piece of its listing.
+#[derive(Drop)]
+pub enum Unwritten {
+    Refusal(Error),
+    Listing(run_pieces::Unwritten),
+}
+
+impl From<Error> for Unwritten {
+    ghost from_gives = { λ error unwritten. unwritten ≡ Refusal error };
+
+    fn from(error: Error) -> Unwritten {
+        Unwritten::Refusal(error)
+    }
+}
+
+impl From<run_pieces::Unwritten> for Unwritten {
+    ghost from_gives = { λ cut unwritten. unwritten ≡ Listing cut };
+
+    fn from(cut: run_pieces::Unwritten) -> Unwritten {
+        Unwritten::Listing(cut)
+    }
+}
 
 // Room to lend. What stands in it makes no difference: a reset writes the records and stores, a piece the buffer, a read the text.
 fn record_room() -> [i64; Room::RECORDS]
@@ -31,7 +55,7 @@ fn store_room() -> [i64; Room::STORE]
 }
 
 // From a reset.
-fn list_study<W: Write>(writer: &mut W, network: &[i64]) -> Result<Ended>
+fn list_study<W: Write>(writer: &mut W, network: &[i64]) -> Result<Ended, run_pieces::Unwritten>
     requires { is_network network.now ≡ true }
     ensures { Hand network.now out_bytes fresh result }
 {
@@ -62,14 +86,14 @@ fn put_refusal(unread: Unread, out: &mut [u8]) -> usize
     )
 }
 
-fn refuse<W: Write>(writer: &mut W, unread: Unread) -> Result<()> {
+fn refuse<W: Write>(writer: &mut W, unread: Unread) -> std::io::Result<()> {
     let mut out = [0; 46];
     let end = put_refusal(unread, &mut out);
     run_bytes::write_all(writer, &out[..end])
 }
 
 // An error is the output's, which did not take what was handed over.
-pub fn run<W: Write>(writer: &mut W, text: &[u8]) -> Result<Outcome>
+pub fn run<W: Write>(writer: &mut W, text: &[u8]) -> Result<Outcome, Unwritten>
     ensures { Answers text.now result }
 {
     let mut network = [0; Room::NETWORK];
