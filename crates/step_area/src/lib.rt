@@ -13,7 +13,7 @@ use step_legs::{Source, Wire};
 use step_take::Turn;
 
 // The area's step, once no far area is waited for. Where a breaker has parted, what was kept for the area serves no more.
-// The tables are lent one by one and are no struct: the callers hold them in memory that C lends, each on its own.
+// The tables are lent one by one and are no struct: each caller has each of them as an array of its own or as C lends it.
 pub fn ready(
     plan: &Table,
     owns: &mut Owns,

@@ -18,7 +18,7 @@ use Rattle.step_legs.specs.declared.Wire.{Wire}
 use Rattle.step_legs.specs.Wires.{wire_at}
 use Rattle.step_own.specs.Ends.{g_at}
 use Rattle.step_own.specs.EndSizes as Sizes
-use Rattle.step_own.specs.Laid.{Conducting, end_own}
+use Rattle.step_own.specs.Laid.{Conducting, frame_kept, end_own}
 use Rattle.step_conduct.specs.Conducted.{never, opening_of, open_of, conducts_of, row_of_wire, opening_at, conducted, Rated, Conducted, conducts_stays}
 
 -- a switch that has closed is so before the step from which it is open again
@@ -41,7 +41,7 @@ holds_is r p k l = by (is_breaker r) p
 
 -- a wire's frame does not hold its conductance
 frame_stays : {N : Net} {e : ℕ} {l : Wire} {x : ℤ} → FrameOf N e l → FrameOf N e (record l { g = x })
-frame_stays f = record { near = f.near; far = f.far; row = f.row; end = f.end; kind = f.kind }
+frame_stays f = frame_kept refl f
 
 module _ {N : Net} {a : ℕ} {plan : Plan} {legs : List Wire} (s : NetSound N) (one : 1 ≤ a) (p : Planned N plan) (f : Framed N a legs) where
   -- the end of line j, and its row

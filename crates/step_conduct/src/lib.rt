@@ -11,7 +11,8 @@ use paper::{Switching, kinds, sections};
 use plan_rows::{Row, Table};
 use step_legs::Wire;
 
-// Past the last step of any study, and past the last change of any switch: a number, for C lends until when an area is prepared as a word.
+// Past the last step of any study, and past the last change of any switch: a number, for it stands among the steps at which switches open and is compared
+// with them.
 const NEVER: usize = Switching::MAX as usize + 1;
 
 // The step from which a switch that has closed is open again: an SWT's own; an SW's the one after it has parted, which its latch tells, and none before.

@@ -29,7 +29,7 @@ pub fn renew(
     if k < o.until {
         return Ok(());
     }
-    let until = step_prepare::prepare(
+    match step_prepare::prepare(
         plan,
         &mut legs[o.legs..o.legs_end],
         &nodes[o.base..o.free_end],
@@ -37,7 +37,11 @@ pub fn renew(
         factors,
         records,
         k,
-    )?;
-    owns[area].until = until;
-    Ok(())
+    ) {
+        Ok(until) => {
+            owns[area].until = until;
+            Ok(())
+        }
+        Err(floating) => Err(floating),
+    }
 }

@@ -30,7 +30,8 @@ fn parts(r: Row, before: i64, now: i64, latch: i64, k: usize) -> bool
     requires { k ≤ Limits.steps_end }
     ensures { result ≡ parts_by k r before now latch }
 {
-    latch <= 0 && r.may_part(k) && crosses(before, now)
+    let parted = 0 < latch;
+    !parted && r.may_part(k) && crosses(before, now)
 }
 
 // A leg that is an SW's: its latch is set where it parts at step k. The current in the records is still that of the step before.

@@ -32,8 +32,8 @@ pub record Laid (N : Net) (a k : ℕ) (recs froms tos : Words) (legs : List Wire
   pub conducting : Conducting N a k recs legs
   pub h : (j : ℕ) → j < length legs → (wire_at legs j).h ≡ h_at N k recs froms tos (end_at N a j)
 
--- a wire that keeps what the network and the switches settle keeps its frame
-pub frame_kept : {N : Net} {e : ℕ} {v w : Wire} → settled w ≡ settled v → FrameOf N e v → FrameOf N e w
+-- a wire that keeps what the network settles keeps its frame, whatever it conducts
+pub frame_kept : {N : Net} {e : ℕ} {v w : Wire} → record (settled w) { g = z } ≡ record (settled v) { g = z } → FrameOf N e v → FrameOf N e w
 frame_kept e f = record {
   near = ap (λ (x : Wire). x.near) e ∙ f.near;
   far = ap (λ (x : Wire). x.far) e ∙ f.far;
@@ -44,7 +44,7 @@ frame_kept e f = record {
 
 pub conducting_same : {N : Net} {a k : ℕ} {recs : Words} {before after : List Wire} → SameBut before after → Conducting N a k recs before → Conducting N a k recs after
 conducting_same s c = record {
-  framed = record { long = s.long ∙ c.framed.long; line = λ j h. let l : j < _ = rw s.long at h in frame_kept (s.same j l) (c.framed.line j l) };
+  framed = record { long = s.long ∙ c.framed.long; line = λ j h. let l : j < _ = rw s.long at h in frame_kept (ap (λ (x : Wire). record x { g = z }) (s.same j l)) (c.framed.line j l) };
   g = λ j h. let l : j < _ = rw s.long at h in ap (λ (x : Wire). x.g) (s.same j l) ∙ c.g j l;
 }
 

@@ -1,6 +1,6 @@
 -- From doubles to voltages, free node by free node: the search for one outside the range, and the voltages where there is none. Assumes nothing.
 use Rattle.std.specs.Prelude.{Option, Some, None, Result, Ok, Err, ⊤}
-use Rattle.whole.specs.Plain.{ℕ, zero, suc, set, refl, sym, ap, ◌∙◌, true, false, cond, List, [], map, get_or}
+use Rattle.whole.specs.Plain.{ℕ, zero, suc, set, refl, sym, ap, ◌∙◌, true, false, cond, List, [], map, get_or, ℤ}
 use Rattle.whole.specs.Plain.{length, take, drop, length-set, length-map, drop-cons, drop-length, get_or-take}
 use Rattle.whole.specs.Plain.{length-take-le, arith, Words}
 use Rattle.std.proofs.Common.{add-one}
@@ -43,6 +43,21 @@ pub record Solved (free : List ℕ) (xs : List (Option Voltage)) (still v : Word
 
 abbrev pub rounded : ℕ → List Float → List (Option Voltage)
 rounded n xs = map nearest_of (take n xs)
+
+-- what a rounding tells of the range
+pub in_range_lem : (x : Float) (y : ℤ) → nearest_of x ≡ as_voltage y → in_range x ≡ true
+unfolding nearest_of
+in_range_lem x y e = elim (in_range x) as (λ t. in_range x ≡ t → in_range x ≡ true) [
+  | true ↦ λ f. f
+  | false ↦ λ f. let d : ◌≡◌ {A = Option Voltage} None (as_voltage y) = rw f at e in let k : ◌≡◌ {A = ℕ} 0 1 = cc in absurd (omega arith)
+] refl
+
+pub out_of_range_lem : (x : Float) → nearest_of x ≡ None → in_range x ≡ false
+unfolding nearest_of
+out_of_range_lem x e = elim (in_range x) as (λ t. in_range x ≡ t → in_range x ≡ false) [
+  | true ↦ λ f. let d : ◌≡◌ {A = Option Voltage} (as_voltage (whole_of x)) None = rw f at e in let k : ◌≡◌ {A = ℕ} 0 1 = cc in absurd (omega arith)
+  | false ↦ λ f. f
+] refl
 
 -- ---- where the first i are within the range
 pub record SettledTo (free : List ℕ) (xs : List Float) (still v : Words) (i : ℕ) : Type 0 where

@@ -68,7 +68,9 @@ fn put_all(xs: &ByFree, free: &[usize], v: &mut [i64; Node::PLACES]) -> Result<(
     ensures { Solved free.now (rounded (length free.now) xs.now) v.old v.new result }
 {
     for (i, &p) in free.iter().enumerate() {
-        let near = num_double::nearest(xs[i]).ok_or(OutOfRange { node: p })?;
+        let Some(near) = num_double::nearest(xs[i]) else {
+            return Err(OutOfRange { node: p });
+        };
         v[p] = near.tenths;
     }
     Ok(())

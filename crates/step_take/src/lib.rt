@@ -51,7 +51,7 @@ pub fn stepped(
         (memory records.old froms.old tos.old) result legs.new (memory records.new froms.new tos.new) }
 {
     let mut volts = [0; Node::PLACES];
-    step_try::try_step(
+    let tried = step_try::try_step(
         plan,
         &sources[o.sources..o.sources_end],
         &nodes[o.base..o.free_end],
@@ -62,7 +62,8 @@ pub fn stepped(
         tos,
         at_of(o, turn),
         &mut volts,
-    )?;
+    );
+    tried?;
     let parted = step_commit::commit(
         plan,
         &legs[o.legs..o.legs_end],

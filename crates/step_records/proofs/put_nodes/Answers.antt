@@ -29,7 +29,7 @@ put_node-requires c =
     let v = c.requires.nodes.1 in
     let n = get_or c.args.nodes.now c.loop-n.n-index 0 in
     record {
-      n_bound = (c.requires.nodes.0.end c.loop-n.n-index (omega arith), rw (volt v n) (v.end n), omega arith);
+      n_bound = (omega (arith, c.requires.nodes.0.end c.loop-n.n-index), rw (volt v n) (v.end n), omega arith);
       records_len = omega arith;
     }
 
