@@ -32,7 +32,8 @@ pub fn alone(
     factors: &mut Matrix,
 ) -> Advance
     requires seen { Seen net.now plan.now areas.now ready.totals }
-    requires stepping { Stepping (net_in net.now) 1 ready.totals.areas ready.turn (memory records.old froms.old tos.old) }
+    requires stepping { Stepping (net_in net.now) 1 ready.totals.areas ready.turn
+        (memory records.old froms.old tos.old) }
     requires legs_len { (length legs.old ≡ 2 * Limits.row_end) × Square factors.old }
     ensures { advanced result (memory records.new froms.new tos.new)
         ≡ Paper.ready (net_in net.now) ready.turn.area ready.turn.k (memory records.old froms.old tos.old) }

@@ -133,6 +133,6 @@ pub fn place_or_count(answer: Advance) -> u64
 {
     match answer {
         Ok(count) => count,
-        Err(refusal) => refusal_place(refusal),
+        Err(_) => advance_place(answer),
     }
 }

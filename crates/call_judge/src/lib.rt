@@ -45,7 +45,7 @@ fn on_network(
 ) -> Result<Ready, Refusal>
     requires passes { (is_network net.now ≡ true) × Long records.now froms.now tos.now }
     requires long { (length areas.old ≡ Limits.node_end + 1) × (length plan.old ≡ Limits.row_end) }
-    ensures { Judges (OnNet net.now area (memory records.now froms.now tos.now)) net.now (memory records.now froms.now tos.now)
+    ensures { Judges (OnNet net.now area (memory records.now froms.now tos.now)) net.now area (memory records.now froms.now tos.now)
         result plan.new areas.new }
 {
     let totals = plan_rows::make(net, areas, plan);
@@ -79,7 +79,7 @@ pub fn judge(
     plan: &mut Table,
 ) -> Result<Ready, Refusal>
     requires { (length areas.old ≡ Limits.node_end + 1) × (length plan.old ≡ Limits.row_end) }
-    ensures { Judges (Advances network.now area (memory records.now froms.now tos.now)) network.now
+    ensures { Judges (Advances network.now area (memory records.now froms.now tos.now)) network.now area
         (memory records.now froms.now tos.now) result plan.new areas.new }
 {
     call_lent::admit(network, records, froms, tos)?;

@@ -16,8 +16,8 @@ pub fn list(
     tos: &mut [i64],
     out: &mut [u8],
 ) -> Result<Piece, Unlisted>
-    ensures { Lists network.now (memory records.old froms.old tos.old) out.old (answer_of result) (count_of result) out.new
-        (memory records.new froms.new tos.new) }
+    ensures { Lists network.now (memory records.old froms.old tos.old) out.old (answer_of result) (count_of result)
+        out.new (memory records.new froms.new tos.new) }
 {
     call_lent::admit(network, records, froms, tos)?;
     if out.len() < Room::STEP_BYTES {

@@ -114,7 +114,8 @@ fn number_node(area: &mut [usize; Node::PLACES], n: usize, count: usize) -> usiz
 // "Areas are numbered from 1 by their lowest node": how many there are.
 fn number_areas(net: Record<'_>, nodes: usize, area: &mut [usize; Node::PLACES]) -> usize
     requires { (nodes ≡ (net_in net.words.now).nodes) × (area.old ≡ filled mark_words 0 (low_in net.words.now)) }
-    ensures { (area.new ≡ filled mark_words 0 (net_in net.entry.words.now).areas) × (result ≡ area_count (net_in net.entry.words.now)) }
+    ensures { (area.new ≡ filled mark_words 0 (net_in net.entry.words.now).areas)
+        × (result ≡ area_count (net_in net.entry.words.now)) }
 {
     let mut count = 0;
     for n in 1..=nodes {
@@ -126,7 +127,8 @@ fn number_areas(net: Record<'_>, nodes: usize, area: &mut [usize; Node::PLACES])
 // The area of each node into `area`, ground's and those past the last node 0; and how many areas there are.
 pub fn areas(net: Record<'_>, nodes: usize, area: &mut [usize; Node::PLACES]) -> usize
     requires { (nodes ≡ (net_in net.words.now).nodes) × (length area.old ≡ Limits.node_end + 1) }
-    ensures { (area.new ≡ filled mark_words 0 (net_in net.entry.words.now).areas) × (result ≡ area_count (net_in net.entry.words.now)) }
+    ensures { (area.new ≡ filled mark_words 0 (net_in net.entry.words.now).areas)
+        × (result ≡ area_count (net_in net.entry.words.now)) }
 {
     start(area, nodes);
     spread(net, area);

@@ -158,7 +158,8 @@ fn to_at(net: Record<'_>, i: usize, kind: Kind) -> usize
 // in nS, of one branch; a source has none
 fn conductance_at(net: Record<'_>, i: usize, kind: Kind, step: usize) -> usize
     requires i_in_bounds { i < length (net_in net.words.now).rows }
-    requires kind_value { (number kind ≡ Rows.kind (row_at (net_in net.words.now) i)) × (step ≡ Areas.step (net_in net.words.now)) }
+    requires kind_value { (number kind ≡ Rows.kind (row_at (net_in net.words.now) i))
+        × (step ≡ Areas.step (net_in net.words.now)) }
     ensures { result ≡ conductance_at (net_in net.entry.words.now) i }
 {
     if !kind.is_branch() {
@@ -211,7 +212,8 @@ fn planned(
 ) -> Row
     requires i_in_bounds { i < length (net_in net.words.now).rows }
     requires mapped { Mapped (net_in net.words.now) area.now × (step ≡ Areas.step (net_in net.words.now)) }
-    requires place_value { (place ≡ offset (net_in net.words.now) i) × (before ≡ branch_number (net_in net.words.now) i) }
+    requires place_value { (place ≡ offset (net_in net.words.now) i)
+        × (before ≡ branch_number (net_in net.words.now) i) }
     ensures { result ≡ row_of (net_in net.entry.words.now) i }
 {
     let kind = net.kind(i);

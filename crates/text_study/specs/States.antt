@@ -1,5 +1,5 @@
 -- The text as far as it is read. Assumes nothing.
-use Rattle.std.specs.Prelude.{Result, Ok, Err, ◌+◌, ◌*◌, ◌≤◌, ◌<◌, ◌≡◌, ◌∷◌, ◌++◌}
+use Rattle.std.specs.Prelude.{Option, Some, None, Result, Ok, Err, ◌+◌, ◌*◌, ◌≤◌, ◌<◌, ◌≡◌, ◌∷◌, ◌++◌}
 use Rattle.whole.specs.Plain.{ℕ, suc, refl, sym, ◌∙◌, ap, Bool, true, false, cond}
 use Rattle.whole.specs.Plain.{bool_beq, true≢false, List, [], tail, eqb, get_or, length, drop, replicate}
 use Rattle.whole.specs.Plain.{length-append, length-replicate, eqb-true, eqb-false, arith, Words, z, empty, filled}
@@ -14,6 +14,7 @@ use Rattle.text_faults.specs.Seen.{nothing_seen, seen_fault, seen_after}
 use Rattle.text_faults.specs.Stands.{Stands, stands_none}
 use Rattle.text_line.specs.declared.Walk.{Walk}
 use Rattle.text_faults.specs.declared.rows.Row.{Row}
+use Rattle.paper.specs.declared.Fault.TheVariants.{Form}
 use Rattle.paper.specs.Faulted.{fault_number}
 use Rattle.text_study.specs.declared.Progress.{Progress}
 use Rattle.text_study.specs.declared.BadLine.{BadLine}
@@ -22,9 +23,14 @@ use Rattle.text_study.specs.Texts.{lines_from, from_start, spelled}
 use Rattle.text_study.specs.Held.{held_row}
 use Rattle.text_study.specs.Rows as Line
 
--- the fault of a well-formed line: 1, or its row's
-unfoldable pub fault_seen : Walk → Seen → Bool → ℕ
-fault_seen w s first = cond (bool_beq first (is_study w.row)) (seen_fault s w.row) 1
+-- the fault of a line: 1 where it is not well formed or out of its place, else its row's
+unfoldable pub fault_seen : Option Walk → Seen → Bool → ℕ
+fault_seen None s first = 1
+fault_seen (Some w) s first = cond (bool_beq first (is_study w.row)) (seen_fault s w.row) 1
+
+-- "empty text (line 1)"
+unfoldable pub closed_up : Progress → Result (Unit {0}) BadLine
+closed_up p = cond (eqb p.line 1) (Err (record { line = p.line; fault = Form })) (Ok tt)
 
 -- how many rows there are, and how they lie
 pub record Kept (s : Seen) (t : Table) : Type 0 where
@@ -63,8 +69,8 @@ Ends ls (Err b) net = Faulty ls b
 
 -- a well-formed line's row where it has no fault, or its fault
 abbrev pub Rows : Walk → Seen → ℕ → Result Row BadLine → Type 0
-Rows w s line (Ok r) = (r.words ≡ w.row) × (fault_seen w s (eqb line 1) ≡ 0)
-Rows w s line (Err b) = (b.line ≡ line) × (fault_number b.fault ≡ fault_seen w s (eqb line 1))
+Rows w s line (Ok r) = (r.words ≡ w.row) × (fault_seen (Some w) s (eqb line 1) ≡ 0)
+Rows w s line (Err b) = (b.line ≡ line) × (fault_number b.fault ≡ fault_seen (Some w) s (eqb line 1))
 
 -- one line more, or the first faulty one
 abbrev pub Next : List ℕ → Progress → Result Progress BadLine → Words → Type 0

@@ -1,11 +1,12 @@
 -- One line more, and the end of the text. Assumes nothing.
-use Rattle.std.specs.Prelude.{Some, None, ◌+◌, ◌≤◌, ◌<◌, ◌≡◌, ◌&&◌, ◌||◌, ◌∷◌, ◌++◌}
+use Rattle.std.specs.Prelude.{Option, Some, None, Ok, Err, ◌+◌, ◌≤◌, ◌<◌, ◌≡◌, ◌&&◌, ◌||◌, ◌∷◌, ◌++◌}
 use Rattle.whole.specs.Plain.{ℕ, zero, suc, refl, sym, ◌∙◌, ap, subst, Bool, true, false, cond}
 use Rattle.whole.specs.Plain.{bool_beq, false≢true, List, [], eqb, get_or, length, drop}
 use Rattle.whole.specs.Plain.{length-append, length-set, length-drop, drop_of_length-le, drop-cons, drop-drop}
-use Rattle.whole.specs.Plain.{length-sets, eq-eqb, ne_eqb, arith, Words, z, empty, any, filled}
+use Rattle.whole.specs.Plain.{length-sets, eq-eqb, ne_eqb, ℕ_discrete, arith, Words, z, empty, any, filled}
 use Rattle.whole.specs.Folds.{and_left, and_right}
 use Rattle.paper.specs.Rows.{Row, kind, is_study}
+use Rattle.paper.specs.declared.Fault.TheVariants.{Form}
 use Rattle.paper.specs.Faults.{row_fault}
 use Rattle.paper.specs.Text.{line_kind, row_of}
 use Rattle.paper.proofs.Kept.{either}
@@ -23,7 +24,7 @@ use Rattle.text_study.specs.Held.{held_row}
 use Rattle.text_study.specs.Laid.{put_row, put_study, put_line}
 use Rattle.text_study.specs.Texts.{lines_from, from_end, from_line, from_bad, from_open, spelled, line_form, line_place, line_fault}
 use Rattle.text_study.specs.Rows as Line
-use Rattle.text_study.specs.States.{fault_seen, Kept, Fine, State, Accepted, in_place, kept_after, room, put_here}
+use Rattle.text_study.specs.States.{fault_seen, closed_up, Kept, Fine, State, Accepted, Ends, in_place, kept_after, room, put_here}
 
 -- ---- small laws
 
@@ -46,16 +47,17 @@ put_length : (n : ℕ) (w l : Words) → length (put_line n w l) ≡ length l
 unfolding put_line put_row put_study
 put_length n w l = either (λ (v : Words). length v ≡ length l) (is_study w) (put_study w l) (put_row n w l) (simp length-set) (simp (length-set, length-sets))
 
-pub record Right (w : Walk) (s : Seen) (first : Bool) : Type 0 where
-  pub place : bool_beq first (is_study w.row) ≡ true
-  pub right : seen_fault s w.row ≡ 0
+-- a line is well formed, in its place, and its row has no fault
+abbrev pub Right : Option Walk → Seen → Bool → Type 0
+Right None s first = ⊥
+Right (Some w) s first = (bool_beq first (is_study w.row) ≡ true) × (seen_fault s w.row ≡ 0)
 
-pub no_fault : (w : Walk) (s : Seen) (first : Bool) → fault_seen w s first ≡ 0 → Right w s first
+pub no_fault : (l : Option Walk) (s : Seen) (first : Bool) → fault_seen l s first ≡ 0 → Right l s first
 unfolding fault_seen
-no_fault w s first e =
+no_fault None s first e = absurd (omega (arith, e))
+no_fault (Some w) s first e =
     let p = bool_beq first (is_study w.row) in
-    elim p as (λ x. p ≡ x → cond x (seen_fault s w.row) 1 ≡ 0 → Right w s first)
-    [ true ↦ λ f g. record { place = f; right = g } | false ↦ λ f g. absurd (omega arith) ] refl e
+    elim p as (λ x. p ≡ x → cond x (seen_fault s w.row) 1 ≡ 0 → Right (Some w) s first) [ true ↦ λ f g. (f, g) | false ↦ λ f g. absurd (omega arith) ] refl e
 
 -- ---- one line more
 
@@ -114,9 +116,10 @@ module _ (text : List ℕ) (p : Progress) (net : Words) (st : State text p net) 
     read : bool_beq first (is_study w.row) ≡ true → line_read (good now.t) (line_of left) ≡ taken now.t (row_of (line_of left)) (seen_fault p.seen w.row)
     read q = line_fault now.t (line_of left) spelt (sym place_is ∙ q) ∙ ap (taken now.t (row_of (line_of left))) (sym (fault_is q))
 
-    pub refused : (f : ℕ) → f ≡ fault_seen w p.seen first → (f ≡ 0 → ⊥) → lines_of text ≡ bad p.line f
+    -- the fault of one that is
+    fault : (f : ℕ) → f ≡ fault_seen (Some w) p.seen first → (f ≡ 0 → ⊥) → lines_of text ≡ bad p.line f
     unfolding fault_seen
-    refused f g n = by_place (bool_beq first (is_study w.row)) refl
+    fault f g n = by_place (bool_beq first (is_study w.row)) refl
       where
         by_place : (x : Bool) → bool_beq first (is_study w.row) ≡ x → lines_of text ≡ bad p.line f
         by_place true q =
@@ -126,12 +129,12 @@ module _ (text : List ℕ) (p : Progress) (net : Words) (st : State text p net) 
             let h : f ≡ 1 = g ∙ rw q in
             stop ends 1 (line_place now.t (line_of left) spelt (sym place_is ∙ q)) ∙ ap (bad p.line) (sym h)
 
-    module _ (a : Right w p.seen first) where
+    module _ (a : Right (Some w) p.seen first) where
       there : in_place (line_of left) spelt p.seen now.t
-      there = sym place_is ∙ a.place
+      there = sym place_is ∙ a.0
 
       same : seen_fault p.seen (held_row (filled 8 z (row_of (line_of left)))) ≡ 0
-      same = ap (seen_fault p.seen) (sym row_is) ∙ a.right
+      same = ap (seen_fault p.seen) (sym row_is) ∙ a.1
 
       pub has_room : is_study w.row ≡ false → p.seen.branches + p.seen.sources < 80
       has_room n = room (line_of left) spelt p.seen now.t there now.stands same (sym (ap is_study row_is) ∙ n)
@@ -145,7 +148,7 @@ module _ (text : List ℕ) (p : Progress) (net : Words) (st : State text p net) 
           ap (λ (n : ℕ). drop n text) q ∙ sym (drop-drop (suc (length (line_of left))) p.at text)
 
       going_on : lines_from (good (now.t ++ (row_of (line_of left) ∷ []))) (drop (w.at + 1) text) ≡ lines_of text
-      going_on = rw after (sym (over ends ∙ ap (λ (ls : Lines). lines_from ls (drop (suc (length (line_of left))) left)) (read a.place ∙ ap (taken now.t (row_of (line_of left))) a.right)))
+      going_on = rw after (sym (over ends ∙ ap (λ (ls : Lines). lines_from ls (drop (suc (length (line_of left))) left)) (read a.0 ∙ ap (taken now.t (row_of (line_of left))) a.1)))
 
       pub line_on : p.at < w.at + 1
       line_on = omega (arith, reads.place)
@@ -170,6 +173,12 @@ module _ (text : List ℕ) (p : Progress) (net : Words) (st : State text p net) 
             };
           }
 
+  -- any line with a fault ends the reading
+  pub refused : (l : Option Walk) → l ≡ line_at text p.at → (f : ℕ) → f ≡ fault_seen l p.seen first → (f ≡ 0 → ⊥) → lines_of text ≡ bad p.line f
+  unfolding fault_seen
+  refused None e f g n = form (sym e) ∙ ap (bad p.line) (sym g)
+  refused (Some w) e f g n = fault w (sym e) f g n
+
 -- ---- the end
 
 module _ (text : List ℕ) (p : Progress) (net : Words) (st : State text p net) (l : length text ≤ p.at) where
@@ -185,8 +194,23 @@ module _ (text : List ℕ) (p : Progress) (net : Words) (st : State text p net) 
       let x : empty st.fine.t ≡ true = sym first_is ∙ eq-eqb p.line 1 e in
       past ∙ rw x (ap (λ (n : ℕ). bad n 1) (sym st.fine.line ∙ e))
 
-  pub ended_all : (p.line ≡ 1 → ⊥) → Accepted (lines_of text) net
+  ended_whole : (p.line ≡ 1 → ⊥) → Accepted (lines_of text) net
   unfolding closed
-  ended_all n =
+  ended_whole n =
       let x : empty st.fine.t ≡ false = sym first_is ∙ ne_eqb p.line 1 n in
       record { t = st.fine.t; lines = past ∙ rw x; written = st.fine.written }
+
+  pub ended_all : Ends (lines_of text) (closed_up p) net
+  unfolding closed_up
+  ended_all = elim (ℕ_discrete p.line 1) [
+    | yes e ↦ rw (eq-eqb p.line 1 e) (ended_empty e ∙ ap (λ (n : ℕ). bad n 1) (sym e))
+    | no n ↦ rw (ne_eqb p.line 1 n) (ended_whole n)
+  ]
+
+pub closed_empty : (p : Progress) → p.line ≡ 1 → closed_up p ≡ Err (record { line = 1; fault = Form })
+unfolding closed_up
+closed_empty p e = rw e
+
+pub closed_whole : (p : Progress) → (p.line ≡ 1 → ⊥) → closed_up p ≡ Ok tt
+unfolding closed_up
+closed_whole p n = rw (ne_eqb p.line 1 n)

@@ -29,5 +29,5 @@ pub returns : goal.returns
 returns c =
     let net = c.args.network.now in
     let m = memory c.args.records.now c.args.froms.now c.args.tos.now in
-    judged_on (OnNet net c.args.area m) (Advances net c.args.area m) net m _ _ _
+    judged_on (OnNet net c.args.area m) (Advances net c.args.area m) net c.args.area m _ _ _
     (λ x n q. on_network net c.args.area m c.in_ok-admit.ensures x n c.in_ok-admit-2.ensures q) c.on_network.ensures

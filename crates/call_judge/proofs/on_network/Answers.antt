@@ -98,6 +98,7 @@ returns c =
     let good = sym (c.if-not-well_formed.ensures _ (mapped_of s)) in
     record {
       seen = s;
+      turn = rw c.turn_at-turn.ensures;
       stepping = stepping s _ _ c.requires.passes.1 good c.if-area-lt1.false c.if-totals-area.false (omega arith) c.turn_at-turn.ensures;
       ends = λ x o q. onward s c.args.area c.count_of-taken.result m good c.if-area-lt1.false c.if-totals-area.false c.if-totals-taken.false c.count_of-taken.ensures _
           (goes_on N c.args.area (c.count_of-taken.result + 1) m _ (c.in_default.ensures _ (rows_of (of s))) (rw c.turn_at-turn.ensures at q));
