@@ -46,9 +46,11 @@ pub fn put_word(out: &mut [u8], at: usize, word: &[u8]) -> usize
     requires { at + length word.now ≤ length out.old }
     ensures { Puts out.old at word.now result out.new }
 {
-    let end = at + word.len();
-    out[at..end].copy_from_slice(word);
-    end
+    // byte by byte: a copy of a slice would have the archive ask for memmove from outside
+    for i in 0..word.len() {
+        out[at + i] = word[i];
+    }
+    at + word.len()
 }
 
 // all numbers of a line, a tab before each, and its end
