@@ -2,16 +2,17 @@
 use Rattle.std.specs.Prelude.{◌+◌, ◌-◌, ◌*◌, ◌≤◌, ◌<◌, ◌≡◌, ◌∷◌, ◌++◌}
 use Rattle.std.specs.Simd.{first_chunks}
 use Rattle.whole.specs.Plain.{ℕ, zero, suc, refl, sym, ap, ◌∙◌, true, false}
-use Rattle.whole.specs.Plain.{bool_beq, [], append_assoc, append-nil, ℤ, pos, negsuc, length}
+use Rattle.whole.specs.Plain.{bool_beq, [], append_assoc, append-nil, lit≤, ℤ, pos, negsuc, length}
 use Rattle.whole.specs.Plain.{get_or, take, drop, length-take, length-drop, get_or-eq_default, take-suc, drop-drop}
 use Rattle.whole.specs.Plain.{get_or-take, get_or-drop, leb-true, eq-eqb, le-leb, dec_lt, arith, Words, z}
 use Rattle.whole.specs.Plain.{word, nat, up_to, empty, fold}
 use Rattle.whole.specs.Folds.{both, every_at, fold_append}
-use Rattle.paper.specs.Rows.{Row, fields_of, kind, no_kind, is_study}
+use Rattle.paper.specs.Rows.{Row, kinds, fields_of, kind, no_kind, is_study}
 use Rattle.paper.specs.Classes.{kind_count}
 use Rattle.paper.specs.Faults.{row_fault}
 use Rattle.paper.specs.Network.{Table, Replay, replayed, passes, sound, row_of_words, rows_of, table_of}
 use Rattle.laws_facts.specs.Layout.{length_rows}
+use Rattle.text_kinds.specs.Fields.{each}
 use Rattle.text_faults.specs.declared.Seen.{Seen}
 use Rattle.text_faults.specs.Seen.{seen_fault}
 use Rattle.text_faults.specs.Stands.{Stands, row_kind, fault_is}
@@ -73,6 +74,10 @@ module _ (w : Words) (long : length w ≡ 8) (k : kind w < 10) where
       let f = length (fields_of (kind w)) in
       elim (dec_lt j (suc f))
       [ yes u ↦ get_or-take (suc f) w j z u | no u ↦ get_or-eq_default (take (suc f) w) z (rw length-take (omega arith)) ∙ sym (spare_word e j (omega arith) h) ]
+
+pub arity_least : (k : ℕ) → k < 10 → 3 ≤ length (fields_of k)
+unfolding fields_of kinds
+arity_least = each (λ k. 3 ≤ length (fields_of k)) (lit≤ tt) (lit≤ tt) (lit≤ tt) (lit≤ tt) (lit≤ tt) (lit≤ tt) (lit≤ tt) (lit≤ tt) (lit≤ tt) (lit≤ tt)
 
 -- ---- words in eights
 

@@ -96,7 +96,7 @@ fn table_passes(net: &[i64; Room::NETWORK], rows: usize) -> bool
     rows_pass(net, rows, first)
 }
 
-fn is_network(net: &[i64; Room::NETWORK]) -> bool
+pub fn is_network(net: &[i64; Room::NETWORK]) -> bool
     ensures { result ≡ is_network net.now }
 {
     let Ok(rows) = usize::try_from(net[3]) else {

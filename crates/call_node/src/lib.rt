@@ -24,8 +24,8 @@ fn told(records: &[i64], n: usize) -> Told
     let step = records[sections::PEAK_STEPS + n - 1];
     Told {
         voltage,
-        peak: peak.unsigned_abs(),
-        step: step.unsigned_abs(),
+        peak: whole::magnitude(peak),
+        step: whole::magnitude(step),
     }
 }
 

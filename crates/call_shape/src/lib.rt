@@ -9,10 +9,9 @@ ghost use Rattle.paper.specs.Limits as Limits;
 ghost use Rattle.plan_rows.specs.Planned as Plan;
 ghost use Rattle.call_shape.specs.Asked as Paper;
 ghost use Rattle.call_shape.specs.Asked.{asked_number, told_number, unasked_of, place_from};
-ghost use Rattle.call_shape.specs.LaidOut.{LaysOut};
 
 use paper::{Node, Room, Unfit};
-use plan_rows::{Row, Table, Totals};
+use plan_rows::{Row, Table};
 
 // Why a question has no answer: there is no such node or branch; 8, 9.
 #[derive(Clone, Copy)]
@@ -53,29 +52,6 @@ pub fn told_number(answer: Asked) -> u64
     answer.unwrap_or(0)
 }
 
-// A network's plan, its areas by node, and its counts.
-#[derive(Drop)]
-struct Layout {
-    plan: Table,
-    areas: [usize; Node::PLACES],
-    totals: Totals,
-}
-
-// 9, 8, or what a question is answered from.
-fn lay_out(network: &[i64]) -> Result<Layout, Unasked>
-    ensures { LaysOut network.now result }
-{
-    call_network::admit(network)?;
-    let mut areas = [0; Node::PLACES];
-    let mut plan = [Row::NONE; Room::ROWS];
-    let totals = plan_rows::make(network, &mut areas, &mut plan);
-    Ok(Layout {
-        plan,
-        areas,
-        totals,
-    })
-}
-
 // The place of the first of so many rows up to which so many branches are counted.
 fn place_of(plan: &Table, rows: usize, branch: usize) -> Option<usize>
     requires { rows ≤ Limits.row_end }
@@ -89,32 +65,42 @@ fn place_of(plan: &Table, rows: usize, branch: usize) -> Option<usize>
     None
 }
 
+// The three lay the network out in tables of their own: answered by value, these would be copied.
 pub fn areas(network: &[i64]) -> Asked
     ensures { result ≡ Paper.areas_asked network.now }
 {
-    let layout = lay_out(network)?;
-    Ok(layout.totals.areas as u64)
+    call_network::admit(network)?;
+    let mut areas = [0; Node::PLACES];
+    let mut plan = [Row::NONE; Room::ROWS];
+    let totals = plan_rows::make(network, &mut areas, &mut plan);
+    Ok(totals.areas as u64)
 }
 
 pub fn area(network: &[i64], node: usize) -> Asked
     ensures { result ≡ Paper.area_asked network.now node }
 {
-    let layout = lay_out(network)?;
-    if node < 1 || layout.totals.nodes < node {
+    call_network::admit(network)?;
+    let mut areas = [0; Node::PLACES];
+    let mut plan = [Row::NONE; Room::ROWS];
+    let totals = plan_rows::make(network, &mut areas, &mut plan);
+    if node < 1 || totals.nodes < node {
         return Err(Unasked::Nothing);
     }
-    let area = layout.areas[node];
+    let area = areas[node];
     Ok(area as u64)
 }
 
 pub fn row(network: &[i64], branch: usize) -> Asked
     ensures { result ≡ Paper.row_asked network.now branch }
 {
-    let layout = lay_out(network)?;
+    call_network::admit(network)?;
+    let mut areas = [0; Node::PLACES];
+    let mut plan = [Row::NONE; Room::ROWS];
+    let totals = plan_rows::make(network, &mut areas, &mut plan);
     if branch < 1 {
         return Err(Unasked::Nothing);
     }
-    let Some(place) = place_of(&layout.plan, layout.totals.rows, branch) else {
+    let Some(place) = place_of(&plan, totals.rows, branch) else {
         return Err(Unasked::Nothing);
     };
     Ok(place as u64 + 1)

@@ -34,7 +34,7 @@ impl Number for i64 {
     }
 }
 
-fn put_byte(out: &mut [u8], at: usize, byte: u8) -> usize
+pub fn put_byte(out: &mut [u8], at: usize, byte: u8) -> usize
     requires { at + 1 ≤ length out.old }
     ensures { Puts out.old at (byte ∷ []) result out.new }
 {
@@ -42,13 +42,15 @@ fn put_byte(out: &mut [u8], at: usize, byte: u8) -> usize
     at + 1
 }
 
-fn put_word(out: &mut [u8], at: usize, word: &[u8]) -> usize
+pub fn put_word(out: &mut [u8], at: usize, word: &[u8]) -> usize
     requires { at + length word.now ≤ length out.old }
     ensures { Puts out.old at word.now result out.new }
 {
-    let end = at + word.len();
-    out[at..end].copy_from_slice(word);
-    end
+    // byte by byte: a copy of a slice would have the archive ask for memmove from outside
+    for i in 0..word.len() {
+        out[at + i] = word[i];
+    }
+    at + word.len()
 }
 
 // all numbers of a line, a tab before each, and its end

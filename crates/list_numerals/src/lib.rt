@@ -38,7 +38,7 @@ pub fn put_number(out: &mut [u8], at: usize, x: i64) -> usize
     requires { at + length (shown x) ≤ length out.old }
     ensures { Puts out.old at (shown x) result out.new }
 {
-    let n = x.unsigned_abs();
+    let n = whole::magnitude(x);
     if 0 <= x {
         return put_natural(out, at, n);
     }

@@ -12,7 +12,7 @@ ghost use Rattle.list_turn.specs.Turned.{round_bytes, Listable};
 use list_round::Stopped;
 use plan_rows::{Table, Totals};
 
-// After the step that follows the `taken` ones; with the digits to look up. Answers the next place in the buffer.
+// After the step that follows the `taken` ones. Answers the next place in the buffer.
 pub fn put_turn(
     plan: &Table,
     totals: Totals,

@@ -31,7 +31,7 @@ pub fn mixed(newer: i64, older: i64, rest: u64, step: u64) -> i64
     ensures { result ≡ Mixing.mixed step rest newer older }
 {
     let gap = older - newer;
-    let size = gap.unsigned_abs();
+    let size = whole::magnitude(gap);
     if gap < 0 {
         return newer - share(size, rest, step, step - 1) as i64;
     }

@@ -4,6 +4,9 @@ ghost use Rattle.whole.specs.Plain.{eqb};
 ghost use Rattle.paper.specs.Rows.{branch_kind, source_kind, fixing_kind};
 ghost use Rattle.paper.specs.Kinds.{number, kind_by};
 
+// how many there are, the study's among them
+pub const COUNT: usize = 10;
+
 // In the order of their numbers, 0 to 9.
 #[derive(Clone, Copy, PartialEq, Eq)]
 pub enum Kind {
@@ -20,7 +23,7 @@ pub enum Kind {
 }
 
 impl Kind {
-    pub const ALL: [Kind; 10] = [
+    pub const ALL: [Kind; COUNT] = [
         Kind::Study,
         Kind::R,
         Kind::L,

@@ -165,7 +165,8 @@ fn conductance_at(net: Record<'_>, i: usize, kind: Kind, step: usize) -> usize
     if !kind.is_branch() {
         return 0;
     }
-    text_faults::conductance(step as u64, kind, net.number(i, 3) as u64) as usize
+    let size = net.number(i, 3);
+    text_faults::conductance(step as u64, kind.number(), size as u64) as usize
 }
 
 // "a store needs 2q + 1 slots where r is not 0", and 2q where it is

@@ -60,7 +60,7 @@ fn drive_one(s: Source, k: usize, v: &mut [i64; Node::PLACES], inject: &mut [i64
         Kind::Is => step_legs::add(inject, s.node, x),
         // a VC
         _ => {
-            let swung = swing(x, n, s.pace.unsigned_abs() as usize);
+            let swung = swing(x, n, whole::magnitude(s.pace) as usize);
             step_legs::add(v, s.node, swung);
         }
     }

@@ -17,7 +17,7 @@ ghost use Rattle.text_faults.specs.Seen.{seen_after, nothing_seen, Sized};
 pub mod rows;
 
 use num_quantity::Conductance;
-use paper::{Fault, Kind, Node, Room};
+use paper::{Fault, Node, Room, kinds};
 pub use rows::Row;
 
 // What the rows before tell: the study's step length, how many branches and sources there are, the line slots of one end, and the nodes with a VS or a VC.
@@ -60,13 +60,14 @@ fn node_fault(row: Row, passed: usize) -> bool
 
 // "R, SW closed, LINE: 10^12 / mΩ."; "L: 10^9 · step / (2 · nH)."; "C: 2·10^6 · pF / step."
 #[tactic(auto, unfolding(crate::specs::Seen::conductance_of))]
-pub fn conductance(step: u64, kind: Kind, size: u64) -> u64
-    requires { Sized step (number kind) size }
-    ensures { result ≡ conductance_of step (number kind) size }
+// The kind is a number, as in a network record: what is no L and no C counts as a resistor.
+pub fn conductance(step: u64, kind: usize, size: u64) -> u64
+    requires { Sized step kind size }
+    ensures { result ≡ conductance_of step kind size }
 {
     match kind {
-        Kind::L => whole::nearest_quotient(1_000_000_000 * step, 2 * size),
-        Kind::C => whole::nearest_quotient(2_000_000 * size, step),
+        kinds::L => whole::nearest_quotient(1_000_000_000 * step, 2 * size),
+        kinds::C => whole::nearest_quotient(2_000_000 * size, step),
         _ => whole::nearest_quotient(1_000_000_000_000, size),
     }
 }
@@ -84,7 +85,7 @@ fn value_fault(step: u64, row: Row, passed: usize) -> bool
     if !kind.is_branch() {
         return false;
     }
-    let Some(_) = Conductance::new(conductance(step, kind, row.field(3))) else {
+    let Some(_) = Conductance::new(conductance(step, kind.number(), row.field(3))) else {
         return true;
     };
     let close = row.field(4);

@@ -28,7 +28,7 @@ impl Row {
         requires { i < 8 }
         ensures { result ≡ nat_abs (word self.words i) }
     {
-        self.words[i].unsigned_abs()
+        whole::magnitude(self.words[i])
     }
 
     pub fn is_study(self) -> bool

@@ -15,25 +15,25 @@ minus x n t e = shown_minus x t ∙ ap (λ (m : ℕ). 45 ∷ shown_nat m) (sym e
 
 pub put_natural-requires : goal.put_natural-requires
 put_natural-requires c =
-    let e = plain c.args.x c.unsigned_abs-n.result (rw (to_z-of_z c.ranges.x) at c.if-x-ge0.true) (rw (to_z-of_z c.ranges.x) at c.unsigned_abs-n.ensures.value) in
+    let e = plain c.args.x c.magnitude-n.result (rw (to_z-of_z c.ranges.x) at c.if-x-ge0.true) (rw (to_z-of_z c.ranges.x) at c.magnitude-n.ensures) in
     omega (arith, c.requires, ap length e)
 
 pub returns-then-x-ge0 : goal.returns-then-x-ge0
 returns-then-x-ge0 c =
-    let e = plain c.args.x c.unsigned_abs-n.result (rw (to_z-of_z c.ranges.x) at c.if-x-ge0.true) (rw (to_z-of_z c.ranges.x) at c.unsigned_abs-n.ensures.value) in
+    let e = plain c.args.x c.magnitude-n.result (rw (to_z-of_z c.ranges.x) at c.if-x-ge0.true) (rw (to_z-of_z c.ranges.x) at c.magnitude-n.ensures) in
     puts_as (sym e) c.put_natural.ensures
 
 pub bounds-out-at : goal.bounds-out-at
 bounds-out-at c =
-    let e = minus c.args.x c.unsigned_abs-n.result (rw (to_z-of_z c.ranges.x) at c.if-x-ge0.false) (rw (to_z-of_z c.ranges.x) at c.unsigned_abs-n.ensures.value) in
+    let e = minus c.args.x c.magnitude-n.result (rw (to_z-of_z c.ranges.x) at c.if-x-ge0.false) (rw (to_z-of_z c.ranges.x) at c.magnitude-n.ensures) in
     omega (arith, c.requires, ap length e)
 
 pub put_natural-requires-2 : goal.put_natural-requires-2
 put_natural-requires-2 c =
-    let e = minus c.args.x c.unsigned_abs-n.result (rw (to_z-of_z c.ranges.x) at c.if-x-ge0.false) (rw (to_z-of_z c.ranges.x) at c.unsigned_abs-n.ensures.value) in
+    let e = minus c.args.x c.magnitude-n.result (rw (to_z-of_z c.ranges.x) at c.if-x-ge0.false) (rw (to_z-of_z c.ranges.x) at c.magnitude-n.ensures) in
     rw length-set (omega (arith, c.requires, ap length e))
 
 pub returns : goal.returns
 returns c =
-    let e = minus c.args.x c.unsigned_abs-n.result (rw (to_z-of_z c.ranges.x) at c.if-x-ge0.false) (rw (to_z-of_z c.ranges.x) at c.unsigned_abs-n.ensures.value) in
+    let e = minus c.args.x c.magnitude-n.result (rw (to_z-of_z c.ranges.x) at c.if-x-ge0.false) (rw (to_z-of_z c.ranges.x) at c.magnitude-n.ensures) in
     puts_as (sym e) (puts_then (puts_one c.args.out.now c.args.at 45) c.put_natural-2.ensures)

@@ -28,16 +28,16 @@ value-fits s =
 pub overflow_sub-gap : goal.overflow_sub-gap
 overflow_sub-gap c = simp (to_z-of_z, c.ranges.older, c.ranges.newer) (gap-fits c)
 
-down_size : (c : goal.Then-gap-lt0) → c.unsigned_abs-size.result ≡ nat_abs (gap c.before.before)
-down_size c = let s = c.before.before in simp (to_z-of_z, s.ranges.older, s.ranges.newer, gap-fits s) at c.unsigned_abs-size.ensures.value
+down_size : (c : goal.Then-gap-lt0) → c.magnitude-size.result ≡ nat_abs (gap c.before.before)
+down_size c = let s = c.before.before in simp (to_z-of_z, s.ranges.older, s.ranges.newer, gap-fits s) at c.magnitude-size.ensures
 
-down_size-end : (c : goal.Then-gap-lt0) → c.unsigned_abs-size.result ≤ 2 * Limits.history_end
+down_size-end : (c : goal.Then-gap-lt0) → c.magnitude-size.result ≤ 2 * Limits.history_end
 down_size-end c = omega (arith, down_size c, gap_end c.requires.1)
 
-up_size : (c : goal.Else-gap-lt0) → c.unsigned_abs-size.result ≡ nat_abs (gap c.before.before)
-up_size c = let s = c.before.before in simp (to_z-of_z, s.ranges.older, s.ranges.newer, gap-fits s) at c.unsigned_abs-size.ensures.value
+up_size : (c : goal.Else-gap-lt0) → c.magnitude-size.result ≡ nat_abs (gap c.before.before)
+up_size c = let s = c.before.before in simp (to_z-of_z, s.ranges.older, s.ranges.newer, gap-fits s) at c.magnitude-size.ensures
 
-up_size-end : (c : goal.Else-gap-lt0) → c.unsigned_abs-size.result ≤ 2 * Limits.history_end
+up_size-end : (c : goal.Else-gap-lt0) → c.magnitude-size.result ≤ 2 * Limits.history_end
 up_size-end c = omega (arith, up_size c, gap_end c.requires.1)
 
 below : (c : goal.Then-gap-lt0) → lt_z (gap c.before.before) (pos 0) ≡ true
@@ -59,13 +59,13 @@ down-end : (c : goal.After-share) → c.share.result ≤ 2 * Limits.history_end
 down-end c =
     let m = c.before.before in
     let s = m.before in
-    omega (arith, c.share.ensures, share_most m.unsigned_abs-size.result s.args.rest s.args.step _ s.requires.0.part (share-requires c.before).1.1, down_size-end c.before)
+    omega (arith, c.share.ensures, share_most m.magnitude-size.result s.args.rest s.args.step _ s.requires.0.part (share-requires c.before).1.1, down_size-end c.before)
 
 up-end : (c : goal.After-share-2) → c.share-2.result ≤ 2 * Limits.history_end
 up-end c =
     let m = c.before.before in
     let s = m.before in
-    omega (arith, c.share-2.ensures, share_most m.unsigned_abs-size.result s.args.rest s.args.step 0 s.requires.0.part s.requires.0.long, up_size-end c.before)
+    omega (arith, c.share-2.ensures, share_most m.magnitude-size.result s.args.rest s.args.step 0 s.requires.0.part s.requires.0.long, up_size-end c.before)
 
 pub overflow_cast-result : goal.overflow_cast-result
 overflow_cast-result c = record { sfits = omega (arith, down-end c) }

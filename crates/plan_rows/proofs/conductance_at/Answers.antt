@@ -20,8 +20,8 @@ returns-then-not-is_branch c =
 is-branch : (c : Else-not-is_branch) → is_branch (row_at (net_in c.args.net.words.now) c.args.i) ≡ true
 is-branch c = sym (asked c.before) ∙ c.if-not-is_branch.false
 
-pub number-requires : goal.number-requires
-number-requires c =
+pub number-size-requires : goal.number-size-requires
+number-size-requires c =
     record {
       i_in_bounds = (c.requires.i_in_bounds, omega arith);
       j_value = (((net_sound c.args.net.words.now c.args.net.passes).row c.args.i c.requires.i_in_bounds).branch (is-branch c)).size_in.is_nat;
@@ -29,10 +29,10 @@ number-requires c =
 
 pub conductance-requires : goal.conductance-requires
 conductance-requires c =
-    rw (c.requires.kind_value.1, c.requires.kind_value.0, c.number.ensures) (sized (net_sound _ c.args.net.passes) c.args.i c.requires.i_in_bounds (is-branch c.before))
+    rw (c.requires.kind_value.1, c.number.ensures, c.requires.kind_value.0, c.number-size.ensures) (sized (net_sound _ c.args.net.passes) c.args.i c.requires.i_in_bounds (is-branch c.before.before))
 
 pub returns : goal.returns
 returns c =
-    (rw (c.requires.kind_value.1, c.number.ensures) at c.conductance.ensures)
+    (rw (c.requires.kind_value.1, c.number.ensures, c.number-size.ensures) at c.conductance.ensures)
     ∙ conductance_is (step (net_in c.args.net.words.now)) _ _ c.requires.kind_value.0
-    ∙ sym (branch (net_sound _ c.args.net.passes) c.args.i c.requires.i_in_bounds (is-branch c.before.before)).1
+    ∙ sym (branch (net_sound _ c.args.net.passes) c.args.i c.requires.i_in_bounds (is-branch c.before.before.before)).1

@@ -112,7 +112,7 @@ unfolding fixing_kind kinds
 returns-in_default-clause-v_value c =
     let h = c.requires.sound in
     let vc = number-by c.args.s Vc 8 true (swings c.requires.sound.0 c.in_default.not-Vs c.in_default.not-Is) refl in
-    let w = swing-value h.0 h.1 vc c.unsigned_abs.ensures.value c.ramp-x.result c.ramp-x.type_inv c.ramp-x.ensures c.swing-swung.result c.swing-swung.type_inv c.swing-swung.ensures in
+    let w = swing-value h.0 h.1 vc c.magnitude.ensures c.ramp-x.result c.ramp-x.type_inv c.ramp-x.ensures c.swing-swung.result c.swing-swung.type_inv c.swing-swung.ensures in
     c.add-in_default.ensures ∙ gave h.0 h.1 w is_fixing _ (fixes-by c.args.s Vc true (swings c.requires.sound.0 c.in_default.not-Vs c.in_default.not-Is) refl)
 
 pub returns-in_default-clause-inject_value : goal.returns-in_default-clause-inject_value
@@ -133,11 +133,11 @@ swing-swung-requires-clause-peak_bound c =
     let h = c.requires.sound in
     let s = c.args.s in
     let vc = number-by s Vc 8 true (swings c.requires.sound.0 c.in_default.not-Vs c.in_default.not-Is) refl in
-    rw (ramp-is h.0 h.1 c.ramp-x.result c.ramp-x.type_inv c.ramp-x.ensures, turned-is h.0 h.1 vc c.unsigned_abs.ensures.value)
+    rw (ramp-is h.0 h.1 c.ramp-x.result c.ramp-x.type_inv c.ramp-x.ensures, turned-is h.0 h.1 vc c.magnitude.ensures)
     (le_trans (ramp_size s.peak (since c.args.k s) s.pace) (h.0.volt_most vc), h.0.pace_most)
 
 pub add-requires-in_default : goal.add-requires-in_default
 add-requires-in_default c =
     let h = c.requires.sound in
     let vc = number-by c.args.s Vc 8 true (swings c.requires.sound.0 c.in_default.not-Vs c.in_default.not-Is) refl in
-    fit h.0 h.1 (swing-value h.0 h.1 vc c.unsigned_abs.ensures.value c.ramp-x.result c.ramp-x.type_inv c.ramp-x.ensures c.swing-swung.result c.swing-swung.type_inv c.swing-swung.ensures) c.requires.room.0
+    fit h.0 h.1 (swing-value h.0 h.1 vc c.magnitude.ensures c.ramp-x.result c.ramp-x.type_inv c.ramp-x.ensures c.swing-swung.result c.swing-swung.type_inv c.swing-swung.ensures) c.requires.room.0

@@ -31,19 +31,19 @@ conductance-requires c =
     let r = c.args.row in
     let q = c.requires.passed_value in
     let o = passing r.words (omega arith) (known_kind r.words r.kind r.named) r.named q.0 q.1 c.fields.ensures c.if-passed-fields.false in
-    sized r.words (omega arith) (known_kind r.words r.kind r.named) r.named c.args.step c.requires.step_bound.0 c.requires.step_bound.1 o c.is_branch.ensures c.if-not-is_branch.false c.field.ensures
+    rw c.number.ensures (sized r.words (omega arith) (known_kind r.words r.kind r.named) r.named c.args.step c.requires.step_bound.0 c.requires.step_bound.1 o c.is_branch.ensures c.if-not-is_branch.false c.field.ensures)
 
 pub returns-in_default : goal.returns-in_default
 returns-in_default c =
     let r = c.args.row in
     let q = c.requires.passed_value in
     let o = passing r.words (omega arith) (known_kind r.words r.kind r.named) r.named q.0 q.1 c.fields.ensures c.if-passed-fields.false in
-    value_refused r.words (omega arith) (known_kind r.words r.kind r.named) r.named c.args.step o c.is_branch.ensures c.if-not-is_branch.false c.field.ensures c.conductance.ensures c.new.ensures c.in_default.is
+    value_refused r.words (omega arith) (known_kind r.words r.kind r.named) r.named c.args.step o c.is_branch.ensures c.if-not-is_branch.false c.field.ensures (rw c.number.ensures at c.conductance.ensures) c.new.ensures c.in_default.is
 
 pub returns : goal.returns
 returns c =
     let r = c.args.row in
     let q = c.requires.passed_value in
     let o = passing r.words (omega arith) (known_kind r.words r.kind r.named) r.named q.0 q.1 c.fields.ensures c.if-passed-fields.false in
-    value_taken r.words (omega arith) (known_kind r.words r.kind r.named) r.named c.args.step o c.is_branch.ensures c.if-not-is_branch.false c.field.ensures c.conductance.ensures c.new.ensures
+    value_taken r.words (omega arith) (known_kind r.words r.kind r.named) r.named c.args.step o c.is_branch.ensures c.if-not-is_branch.false c.field.ensures (rw c.number.ensures at c.conductance.ensures) c.new.ensures
     c.in-Some.is c.field-close.ensures c.field-open.ensures c.is_switch.ensures
