@@ -1,13 +1,13 @@
 -- What the program hands to its output, one piece of the listing after another. Assumes nothing.
 use Rattle.std.specs.Prelude.{Result, Ok, Err, IfOk, MatchResult, ◌+◌, ◌≤◌, ◌≡◌, ◌≢◌, ◌++◌}
 use Rattle.whole.specs.Plain.{ℕ, suc, refl, sym, ap, ◌∙◌, List}
-use Rattle.whole.specs.Plain.{length, drop, zero, dec_lt, arith, Words}
+use Rattle.whole.specs.Plain.{length, length-append, drop, zero, dec_lt, arith, Words}
 use Rattle.std.proofs.Common.{add-one}
 use Rattle.paper.specs.Replies.{Listing}
 use Rattle.paper.specs.declared.Pause.TheVariants.{More}
 use Rattle.paper.specs.Limits as Limits
 use Rattle.paper.specs.Advance.{Memory}
-use Rattle.paper.specs.Pieces.{Listed, list_of}
+use Rattle.paper.specs.Pieces.{Listed, list_of, Lists}
 use Rattle.run_pieces.specs.Handed.{after_pieces, piece_at, LeadOn, after_next}
 use Rattle.run_pieces.specs.declared.Ended.{Ended}
 use Rattle.run_pieces.specs.declared.Unwritten.{Unwritten}
@@ -23,6 +23,13 @@ pub record Goes {E : Type 0} (net : Words) (m : Memory) (out : List ℕ) (r : Re
   pub answer : IfOk r (λ x. x ≡ (list_of net m (length out)).answer)
   pub buffer : b ≡ put (list_of net m (length out)).written out
   pub memory : after ≡ (list_of net m (length out)).after
+
+-- what is listed fits
+pub listed_fits : {net : Words} {m after : Memory} {out b : List ℕ} {x : Listing} {n : ℕ} → Lists net m out x n b after → length b ≡ length out → n ≤ length b
+listed_fits {net} {m} {after} {out} {b} {x} {n} l e =
+    let w = (list_of net m (length out)).written in
+    let s : length b ≡ length w + length (drop (length w) out) = ap length l.buffer ∙ length-append w (drop (length w) out) in
+    omega (arith, s, l.count)
 
 -- ---- all pieces
 
