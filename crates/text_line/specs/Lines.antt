@@ -1,9 +1,10 @@
 -- What is read of a line is what the paper says of it. Assumes nothing.
-use Rattle.std.specs.Prelude.{Option, Some, None, ◌+◌, ◌-◌, ◌≤◌, ◌<◌, ◌≡◌, ◌&&◌, ◌||◌, ◌∷◌, ◌++◌}
+use Rattle.std.specs.Prelude.{Option, Some, None, Result, Ok, Err, ◌+◌, ◌-◌, ◌≤◌, ◌<◌, ◌≡◌, ◌&&◌, ◌||◌, ◌∷◌, ◌++◌}
 use Rattle.whole.specs.Plain.{ℕ, suc, refl, sym, ◌∙◌, ap, Bool, true, false, not}
 use Rattle.whole.specs.Plain.{false≢true, List, [], tail, eqb, ℤ, pos, lt_z, get_or, length, drop, set}
 use Rattle.whole.specs.Plain.{replicate, length-replicate, drop-drop, get_or-drop, sets, sets-eq, eqb-true}
 use Rattle.whole.specs.Plain.{lt-leb, ne_eqb, dec_lt, add-zero, cond, arith, Words, z, any, filled, same_bytes}
+use Rattle.std.specs.Result.{result_ok}
 use Rattle.std.proofs.Math.Numerals.{add-one}
 use Rattle.std.proofs.Common.{one-add}
 use Rattle.whole.specs.Truths.{and-false}
@@ -18,7 +19,7 @@ use Rattle.text_kinds.specs.Fields.{fields_few}
 use Rattle.text_words.specs.Numbers.{cap_z, read_number}
 use Rattle.text_line.specs.declared.Walk.{Walk}
 use Rattle.text_line.specs.Parts.{is_lF, ends, line_of, field_of, rest, ended, starts_with, fields_from, stops, before, split_fields, rest_ended, rest_line, rest_stops}
-use Rattle.text_line.specs.Walks.{next, laid, field_at, turn, fields_from_at, fields_at, worded, ended_at, line_of_kind, line_at}
+use Rattle.text_line.specs.Walks.{next, laid, passed, field_at, turn, fields_from_at, fields_at, worded, ended_at, line_of_kind, line_at}
 
 -- the numbers of a line's fields, held
 unfoldable pub capped : List (List ℕ) → Words
@@ -48,11 +49,11 @@ module _ (s : List ℕ) (k : ℕ) where
   unfolding any fields_from all_spelt
   left_over u = rw (split_fields u) (and-false (any is_lF u))
 
-  last : (w : Walk) (i : ℕ) (u : List ℕ) → drop w.at s ≡ u → stops u ≡ true → ended_at s w ≡ read w u [] i
+  last : (w : Walk) (i : ℕ) (u : List ℕ) → drop w.at s ≡ u → stops u ≡ true → result_ok (ended_at s w) ≡ read w u [] i
   unfolding any ends fields_from all_spelt capped before
   last w i [] e c = rw e
   last w i (b ∷ u) e c =
-      elim (eqb b 9) as (λ x. eqb b 9 ≡ x → (x || eqb b 10) ≡ true → ended_at s w ≡ read w (b ∷ u) [] i) [
+      elim (eqb b 9) as (λ x. eqb b 9 ≡ x → (x || eqb b 10) ≡ true → result_ok (ended_at s w) ≡ read w (b ∷ u) [] i) [
         | true ↦ λ p q. let m : b ≡ 9 = eqb-true b 9 p in rw (e, m, left_over u)
         | false ↦ λ p q. let m : b ≡ 10 = eqb-true b 10 q in rw (e, m, add-zero)
       ] refl c
@@ -69,11 +70,15 @@ module _ (s : List ℕ) (k : ℕ) where
     abbrev on : Walk
     on = record { at = w.at + 1 + length (field_of u); row = set w.row (1 + i) (cap_z (number_of (field_of u))) }
 
-    step : turn s k i w ≡ cond (spelt f (field_of u)) (Some on) None
+    -- one that is misspelt
+    abbrev off : Walk
+    off = laid w i (w.at + 1 + length (field_of u)) z
+
+    step : turn s k i w ≡ cond (spelt f (field_of u)) (Ok on) (Err off)
     unfolding field_at spelt read_number
     step = rw (e, after, sign) (either_next (spelt f (field_of u)))
       where
-        either_next : (t : Bool) → next (cond t (Some (cap_z (number_of (field_of u)))) None) (laid w i (w.at + 1 + length (field_of u))) ≡ cond t (Some on) None
+        either_next : (t : Bool) → passed w i (w.at + 1 + length (field_of u)) (cond t (Some (cap_z (number_of (field_of u)))) None) ≡ cond t (Ok on) (Err off)
         either_next true = refl
         either_next false = refl
 
@@ -90,25 +95,25 @@ module _ (s : List ℕ) (k : ℕ) where
         let n : 1 + suc i ≡ suc (1 + i) = omega arith in
         rw (v, m, split_fields u, n)
 
-    at_TAB : ((x : Walk) (v : List ℕ) → drop x.at s ≡ v → stops v ≡ true → next (fields_from_at s k (length fs) (suc i) x) (ended_at s) ≡ read x v fs (suc i))
-        → next (next (turn s k i w) (fields_from_at s k (length fs) (suc i))) (ended_at s) ≡ read w (9 ∷ u) (f ∷ fs) i
+    at_TAB : ((x : Walk) (v : List ℕ) → drop x.at s ≡ v → stops v ≡ true → result_ok (next (fields_from_at s k (length fs) (suc i) x) (ended_at s)) ≡ read x v fs (suc i))
+        → result_ok (next (next (turn s k i w) (fields_from_at s k (length fs) (suc i))) (ended_at s)) ≡ read w (9 ∷ u) (f ∷ fs) i
     at_TAB ih =
         let further : drop (w.at + 1 + length (field_of u)) s ≡ rest ends u = sym (drop-drop (length (field_of u)) (w.at + 1) s) ∙ ap (drop (length (field_of u))) after in
         rw step
-        (elim (spelt f (field_of u)) as (λ t. spelt f (field_of u) ≡ t → next (next (cond t (Some on) None) (fields_from_at s k (length fs) (suc i))) (ended_at s) ≡ read w (9 ∷ u) (f ∷ fs) i)
+        (elim (spelt f (field_of u)) as (λ t. spelt f (field_of u) ≡ t → result_ok (next (next (cond t (Ok on) (Err off)) (fields_from_at s k (length fs) (suc i))) (ended_at s)) ≡ read w (9 ∷ u) (f ∷ fs) i)
         [ true ↦ λ p. ih on (rest ends u) further (rest_stops u) ∙ good p | false ↦ λ p. rw (whole, p, and-false (ended u)) ] refl)
 
   -- no tab
-  no_tab : (w : Walk) (i : ℕ) → starts_with TAB (drop w.at s) ≡ false → turn s k i w ≡ None
+  no_tab : (w : Walk) (i : ℕ) → starts_with TAB (drop w.at s) ≡ false → turn s k i w ≡ Err w
   unfolding field_at
   no_tab w i e = rw e
 
-  walk : (fs : List Field) (i : ℕ) → drop i (fields_of k) ≡ fs → (w : Walk) (u : List ℕ) → drop w.at s ≡ u → stops u ≡ true → next (fields_from_at s k (length fs) i w) (ended_at s) ≡ read w u fs i
+  walk : (fs : List Field) (i : ℕ) → drop i (fields_of k) ≡ fs → (w : Walk) (u : List ℕ) → drop w.at s ≡ u → stops u ≡ true → result_ok (next (fields_from_at s k (length fs) i w) (ended_at s)) ≡ read w u fs i
   unfolding fields_from_at any ends fields_from all_spelt
   walk [] i d w u e c = last w i u e c
   walk (f ∷ fs) i d w [] e c = rw (no_tab w i (ap (starts_with TAB) e))
   walk (f ∷ fs) i d w (b ∷ u) e c =
-      elim (eqb b 9) as (λ x. eqb b 9 ≡ x → (x || eqb b 10) ≡ true → next (next (turn s k i w) (fields_from_at s k (length fs) (suc i))) (ended_at s) ≡ read w (b ∷ u) (f ∷ fs) i) [
+      elim (eqb b 9) as (λ x. eqb b 9 ≡ x → (x || eqb b 10) ≡ true → result_ok (next (next (turn s k i w) (fields_from_at s k (length fs) (suc i))) (ended_at s)) ≡ read w (b ∷ u) (f ∷ fs) i) [
         | true ↦ λ p q. let m : b ≡ 9 = eqb-true b 9 p in rw m (at_TAB w i f fs u (rw m at e) d (walk fs (suc i) (rw add-one at (drop_more (fields_of k) i f fs d))))
         | false ↦ λ p q. let m : b ≡ 10 = eqb-true b 10 q in let t : drop w.at s ≡ 10 ∷ u = rw m at e in rw (m, no_tab w i (ap (starts_with TAB) t))
       ] refl c
@@ -156,7 +161,7 @@ module _ (s : List ℕ) (at : ℕ) where
   abbrev here : List ℕ
   here = drop at s
 
-  some_word : (k : ℕ) → k < 10 → next (fields_at s k (worded s at k)) (ended_at s) ≡ read_parts here at k (fields_from (rest ends here))
+  some_word : (k : ℕ) → k < 10 → result_ok (next (fields_at s k (worded s at k)) (ended_at s)) ≡ read_parts here at k (fields_from (rest ends here))
   unfolding fields_at
   some_word k h =
       let n : eqb k no_kind ≡ false = ne_eqb k no_kind (λ (e : k ≡ no_kind). omega (arith, kind_count)) in
@@ -173,14 +178,14 @@ module _ (s : List ℕ) (at : ℕ) where
         | false ↦ λ t. refl
       ] refl)
 
-  of_kind : (k : ℕ) → k ≤ 10 → line_of_kind s at k ≡ read_parts here at k (fields_from (rest ends here))
+  of_kind : (k : ℕ) → k ≤ 10 → result_ok (line_of_kind s at k) ≡ read_parts here at k (fields_from (rest ends here))
   of_kind k m =
       elim (dec_lt k 10) [
         | yes l ↦ rw (lt-leb 10 k l) (some_word k l)
         | no l ↦ let e : k ≡ 10 = omega arith in rw (e, kind_count, and-false (ended here))
       ]
 
-  pub reads_line : line_at s at ≡ read_parts here at (line_kind (line_of here)) (tail (split TAB (line_of here)))
+  pub reads_line : result_ok (line_at s at) ≡ read_parts here at (line_kind (line_of here)) (tail (split TAB (line_of here)))
   unfolding line_at
   reads_line = rw (line_kind_lem here, line_fields here) (of_kind (place_of 0 kinds (field_of here)) (kinds_most (field_of here)))
 
@@ -203,10 +208,10 @@ pub record ReadLine (u : List ℕ) (at : ℕ) (w : Walk) : Type 0 where
   pub place : w.at ≡ at + length (line_of u)
   pub row : w.row ≡ filled 8 z (pos (line_kind (line_of u)) ∷ capped (tail (split TAB (line_of u))))
 
-pub line_good : (s : List ℕ) (at : ℕ) {w : Walk} → line_at s at ≡ Some w → ReadLine (drop at s) at w
+pub line_good : (s : List ℕ) (at : ℕ) {w : Walk} → line_at s at ≡ Ok w → ReadLine (drop at s) at w
 line_good s at {w} e =
-    let v = some_of (formed_line (drop at s)) (sym (reads_line s at) ∙ e) in
+    let v = some_of (formed_line (drop at s)) (sym (reads_line s at) ∙ ap (λ (r : Result Walk Walk). result_ok r) e) in
     record { verdict = v.0; place = ap (λ (x : Walk). x.at) (sym v.1); row = ap (λ (x : Walk). x.row) (sym v.1) }
 
-pub line_bad : (s : List ℕ) (at : ℕ) → line_at s at ≡ None → formed_line (drop at s) ≡ false
-line_bad s at e = none_of (formed_line (drop at s)) _ (sym (reads_line s at) ∙ e)
+pub line_bad : (s : List ℕ) (at : ℕ) {w : Walk} → line_at s at ≡ Err w → formed_line (drop at s) ≡ false
+line_bad s at e = none_of (formed_line (drop at s)) _ (sym (reads_line s at) ∙ ap (λ (r : Result Walk Walk). result_ok r) e)

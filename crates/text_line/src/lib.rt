@@ -10,7 +10,7 @@ ghost use Rattle.text_line.specs.Walks.{field_at, fields_at, line_at};
 use paper::Kind;
 use text_kinds::Range;
 
-// A well-formed line as far as it is read: the next byte, and the row.
+// A line as far as it is read: the next byte, and the row.
 #[derive(Clone, Copy)]
 pub struct Walk {
     pub at: usize,
@@ -42,22 +42,30 @@ fn is_at(text: &[u8], at: usize, b: u8) -> bool
     text.get(at) == Some(&b)
 }
 
-// The field i of a line, whose range is known: a tab and a number.
-fn field_at(text: &[u8], range: Range, i: usize, walk: Walk) -> Option<Walk>
+// The field i of a line, whose range is known: a tab and a number. A misspelt one is passed, and 0 in the row.
+fn field_at(text: &[u8], range: Range, i: usize, walk: Walk) -> Result<Walk, Walk>
     requires { (i < 5) × (walk.at ≤ length text.now) }
     ensures { result ≡ field_at text.now range.low i walk }
 {
     let Walk { at, mut row } = walk;
     if !is_at(text, at, b'\t') {
-        return None;
+        return Err(walk);
     }
     let start = at + 1;
     let end = end_of(text, start);
-    row[1 + i] = text_words::read_number(&text[start..end], range.low < 0)?;
-    Some(Walk { at: end, row })
+    match text_words::read_number(&text[start..end], range.low < 0) {
+        Some(number) => {
+            row[1 + i] = number;
+            Ok(Walk { at: end, row })
+        }
+        None => {
+            row[1 + i] = 0;
+            Err(Walk { at: end, row })
+        }
+    }
 }
 
-fn fields_at(text: &[u8], kind: Kind, first: Walk) -> Option<Walk>
+fn fields_at(text: &[u8], kind: Kind, first: Walk) -> Result<Walk, Walk>
     requires { first.at ≤ length text.now }
     ensures { result ≡ fields_at text.now (number kind) first }
 {
@@ -65,22 +73,24 @@ fn fields_at(text: &[u8], kind: Kind, first: Walk) -> Option<Walk>
     for (i, range) in text_kinds::ranges(kind).iter().enumerate() {
         walk = field_at(text, *range, i, walk)?;
     }
-    Some(walk)
+    Ok(walk)
 }
 
-// The line that begins at a place, up to its LF.
-pub fn line_at(text: &[u8], at: usize) -> Option<Walk>
+// The line that begins at a place, up to its LF; of one that is not well formed, as far as it was read.
+pub fn line_at(text: &[u8], at: usize) -> Result<Walk, Walk>
     requires { at ≤ length text.now }
     ensures { result ≡ line_at text.now at }
 {
     let end = end_of(text, at);
-    let kind = text_words::kind_of(&text[at..end])?;
     let mut row = [0; 8];
+    let Some(kind) = text_words::kind_of(&text[at..end]) else {
+        return Err(Walk { at, row });
+    };
     row[0] = kind.number() as i64;
     let walk = fields_at(text, kind, Walk { at: end, row })?;
     if is_at(text, walk.at, b'\n') {
-        Some(walk)
+        Ok(walk)
     } else {
-        None // its LF is missing
+        Err(walk) // its LF is missing
     }
 }

@@ -1,5 +1,6 @@
 -- One line more, and the end of the text. Assumes nothing.
-use Rattle.std.specs.Prelude.{Option, Some, None, Ok, Err, ◌+◌, ◌≤◌, ◌<◌, ◌≡◌, ◌&&◌, ◌||◌, ◌∷◌, ◌++◌}
+use Rattle.std.specs.Prelude.{Option, Some, None, Result, Ok, Err, ◌+◌, ◌≤◌, ◌<◌, ◌≡◌, ◌&&◌, ◌||◌, ◌∷◌, ◌++◌}
+use Rattle.std.specs.Result.{result_ok}
 use Rattle.whole.specs.Plain.{ℕ, zero, suc, refl, sym, ◌∙◌, ap, subst, Bool, true, false, cond}
 use Rattle.whole.specs.Plain.{bool_beq, false≢true, List, [], eqb, get_or, length, drop}
 use Rattle.whole.specs.Plain.{length-append, length-set, length-drop, drop_of_length-le, drop-cons, drop-drop}
@@ -79,7 +80,7 @@ module _ (text : List ℕ) (p : Progress) (net : Words) (st : State text p net) 
   stop x f b = over x ∙ ap (λ (ls : Lines). lines_from ls (drop (suc (length (line_of left))) left)) b ∙ from_bad (line_number now.t) f (drop (suc (length (line_of left))) left) ∙ ap (λ (n : ℕ). bad n f) (sym now.line)
 
   -- a line that is not well formed
-  pub form : line_at text p.at ≡ None → lines_of text ≡ bad p.line 1
+  pub form : {w : Walk} → line_at text p.at ≡ Err w → lines_of text ≡ bad p.line 1
   form o =
       let c = drop-cons text p.at 0 more in
       let bad_form : (ended left && spelled (line_of left)) ≡ false = line_bad text p.at o in
@@ -88,7 +89,7 @@ module _ (text : List ℕ) (p : Progress) (net : Words) (st : State text p net) 
         | false ↦ λ x. sym now.rest ∙ rw c (from_open now.t (get_or text p.at 0) (drop (suc p.at) text) (sym (ap ended c) ∙ x)) ∙ ap (λ (n : ℕ). bad n 1) (sym now.line)
       ] refl
 
-  module _ (w : Walk) (o : line_at text p.at ≡ Some w) where
+  module _ (w : Walk) (o : line_at text p.at ≡ Ok w) where
     reads : ReadLine left p.at w
     reads = line_good text p.at o
 
@@ -174,10 +175,10 @@ module _ (text : List ℕ) (p : Progress) (net : Words) (st : State text p net) 
           }
 
   -- any line with a fault ends the reading
-  pub refused : (l : Option Walk) → l ≡ line_at text p.at → (f : ℕ) → f ≡ fault_seen l p.seen first → (f ≡ 0 → ⊥) → lines_of text ≡ bad p.line f
+  pub refused : (l : Result Walk Walk) → l ≡ line_at text p.at → (f : ℕ) → f ≡ fault_seen (result_ok l) p.seen first → (f ≡ 0 → ⊥) → lines_of text ≡ bad p.line f
   unfolding fault_seen
-  refused None e f g n = form (sym e) ∙ ap (bad p.line) (sym g)
-  refused (Some w) e f g n = fault w (sym e) f g n
+  refused (Err w) e f g n = form (sym e) ∙ ap (bad p.line) (sym g)
+  refused (Ok w) e f g n = fault w (sym e) f g n
 
 -- ---- the end
 

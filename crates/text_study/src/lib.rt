@@ -103,7 +103,7 @@ fn next_line(text: &[u8], p: Progress, net: &mut [i64]) -> Result<Progress, BadL
     requires { State text.now p net.old × (p.at < length text.now) }
     ensures { Next text.now p result net.new }
 {
-    let Some(walk) = text_line::line_at(text, p.at) else {
+    let Ok(walk) = text_line::line_at(text, p.at) else {
         return Err(BadLine {
             line: p.line,
             fault: Fault::Form,

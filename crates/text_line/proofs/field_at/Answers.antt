@@ -1,8 +1,8 @@
-use Rattle.std.specs.Prelude.{Option, ◌+◌}
-use Rattle.whole.specs.Plain.{ℤ, ◌∙◌, sym, ap, arith}
+use Rattle.std.specs.Prelude.{Some, ◌+◌}
+use Rattle.whole.specs.Plain.{ℤ, ◌∙◌, ap, arith}
 use Rattle.std.specs.Int.{w64}
 use Rattle.std.proofs.Common.{to_z-of_z, rules}
-use Rattle.text_line.specs.Walks.{next, laid, field_none, field_read, tab_in, word_in}
+use Rattle.text_line.specs.Walks.{passed, field_none, field_read, tab_in, word_in}
 use Rattle.text_line.proofs.field_at.Goals as goal
 
 pub returns-then-not-is_at : goal.returns-then-not-is_at
@@ -16,16 +16,15 @@ slice_bounds-read_number-end c =
     let a = c.args in
     omega (arith, word_in a.text.now (a.walk.at + 1) (omega (arith, tab_in a.text.now a.range.low a.i a.walk c.is_at.ensures c.if-not-is_at.false)), c.end_of-end.ensures)
 
-pub returns-in_err-row : goal.returns-in_err-row
-returns-in_err-row c =
+pub returns-in-Some : goal.returns-in-Some
+returns-in-Some c =
     let a = c.args in
     let low = to_z-of_z {w = w64} {z = a.range.low} (search rules) in
-    c.from_residual.ensures ∙ ap (λ (o : Option ℤ). next o (laid a.walk a.i c.end_of-end.result)) (sym c.in_err-row.was)
-    ∙ field_read a.text.now a.range.low a.i a.walk c.is_at.ensures c.if-not-is_at.false c.end_of-end.ensures low c.read_number.ensures
+    ap (λ (x : ℤ). passed a.walk a.i c.end_of-end.result (Some x)) (to_z-of_z {w = w64} (search rules))
+    ∙ field_read a.text.now a.range.low a.i a.walk c.is_at.ensures c.if-not-is_at.false c.end_of-end.ensures low c.in-Some.ensures
 
-pub returns : goal.returns
-returns c =
+pub returns-in-None : goal.returns-in-None
+returns-in-None c =
     let a = c.args in
     let low = to_z-of_z {w = w64} {z = a.range.low} (search rules) in
-    ap (laid a.walk a.i c.end_of-end.result) (to_z-of_z {w = w64} (search rules)) ∙ ap (λ (o : Option ℤ). next o (laid a.walk a.i c.end_of-end.result)) (sym c.in_ok-row.was)
-    ∙ field_read a.text.now a.range.low a.i a.walk c.is_at.ensures c.if-not-is_at.false c.end_of-end.ensures low c.read_number.ensures
+    field_read a.text.now a.range.low a.i a.walk c.is_at.ensures c.if-not-is_at.false c.end_of-end.ensures low c.in-None.ensures

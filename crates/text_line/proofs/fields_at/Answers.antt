@@ -1,4 +1,5 @@
-use Rattle.std.specs.Prelude.{Option, ◌<◌, ◌-◌, ◌+◌, ◌≡◌}
+use Rattle.std.proofs.lemmas.Result.{err_from_is_err_and}
+use Rattle.std.specs.Prelude.{Result, Err, ◌<◌, ◌-◌, ◌+◌, ◌≡◌}
 use Rattle.whole.specs.Plain.{ℕ, List, get_or, length, sym, ap, ◌∙◌, arith, z}
 use Rattle.std.proofs.Math.Nat.{sub-zero}
 use Rattle.paper.specs.Kinds.{number, number_few}
@@ -10,7 +11,7 @@ use Rattle.text_line.specs.Walks.{next, field_at, turn, field_in, fields_at, fie
 use Rattle.text_line.proofs.fields_at.Goals as goal
 
 -- a field by its range in the table
-this : (s : List ℕ) (k i : ℕ) (w : Walk) {rs : List Range} {o : Option Walk} → rs ≡ ranges_of k → o ≡ field_at s (get_or rs i (record { low = z; high = z })).low i w → o ≡ turn s k i w
+this : (s : List ℕ) (k i : ℕ) (w : Walk) {rs : List Range} {o : Result Walk Walk} → rs ≡ ranges_of k → o ≡ field_at s (get_or rs i (record { low = z; high = z })).low i w → o ≡ turn s k i w
 this s k i w e f = f ∙ ap (λ (rs : List Range). field_at s (get_or rs i (record { low = z; high = z })).low i w) e ∙ ap (λ (r : Range). field_at s r.low i w) (range_at k i)
 
 pub loop-i-init : goal.loop-i-init
@@ -28,8 +29,9 @@ returns-in_err-walk c =
     let k = number c.args.kind in
     let i = c.loop-i.i in
     let h : i < length (ranges_of k) = omega (arith, ap length c.ranges-range-items.ensures, c.loop-i-test.true) in
-    c.from_residual.ensures
-    ∙ ap (λ (o : Option Walk). next o (fields_from_at s k (length (ranges_of k) - (i + 1)) (i + 1))) (sym c.in_err-walk.was ∙ this s k i c.loop-i.walk c.ranges-range-items.ensures c.field_at.ensures)
+    let p = err_from_is_err_and c.from_residual.result c.from_residual.ensures.1 in
+    p.1 ∙ ap Err p.2
+    ∙ ap (λ (o : Result Walk Walk). next o (fields_from_at s k (length (ranges_of k) - (i + 1)) (i + 1))) (sym c.in_err-walk.was ∙ this s k i c.loop-i.walk c.ranges-range-items.ensures c.field_at.ensures)
     ∙ sym (fields_more s k (length (ranges_of k)) i c.loop-i.walk h) ∙ c.loop-i.invariant.1
 
 pub loop-i-preserved : goal.loop-i-preserved
@@ -39,7 +41,7 @@ loop-i-preserved c =
     let i = c.loop-i.i in
     let h : i < length (ranges_of k) = omega (arith, ap length c.ranges-range-items.ensures, c.loop-i-test.true) in (
       field_in s _ i c.loop-i.walk c.loop-i.invariant.0 (sym c.field_at.ensures ∙ c.in_ok-walk.was),
-      ap (λ (o : Option Walk). next o (fields_from_at s k (length (ranges_of k) - (i + 1)) (i + 1))) (sym c.in_ok-walk.was ∙ this s k i c.loop-i.walk c.ranges-range-items.ensures c.field_at.ensures)
+      ap (λ (o : Result Walk Walk). next o (fields_from_at s k (length (ranges_of k) - (i + 1)) (i + 1))) (sym c.in_ok-walk.was ∙ this s k i c.loop-i.walk c.ranges-range-items.ensures c.field_at.ensures)
           ∙ sym (fields_more s k (length (ranges_of k)) i c.loop-i.walk h) ∙ c.loop-i.invariant.1,
     )
 

@@ -1,4 +1,5 @@
-use Rattle.std.specs.Prelude.{Option, Some, None, ◌≡◌}
+use Rattle.std.proofs.lemmas.Result.{err_from_is_err_and}
+use Rattle.std.specs.Prelude.{Result, Ok, Err, ◌≡◌}
 use Rattle.whole.specs.Plain.{ℕ, List, z, ◌∙◌, sym, ap, ℤ, pos, set, replicate, arith}
 use Rattle.whole.specs.Reads.{read_small}
 use Rattle.std.specs.Int.{w64}
@@ -12,11 +13,11 @@ use Rattle.text_line.proofs.line_at.Goals as goal
 pub slice_bounds-kind_of-end : goal.slice_bounds-kind_of-end
 slice_bounds-kind_of-end c = omega (arith, word_in c.args.text.now c.args.at c.requires, c.end_of-end.ensures)
 
-pub returns-in_err-kind : goal.returns-in_err-kind
-returns-in_err-kind c = c.from_residual.ensures ∙ line_none c.args.text.now c.args.at c.end_of-end.ensures (sym c.kind_of.ensures ∙ c.in_err-kind.was)
+pub returns-in_default : goal.returns-in_default
+returns-in_default c = line_none c.args.text.now c.args.at c.end_of-end.ensures (sym c.in_default.ensures)
 
 -- the fields after the word
-fields : (s : List ℕ) (k : Kind) (end : ℕ) {n : ℕ} {o : Option Walk} → n ≡ number k → o ≡ fields_at s (number k) (record { at = end; row = set (replicate 8 z) 0 (to_z w64 n) })
+fields : (s : List ℕ) (k : Kind) (end : ℕ) {n : ℕ} {o : Result Walk Walk} → n ≡ number k → o ≡ fields_at s (number k) (record { at = end; row = set (replicate 8 z) 0 (to_z w64 n) })
     → o ≡ fields_at s (number k) (record { at = end; row = set (replicate 8 z) 0 (pos (number k)) })
 fields s k end e f =
     let m = number_few k in
@@ -25,19 +26,21 @@ fields s k end e f =
 pub returns-in_err-walk : goal.returns-in_err-walk
 returns-in_err-walk c =
     let s = c.args.text.now in
-    c.from_residual-in_err-walk.ensures ∙ ap (λ (o : Option Walk). next o (ended_at s)) (sym c.in_err-walk.was ∙ fields s c.in_ok-kind.kind c.end_of-end.result c.number.ensures c.fields_at.ensures)
-    ∙ line_some s c.args.at c.end_of-end.ensures (sym c.kind_of.ensures ∙ c.in_ok-kind.was)
+    let p = err_from_is_err_and c.from_residual.result c.from_residual.ensures.1 in
+    p.1 ∙ ap Err p.2
+    ∙ ap (λ (o : Result Walk Walk). next o (ended_at s)) (sym c.in_err-walk.was ∙ fields s c.in-Some.kind c.end_of-end.result c.number.ensures c.fields_at.ensures)
+    ∙ line_some s c.args.at c.end_of-end.ensures (sym c.in-Some.ensures)
 
 pub returns-then-is_at : goal.returns-then-is_at
 returns-then-is_at c =
     let s = c.args.text.now in
-    let e : ended_at s c.in_ok-walk.walk ≡ Some c.in_ok-walk.walk = rw (sym c.is_at.ensures ∙ c.if-is_at.true) in
-    sym e ∙ ap (λ (o : Option Walk). next o (ended_at s)) (sym c.in_ok-walk.was ∙ fields s c.in_ok-kind.kind c.end_of-end.result c.number.ensures c.fields_at.ensures)
-    ∙ line_some s c.args.at c.end_of-end.ensures (sym c.kind_of.ensures ∙ c.in_ok-kind.was)
+    let e : ended_at s c.in_ok-walk.walk ≡ Ok c.in_ok-walk.walk = rw (sym c.is_at.ensures ∙ c.if-is_at.true) in
+    sym e ∙ ap (λ (o : Result Walk Walk). next o (ended_at s)) (sym c.in_ok-walk.was ∙ fields s c.in-Some.kind c.end_of-end.result c.number.ensures c.fields_at.ensures)
+    ∙ line_some s c.args.at c.end_of-end.ensures (sym c.in-Some.ensures)
 
 pub returns-else-is_at : goal.returns-else-is_at
 returns-else-is_at c =
     let s = c.args.text.now in
-    let e : ended_at s c.in_ok-walk.walk ≡ None = rw (sym c.is_at.ensures ∙ c.if-is_at.false) in
-    sym e ∙ ap (λ (o : Option Walk). next o (ended_at s)) (sym c.in_ok-walk.was ∙ fields s c.in_ok-kind.kind c.end_of-end.result c.number.ensures c.fields_at.ensures)
-    ∙ line_some s c.args.at c.end_of-end.ensures (sym c.kind_of.ensures ∙ c.in_ok-kind.was)
+    let e : ended_at s c.in_ok-walk.walk ≡ Err c.in_ok-walk.walk = rw (sym c.is_at.ensures ∙ c.if-is_at.false) in
+    sym e ∙ ap (λ (o : Result Walk Walk). next o (ended_at s)) (sym c.in_ok-walk.was ∙ fields s c.in-Some.kind c.end_of-end.result c.number.ensures c.fields_at.ensures)
+    ∙ line_some s c.args.at c.end_of-end.ensures (sym c.in-Some.ensures)
