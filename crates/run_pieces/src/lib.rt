@@ -16,7 +16,7 @@ pub struct Ended {
 }
 
 // How many pieces were made, of which the output did not take the last, and why.
-#[derive(Drop)]
+#[derive(Clone, Copy)]
 pub struct Unwritten {
     pub pieces: u64,
     pub error: Error,

@@ -19,7 +19,7 @@ use std::io::{Error, Write};
 pub type Outcome = Result<Ended, Unread>;
 
 // What the output did not take, and why: the line that refuses the text, or a piece of its listing.
-#[derive(Drop)]
+#[derive(Clone, Copy)]
 pub enum Unwritten {
     Refusal(Error),
     Listing(run_pieces::Unwritten),
