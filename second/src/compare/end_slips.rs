@@ -14,6 +14,9 @@ use crate::refusal::Refusal;
 use crate::state;
 use crate::step;
 
+/// Shows in one study of some thirty, where a breaker parts at the last step; each other in one of ten or more often.
+pub const RARE: &str = "latch of the last step left out";
+
 /// Name, calls, and what must find the slip.
 pub fn planted() -> Vec<(&'static str, Calls, Found)> {
     let advance = |advance| Calls { advance: Some(advance), ..slips::own_calls() };
@@ -46,7 +49,7 @@ pub fn planted() -> Vec<(&'static str, Calls, Found)> {
             advance(latch_slips::advance_turning),
             Found::WrongLatch,
         ),
-        ("latch of the last step left out", advance(latch_slips::advance_but_last), Found::WrongLatch),
+        (RARE, advance(latch_slips::advance_but_last), Found::WrongLatch),
         ("latch a step late", advance(latch_slips::advance_step_late), Found::StrangeAnswer),
         ("parted breaker closes again", advance(latch_slips::advance_closing_again), Found::AgainstSecond),
     ]

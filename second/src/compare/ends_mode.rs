@@ -22,7 +22,9 @@ use crate::record;
 use crate::run::Run;
 use crate::state;
 
-/// How many studies a planted slip is asked before it counts as not found.
+/// How many studies are compared where no count is given.
+const STUDIES: u64 = 500;
+/// How many of them a planted slip is asked before it counts as not found; a rare one is asked all.
 const SLIP_STUDIES: u64 = 60;
 const MIXED: &str = "ends: studies with a stopped area, one tied to it and one apart";
 
@@ -64,7 +66,7 @@ pub fn compare_ends(arguments: &Arguments) -> bool {
     let first = arguments.number("--first", 0);
     let mut tally = Tally::default();
     find_planted(seed, &mut tally);
-    for index in first..first + arguments.number("--count", 500) {
+    for index in first..first + arguments.number("--count", STUDIES) {
         let failed = tally.failed;
         let (text, seed) = numbered_study(seed, index);
         call_mode::ask(&text, true, &mut tally, &|text, tally| ask_ends(&calls, text, seed, tally));
@@ -101,8 +103,8 @@ fn miss_nothing(tally: &mut Tally) {
 /// Our own calls must show nothing; with a slip planted, some study's first difference must be of the kind
 /// named beside the slip.
 pub fn find_planted(seed: u64, tally: &mut Tally) {
-    let shows = |calls: &Calls, wanted: &dyn Fn(&Difference) -> bool| {
-        (0..SLIP_STUDIES).any(|index| {
+    let shows = |studies: u64, calls: &Calls, wanted: &dyn Fn(&Difference) -> bool| {
+        (0..studies).any(|index| {
             let (text, seed) = numbered_study(seed, index);
             ask_ends(calls, &text, seed, &mut Tally::default()).is_err_and(|difference| wanted(&difference))
         })
@@ -112,11 +114,12 @@ pub fn find_planted(seed: u64, tally: &mut Tally) {
         tally.passed += u64::from(right);
         tally.failed += u64::from(!right);
     };
-    let differs = shows(&slips::own_calls(), &|_| true);
+    let differs = shows(SLIP_STUDIES, &slips::own_calls(), &|_| true);
     settle(!differs, format!("our own calls end {}", if differs { "DIFFERENTLY" } else { "alike" }));
     for (name, calls, wanted) in end_slips::planted() {
         let question = wanted.question();
-        let found = shows(&calls, &|difference| difference.question.starts_with(question));
+        let studies = if name == end_slips::RARE { STUDIES } else { SLIP_STUDIES };
+        let found = shows(studies, &calls, &|difference| difference.question.starts_with(question));
         settle(
             found,
             format!("{} planted slip: {name} ({question})", if found { "found" } else { "NOT FOUND" }),
