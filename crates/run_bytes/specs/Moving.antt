@@ -8,12 +8,12 @@ use Rattle.std.proofs.lemmas.Fn.{chained_keeps}
 abbrev pub Answers : {F E : Type 0} → (F → Result ℕ E → F → Type 0) → F → Result ℕ E → F → Type 0
 Answers {F} {E} step f r g = (before : List (Result ℕ E)) × (at : F) × All IsErr before × FoldsTo step f before at × step at r g
 
--- what each call keeps holds when the last is made, and after it
-pub kept_at_last : {F E : Type 0} (step : F → Result ℕ E → F → Type 0) (J : F → F → Type 0) → ((f : F) → J f f) → ((f at : F) (r : Result ℕ E) (g : F) → J f at → step at r g → J f g)
-    → {f g : F} {r : Result ℕ E} → Answers step f r g → (at : F) × J f at × step at r g × J f g
+-- what each call keeps holds when the last is made, and after it, whatever those before it answered
+pub kept_at_last : {F R : Type 0} (step : F → R → F → Type 0) (J : F → F → Type 0) → ((f : F) → J f f) → ((f at : F) (r : R) (g : F) → J f at → step at r g → J f g)
+    → {f g : F} {r : R} → (before : List R) × (at : F) × FoldsTo step f before at × step at r g → (at : F) × J f at × step at r g × J f g
 kept_at_last step J starts keeps {f} {g} {r} a =
-    let j = chained_keeps step (λ xs q. J f q) (λ xs q x v i k. keeps f q x v i k) a.0 f a.1 (starts f) a.3 in
-    (a.1, j, a.4, keeps f a.1 r g j a.4)
+    let j = chained_keeps step (λ xs q. J f q) (λ xs q x v i k. keeps f q x v i k) a.0 f a.1 (starts f) a.2 in
+    (a.1, j, a.3, keeps f a.1 r g j a.3)
 
 -- no more bytes than there is room for; a failure is no count of bytes, nor the end, which is a count of 0
 abbrev pub Most : {E : Type 0} → ℕ → Result ℕ E → Type 0

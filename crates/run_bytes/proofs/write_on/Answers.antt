@@ -8,6 +8,7 @@ use Rattle.run_bytes.proofs.write_on.Goals as goal
 pub returns : goal.returns
 returns g c =
     let over : closure.Over = record { W = g.row.W; W-Write = g.W.Write; W-Write-dict = g.W.Write-dict } in
+    let calls = c.again.ensures in
     let k = kept_at_last _ (λ f q. let a = closure.captures over f in let b = closure.captures over q in (b.from ≡ a.from) × (b.bytes ≡ a.bytes))
-    (λ f. (refl, refl)) (λ f at r h j s. search rules) c.again.ensures in
+    (λ f. (refl, refl)) (λ f at r h j s. search rules) (calls.0, calls.1, calls.3, calls.4) in
     search rules
