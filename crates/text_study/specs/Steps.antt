@@ -195,7 +195,7 @@ module _ (text : List ℕ) (p : Progress) (net : Words) (st : State text p net) 
       let x : empty st.fine.t ≡ true = sym first_is ∙ eq-eqb p.line 1 e in
       past ∙ rw x (ap (λ (n : ℕ). bad n 1) (sym st.fine.line ∙ e))
 
-  ended_whole : (p.line ≡ 1 → ⊥) → Accepted (lines_of text) net
+  pub ended_whole : (p.line ≡ 1 → ⊥) → Accepted (lines_of text) net
   unfolding closed
   ended_whole n =
       let x : empty st.fine.t ≡ false = sym first_is ∙ ne_eqb p.line 1 n in
