@@ -104,8 +104,8 @@ fn miss_nothing(tally: &mut Tally) {
 /// named beside the slip.
 pub fn find_planted(seed: u64, tally: &mut Tally) {
     let shows = |studies: u64, calls: &Calls, wanted: &dyn Fn(&Difference) -> bool| {
-        (0..studies).any(|index| {
-            let (text, seed) = numbered_study(seed, index);
+        (0..studies).find(|index| {
+            let (text, seed) = numbered_study(seed, *index);
             ask_ends(calls, &text, seed, &mut Tally::default()).is_err_and(|difference| wanted(&difference))
         })
     };
@@ -114,16 +114,17 @@ pub fn find_planted(seed: u64, tally: &mut Tally) {
         tally.passed += u64::from(right);
         tally.failed += u64::from(!right);
     };
-    let differs = shows(SLIP_STUDIES, &slips::own_calls(), &|_| true);
+    let differs = shows(SLIP_STUDIES, &slips::own_calls(), &|_| true).is_some();
     settle(!differs, format!("our own calls end {}", if differs { "DIFFERENTLY" } else { "alike" }));
     for (name, calls, wanted) in end_slips::planted() {
         let question = wanted.question();
         let studies = if name == end_slips::RARE { STUDIES } else { SLIP_STUDIES };
         let found = shows(studies, &calls, &|difference| difference.question.starts_with(question));
-        settle(
-            found,
-            format!("{} planted slip: {name} ({question})", if found { "found" } else { "NOT FOUND" }),
-        );
+        let how = match found {
+            Some(index) => format!("found planted slip: {name} ({question}), by study number {index}"),
+            None => format!("NOT FOUND planted slip: {name} ({question})"),
+        };
+        settle(found.is_some(), how);
     }
 }
 
